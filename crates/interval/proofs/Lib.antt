@@ -1,0 +1,3 @@
+pub mod QuotientLaws
+pub mod BoxLaws
+pub mod ClampLaws

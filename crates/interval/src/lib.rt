@@ -1,0 +1,13 @@
+//! Exact quotients of whole numbers, bounds, and boxes of bounds.
+#![tactic(auto)]
+
+mod bounds;
+mod boxes;
+mod quotients;
+
+pub use bounds::{BOUND_LIMIT, BOX_LIMIT, LARGEST_NUMBER, clamp_bound};
+pub use boxes::{BoxOf, NoMemory, is_crossed, is_point, width_sum};
+pub use quotients::{ceil_div, floor_div, law_quotient_order};
+
+#[cfg(test)]
+mod tests;

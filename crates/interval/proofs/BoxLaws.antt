@@ -1,5 +1,5 @@
 -- Lists of pairs of bounds.
-use Rattle.std.proofs.Common.{◌≡◌, ◌≢◌, ℕ, zero, suc, ◌+◌, ◌*◌, ◌^◌, ◌<◌, ◌≤◌, List, [], ◌∷◌, length, drop, ℤ, pos, neg_ℤ, ◌-ℤ◌, ◌≤ℤ◌, ◌<ℤ◌, unsigned_abs, get_or, refl, sym, ap, subst, ◌∙◌, arith, add_assoc}
+use Rattle.std.proofs.Common.{◌≡◌, ◌≢◌, ℕ, zero, suc, ◌+◌, ◌*◌, ◌^◌, ◌<◌, ◌≤◌, List, [], ◌∷◌, length, drop, ℤ, pos, neg_ℤ, ◌-ℤ◌, ◌≤ℤ◌, ◌<ℤ◌, unsigned_abs, get_or, refl, sym, ap, ◌∙◌, ⊎_elim, arith}
 use Rattle.std.proofs.lemmas.Int.{ints}
 use Rattle.std.proofs.lemmas.List.{at_drop_more}
 use Rattle.std.proofs.lemmas.Bool.{cases_lt}
@@ -32,7 +32,7 @@ inside_itself : (b : Bounds) → IsInside b b
 inside_itself b = record {
   same_length = refl;
   lows = λ v h. omega (arith, ints);
-  highs = λ v h. omega (arith, ints)
+  highs = λ v h. omega (arith, ints);
 }
 
 inside_through : (inner middle outer : Bounds) → IsInside inner middle → IsInside middle outer → IsInside inner outer
@@ -42,7 +42,7 @@ inside_through a b c p q =
     record {
       same_length = one ∙ two;
       lows = λ v h. let x = p.lows v (omega arith) in let y = q.lows v h in omega (arith, ints);
-      highs = λ v h. let x = p.highs v (omega arith) in let y = q.highs v h in omega (arith, ints)
+      highs = λ v h. let x = p.highs v (omega arith) in let y = q.highs v h in omega (arith, ints);
     }
 
 -- the rest of two boxes, one inside the other
@@ -52,7 +52,7 @@ inside_rest x y a b p =
     record {
       same_length = omega arith;
       lows = λ v h. p.lows (suc v) (omega arith);
-      highs = λ v h. p.highs (suc v) (omega arith)
+      highs = λ v h. p.highs (suc v) (omega arith);
     }
 
 inside_equal : (a b : Bounds) → IsInside a b → IsInside b a → a ≡ b
@@ -76,7 +76,7 @@ inside_in_range a b h r p =
     record {
       short = omega arith;
       lows = λ v l. let k : v < length b = omega arith in let x = p.lows v k in let y = p.highs v k in let s = r.lows v k in let t = r.highs v k in let m = h v l in omega (arith, ints);
-      highs = λ v l. let k : v < length b = omega arith in let x = p.lows v k in let y = p.highs v k in let s = r.lows v k in let t = r.highs v k in let m = h v l in omega (arith, ints)
+      highs = λ v l. let k : v < length b = omega arith in let x = p.lows v k in let y = p.highs v k in let s = r.lows v k in let t = r.highs v k in let m = h v l in omega (arith, ints);
     }
 
 outer_proper : (inner outer : Bounds) → IsProper inner → IsInside inner outer → IsProper outer
@@ -110,7 +110,7 @@ width_equal (x ∷ a) (y ∷ b) h p w =
     (λ i. (lows i, highs i) ∷ rest i)
 
 width_narrower : (inner outer : Bounds) → IsProper inner → IsInside inner outer → inner ≢ outer → width_sum_of inner < width_sum_of outer
-width_narrower a b h p n = by_lt (width_sum_of a) (width_sum_of b) (λ l. l) (λ g. absurd (n (width_equal a b h p g)))
+width_narrower a b h p n = ⊎_elim (λ l. l) (λ g. absurd (n (width_equal a b h p g))) (cases_lt (width_sum_of a) (width_sum_of b))
 
 width_zero_point : (b : Bounds) → IsProper b → width_sum_of b ≡ 0 → IsPoint b
 unfolding width_sum_of
@@ -127,5 +127,5 @@ inside_order = record {
   outer_is_proper = outer_proper;
   not_wider = width_not_wider;
   narrower = width_narrower;
-  point = width_zero_point
+  point = width_zero_point;
 }

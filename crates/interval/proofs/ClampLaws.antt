@@ -29,5 +29,5 @@ clamp_order = record {
   same = clamp_same;
   rises = clamp_rises;
   above_number = clamp_above;
-  below_number = clamp_below
+  below_number = clamp_below;
 }

@@ -1,7 +1,7 @@
 //! The range of numbers and of bounds.
 
 ghost use Rattle.std.specs.Prelude.{◌≡◌, ◌≤ℤ◌, pos, neg_ℤ, unsigned_abs, ◌≤◌};
-ghost use Rattle.interval.specs.Limits.{IsBound, bound_limit, largest_number, clamp_of};
+ghost use Rattle.interval.specs.Limits.{IsBound, bound_limit, clamp_of, ClampOrder};
 
 /// A number of a model lies between this and its opposite.
 pub const LARGEST_NUMBER: i64 = 2_147_483_646;
@@ -24,3 +24,8 @@ pub fn clamp_bound(value: i128) -> i64
     let limit = BOUND_LIMIT as i128;
     value.clamp(-limit, limit) as i64
 }
+
+/// The order of clamped numbers, as a law: it does nothing.
+pub fn law_clamp_order()
+    ensures { ClampOrder }
+{}

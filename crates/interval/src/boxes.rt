@@ -2,7 +2,7 @@
 
 ghost use Rattle.std.specs.Prelude.{◌≡◌, ◌<◌, ◌≤◌, ◌≤ℤ◌, ◌-ℤ◌, unsigned_abs, length, IfOk, IsTrue, IsFalse, ◌↔◌};
 ghost use Rattle.interval.specs.Limits.{IsBound, bound_limit, box_limit};
-ghost use Rattle.interval.specs.Boxes.{low_of, high_of, put_of, IsInRange, IsProper, IsCrossed, IsPoint, width_sum_of};
+ghost use Rattle.interval.specs.Boxes.{low_of, high_of, put_of, IsInRange, IsProper, IsCrossed, IsPoint, InsideOrder, width_sum_of};
 
 use std::alloc::{AllocError, Global};
 use std::marker::Model;
@@ -122,6 +122,11 @@ pub fn width_sum(b: &BoxOf) -> u64
 {
     sum_of_widths(b.pairs.as_slice())
 }
+
+/// The order of boxes that lie inside each other, as a law: it does nothing.
+pub fn law_inside_order()
+    ensures { InsideOrder }
+{}
 
 fn sum_of_widths(pairs: &[(i64, i64)]) -> u64
     requires in_range { IsInRange pairs.now }

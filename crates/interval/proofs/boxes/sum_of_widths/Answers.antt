@@ -1,5 +1,5 @@
 -- One more pair's width is taken from what is left.
-use Rattle.std.proofs.Common.{◌≡◌, arith}
+use Rattle.std.proofs.Common.{arith}
 use Rattle.std.proofs.lemmas.Int.{ints}
 use Rattle.std.proofs.lemmas.List.{at_drop_all}
 use Rattle.interval.specs.Limits.{bound_limit, largest_number}

@@ -1,0 +1,45 @@
+//! The laws of the kernels. A law does nothing: its contract is what it says.
+
+ghost use Rattle.std.specs.Prelude.{◌≡◌, ◌↔◌, ◌<◌, ℕ, ℤ, List, length};
+ghost use Rattle.std.specs.List.{All, Contains};
+ghost use Rattle.interval.specs.Limits.{IsBound, IsNumber};
+ghost use Rattle.interval.specs.Boxes.{Bounds, low_of, IsInRange, IsPoint};
+ghost use Rattle.guarded_tell.specs.declared.kernel.Kernel.{Kernel};
+ghost use Rattle.guarded_tell.specs.Words.{Keeps, IsProperIn, IsInsideIn, AgreeIn, SameValuesIn, point_of};
+ghost use Rattle.guarded_tell.specs.Kernels.{vars_of, tells, Holds, IsKernel, IsClosedUnder};
+
+use interval::{law_clamp_order, law_quotient_order};
+
+/// No tell of a kernel on a box narrows a box that is closed under that kernel and, in the kernel's variables, inside it.
+pub fn law_monotone()
+    ensures { (k : Kernel) (outer inner : Bounds) → IsKernel (length outer) k → IsInRange outer
+        → length inner ≡ length outer → IsProperIn (vars_of k) outer → IsClosedUnder k inner
+        → IsInsideIn (vars_of k) inner outer → All (Keeps inner) (tells k outer) }
+{
+    law_quotient_order();
+    law_clamp_order();
+}
+
+/// A point within the range is closed under a kernel exactly where the kernel's relation holds.
+pub fn law_point()
+    ensures { (k : Kernel) (b : Bounds) → IsKernel (length b) k → IsInRange b → IsPoint b
+        → ((v : ℕ) → v < length b → IsNumber (low_of b v))
+        → (IsClosedUnder k b) ↔ (Holds k (point_of b)) }
+{
+    law_quotient_order();
+    law_clamp_order();
+}
+
+/// Each tell of a kernel is on one of the kernel's variables, and its bound is one.
+pub fn law_tell_place()
+    ensures { (k : Kernel) (b : Bounds) → IsKernel (length b) k
+        → All (λ t. Contains (vars_of k) t.var × (t.var < length b) × IsBound t.bound) (tells k b) }
+{
+    law_clamp_order();
+}
+
+/// Tells and relation depend on the kernel's variables alone.
+pub fn law_local()
+    ensures tells { (k : Kernel) (b c : Bounds) → AgreeIn (vars_of k) b c → tells k b ≡ tells k c }
+    ensures relation { (k : Kernel) (f g : List ℤ) → SameValuesIn (vars_of k) f g → Holds k f → Holds k g }
+{}

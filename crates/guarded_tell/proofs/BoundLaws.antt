@@ -1,14 +1,13 @@
 -- Products and quotients along the order of bounds, and the tells of one product.
-use Rattle.std.proofs.Common.{◌≡◌, ◌↔◌, ℕ, zero, suc, ◌+◌, ◌*◌, ◌<◌, ◌≤◌, List, [], ◌∷◌, ◌++◌, Bool, true, false, not, ℤ, pos, negsuc, ◌+ℤ◌, ◌-ℤ◌, ◌*ℤ◌, ◌≤ℤ◌, ◌<ℤ◌, refl, sym, ap, subst, ◌∙◌, arith}
-use Rattle.std.proofs.lemmas.Int.{ints, clamps, by_lt_z}
+use Rattle.std.proofs.Common.{◌≡◌, ℕ, suc, ◌+◌, ◌≤◌, [], ◌∷◌, ℤ, pos, negsuc, ◌*ℤ◌, ◌≤ℤ◌, ◌<ℤ◌, ap, subst, arith}
+use Rattle.std.proofs.lemmas.Int.{ints, clamps}
 use Rattle.std.proofs.Math.Nat.{mul-le-mul_left}
-use Rattle.std.proofs.lemmas.List.Elements.{All-nil, All-append}
+use Rattle.std.proofs.lemmas.List.Elements.{All-append}
 use Rattle.std.specs.Int.{int_min, int_max}
-use Rattle.std.specs.Int.RustNames.{int_lt, int_le}
+use Rattle.std.specs.Int.RustNames.{int_lt}
 use Rattle.std.specs.List.{All}
 use borrow.Author.Differences.{up, down}
-use Rattle.guarded_tell.specs.declared.tell.Tell.{Tell}
-use Rattle.interval.specs.Limits.{IsNumber, clamp_of, ClampOrder}
+use Rattle.interval.specs.Limits.{IsNumber, ClampOrder}
 use Rattle.interval.specs.Quotients.{floor_of, ceiling_of, QuotientOrder}
 use Rattle.interval.specs.Boxes.{Bounds, low_of, high_of}
 use Rattle.guarded_tell.specs.Words.{low_tell, high_tell, when, Keeps}

@@ -1,18 +1,18 @@
 -- The linear inequality is monotone: what it tells on a box it tells, at least as tight, on a box inside.
-use Rattle.std.proofs.Common.{◌≡◌, ◌↔◌, ℕ, zero, suc, ◌+◌, ◌<◌, ◌≤◌, List, [], ◌∷◌, ◌++◌, length, get_or, map, Bool, true, false, not, ◌&&◌, ℤ, pos, negsuc, ◌+ℤ◌, ◌-ℤ◌, ◌*ℤ◌, ◌≤ℤ◌, ◌<ℤ◌, refl, sym, ap, subst, ◌∙◌, arith}
-use Rattle.std.proofs.lemmas.Int.{ints, clamps, by_lt_z}
+use Rattle.std.proofs.Common.{◌≡◌, ℕ, suc, ◌+◌, ◌<◌, List, [], ◌∷◌, length, get_or, Bool, true, false, not, ◌&&◌, ℤ, pos, ◌+ℤ◌, ◌-ℤ◌, ◌≤ℤ◌, refl, sym, subst, arith}
+use Rattle.std.proofs.lemmas.Int.{ints}
 use Rattle.std.proofs.lemmas.Bool.{and_parts}
-use Rattle.std.proofs.lemmas.List.Elements.{All-nil, All-append}
+use Rattle.std.proofs.lemmas.List.Elements.{All-append}
 use Rattle.std.specs.Int.RustNames.{int_lt, int_le}
 use Rattle.std.specs.List.{All, zip, flat_map}
 use Rattle.guarded_tell.specs.declared.tell.Lit.{Lit}
 use Rattle.guarded_tell.specs.declared.tell.Tell.{Tell}
-use Rattle.interval.specs.Limits.{IsNumber, clamp_of, ClampOrder}
+use Rattle.interval.specs.Limits.{ClampOrder}
 use Rattle.interval.specs.Quotients.{QuotientOrder}
 use Rattle.interval.specs.Boxes.{Bounds, low_of, high_of}
 use Rattle.guarded_tell.specs.Words.{when, Keeps, literal_true, sign_true, is_sure, is_out, tell_true, tell_false, IsProperIn, IsInsideIn}
 use Rattle.guarded_tell.specs.Linear.{Term, least_of, greatest_of, sum_over, at_most_tell, more_than_tell, literal_tells, sure_tells, out_tells, bound_tells, at_most_tells}
-use Rattle.guarded_tell.proofs.Lists.{All-left, All-right, All-one, one-All, All-flat_map, flat_map-All, All-when, when-All, sum_rises, sum_rises_without}
+use Rattle.guarded_tell.proofs.Lists.{All-left, All-right, All-flat_map, flat_map-All, All-when, when-All, sum_rises, sum_rises_without}
 use Rattle.guarded_tell.proofs.TermLaws.{length-zip, get_or-zip}
 use Rattle.guarded_tell.proofs.BoundLaws.{least_rises, greatest_falls, at_most_looser, at_least_looser}
 

@@ -1,5 +1,5 @@
 -- Where the tells of the linear inequality are, and that they depend on its variables alone.
-use Rattle.std.proofs.Common.{◌≡◌, ◌↔◌, ℕ, zero, suc, ◌+◌, ◌<◌, ◌≤◌, List, [], ◌∷◌, ◌++◌, length, get_or, Bool, true, false, not, ◌&&◌, ℤ, pos, ◌+ℤ◌, ◌-ℤ◌, ◌*ℤ◌, ◌≤ℤ◌, refl, sym, ap, subst, ◌∙◌, arith}
+use Rattle.std.proofs.Common.{◌≡◌, ◌↔◌, ℕ, zero, suc, ◌<◌, List, [], ◌∷◌, ◌++◌, length, get_or, Bool, true, false, not, ◌&&◌, ℤ, pos, ◌+ℤ◌, ◌-ℤ◌, ◌*ℤ◌, ◌≤ℤ◌, sym, ap, subst, arith}
 use Rattle.std.proofs.lemmas.List.{get_or_default}
 use Rattle.std.proofs.lemmas.List.Elements.{All-append}
 use Rattle.std.specs.Int.{int_min, int_max}
@@ -8,7 +8,7 @@ use Rattle.std.specs.List.{All, Contains, zip, flat_map}
 use Rattle.std.specs.Prelude.{IsTrue}
 use Rattle.guarded_tell.specs.declared.tell.Lit.{Lit}
 use Rattle.guarded_tell.specs.declared.tell.Tell.{Tell}
-use Rattle.interval.specs.Limits.{IsBound, clamp_of, ClampOrder}
+use Rattle.interval.specs.Limits.{IsBound, ClampOrder}
 use Rattle.interval.specs.Quotients.{floor_of, ceiling_of}
 use Rattle.interval.specs.Boxes.{Bounds, low_of, high_of}
 use Rattle.guarded_tell.specs.Words.{low_tell, high_tell, when, literal_true, is_sure, is_out, sign_tell, tell_true, tell_false, AreVariables, AgreeIn, SameValuesIn, value_of}

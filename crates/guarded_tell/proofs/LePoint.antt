@@ -1,17 +1,16 @@
 -- On a point the linear inequality narrows nothing exactly where it holds.
-use Rattle.std.proofs.Common.{◌≡◌, ◌↔◌, ℕ, zero, suc, ◌+◌, ◌<◌, ◌≤◌, List, [], ◌∷◌, ◌++◌, length, get_or, map, Bool, true, false, not, ◌&&◌, ℤ, pos, negsuc, ◌+ℤ◌, ◌-ℤ◌, ◌*ℤ◌, ◌≤ℤ◌, ◌<ℤ◌, refl, sym, ap, subst, ◌∙◌, arith}
-use Rattle.std.proofs.lemmas.Int.{ints, clamps, by_lt_z}
+use Rattle.std.proofs.Common.{◌≡◌, ℕ, zero, suc, ◌<◌, List, [], ◌∷◌, length, get_or, Bool, true, false, not, ℤ, pos, ◌+ℤ◌, ◌-ℤ◌, ◌*ℤ◌, ◌≤ℤ◌, ◌<ℤ◌, refl, sym, ap, subst, ◌∙◌, arith}
+use Rattle.std.proofs.lemmas.Int.{ints, by_lt_z}
 use Rattle.std.proofs.lemmas.Bool.{and_parts}
-use Rattle.std.proofs.lemmas.List.Elements.{All-nil, All-append}
+use Rattle.std.proofs.lemmas.List.Elements.{All-append}
 use Rattle.std.specs.Int.RustNames.{int_lt, int_le}
 use Rattle.std.specs.List.{All, zip, flat_map}
 use Rattle.std.specs.Prelude.{IsTrue}
 use Rattle.guarded_tell.specs.declared.tell.Lit.{Lit}
-use Rattle.guarded_tell.specs.declared.tell.Tell.{Tell}
-use Rattle.interval.specs.Limits.{IsNumber, IsBound, largest_number, bound_limit, clamp_of, ClampOrder}
+use Rattle.interval.specs.Limits.{IsNumber, largest_number, bound_limit, clamp_of, ClampOrder}
 use Rattle.interval.specs.Quotients.{QuotientOrder}
 use Rattle.interval.specs.Boxes.{Bounds, low_of, high_of, IsPoint}
-use Rattle.guarded_tell.specs.Words.{low_tell, high_tell, when, Keeps, literal_true, sign_true, sign_tell, is_sure, is_out, tell_true, tell_false, value_of, point_of, AreVariables}
+use Rattle.guarded_tell.specs.Words.{when, Keeps, literal_true, sign_true, sign_tell, is_sure, is_out, tell_true, tell_false, value_of, point_of, AreVariables}
 use Rattle.guarded_tell.specs.Linear.{Term, least_of, greatest_of, sum_over, at_most_tell, more_than_tell, literal_tells, sure_tells, out_tells, bound_tells, at_most_tells, term_value, IsAtMost}
 use Rattle.guarded_tell.proofs.Lists.{All-left, All-right, All-one, one-All, All-flat_map, All-when, when-All, sum_same}
 use Rattle.guarded_tell.proofs.TermLaws.{length-zip, get_or-zip}

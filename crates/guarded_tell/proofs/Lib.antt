@@ -6,3 +6,4 @@ pub mod BoundLaws
 pub mod LeLaws
 pub mod LePoint
 pub mod LePlace
+pub mod Examples

@@ -1,5 +1,5 @@
 -- The kernels: what each means, which variables it names, and which tells it gives on a box.
-use Rattle.std.specs.Prelude.{ℕ, ℤ, ◌≤◌, List, ◌∷◌, length}
+use Rattle.std.specs.Prelude.{ℕ, ℤ, List, ◌∷◌}
 use Rattle.std.specs.List.{All}
 use Rattle.interval.specs.Boxes.{Bounds}
 use Rattle.guarded_tell.specs.declared.tell.Tell.{Tell}

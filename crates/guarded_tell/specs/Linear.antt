@@ -1,6 +1,6 @@
 -- A linear inequality with a literal: the literal is true exactly where the sum of the coefficients times the variables
 -- is at most the limit. (FlatZinc: int_lin_le and int_lin_le_reif.)
-use Rattle.std.specs.Prelude.{◌≡◌, ℕ, ℤ, pos, ◌+ℤ◌, ◌-ℤ◌, ◌*ℤ◌, ◌*◌, ◌≤◌, ◌<◌, ◌≤ℤ◌, ◌↔◌, IsTrue, Bool, true, false, List, [], ◌∷◌, ◌++◌, length, slice_index_or, int_lt, int_le}
+use Rattle.std.specs.Prelude.{◌≡◌, ℕ, ℤ, pos, ◌+ℤ◌, ◌-ℤ◌, ◌*ℤ◌, ◌*◌, ◌≤◌, ◌<◌, ◌≤ℤ◌, ◌↔◌, IsTrue, List, [], ◌∷◌, ◌++◌, length, slice_index_or, int_lt, int_le}
 use Rattle.std.specs.Int.{int_min, int_max}
 use Rattle.std.specs.List.{zip, flat_map}
 use Rattle.guarded_tell.specs.declared.tell.Lit.{Lit}

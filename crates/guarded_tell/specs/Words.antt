@@ -1,7 +1,7 @@
 -- The words that the tells of every kernel are written in. A tell is a bound of a variable that a process puts into
 -- the store; telling joins it to the bound that is there. (The tells of PCCP: Talbot, Pinel and Bouvry, "A Variant of
 -- Concurrent Constraint Programming on GPU", AAAI 2022.)
-use Rattle.std.specs.Prelude.{◌≡◌, ◌≢◌, ℕ, ℤ, pos, ◌+ℤ◌, ◌≤◌, ◌<◌, ◌≤ℤ◌, Bool, true, false, cond, not, ◌&&◌, List, [], ◌∷◌, length, map, slice_index, slice_index_or, int_le}
+use Rattle.std.specs.Prelude.{◌≡◌, ℕ, ℤ, pos, ◌<◌, ◌≤ℤ◌, Bool, true, false, not, ◌&&◌, List, [], length, map, slice_index, slice_index_or, int_le}
 use Rattle.guarded_tell.specs.declared.tell.Lit.{Lit}
 use Rattle.guarded_tell.specs.declared.tell.Side.{Side}
 use Rattle.guarded_tell.specs.declared.tell.Side.TheVariants.{Low, High}

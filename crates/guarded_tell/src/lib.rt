@@ -7,6 +7,8 @@ mod laws;
 mod linear;
 mod literals;
 mod tell;
+#[cfg(test)]
+mod tests;
 mod visit;
 
 pub use hear::Hear;

@@ -1,5 +1,4 @@
 -- One line for each kernel.
-use Rattle.std.proofs.Common.{◌≡◌, length}
 use Rattle.std.specs.List.{All}
 use Rattle.interval.specs.Limits.{ClampOrder}
 use Rattle.interval.specs.Quotients.{QuotientOrder}
@@ -7,7 +6,7 @@ use Rattle.interval.specs.Boxes.{Bounds}
 use Rattle.guarded_tell.specs.declared.kernel.Kernel.{Kernel}
 use Rattle.guarded_tell.specs.declared.kernel.Kernel.TheVariants.{Le}
 use Rattle.guarded_tell.specs.Words.{Keeps, IsInsideIn}
-use Rattle.guarded_tell.specs.Kernels.{vars_of, tells, IsKernel, IsClosedUnder, HasNumbers}
+use Rattle.guarded_tell.specs.Kernels.{vars_of, tells, IsClosedUnder, HasNumbers}
 use Rattle.guarded_tell.proofs.LeLaws.{le_monotone}
 use Rattle.guarded_tell.proofs.laws.law_monotone.Goals as goal
 

@@ -1,5 +1,5 @@
 -- One line for each kernel.
-use Rattle.std.proofs.Common.{◌≡◌, ◌↔◌, ℕ, ◌<◌, List, length, ℤ, pos, arith}
+use Rattle.std.proofs.Common.{ℕ, ◌<◌, List, length, arith}
 use Rattle.std.proofs.lemmas.Int.{ints}
 use Rattle.std.specs.List.{All}
 use Rattle.interval.specs.Limits.{ClampOrder, IsNumber}
@@ -8,7 +8,7 @@ use Rattle.interval.specs.Boxes.{Bounds, low_of, IsPoint}
 use Rattle.guarded_tell.specs.declared.kernel.Kernel.{Kernel}
 use Rattle.guarded_tell.specs.declared.kernel.Kernel.TheVariants.{Le}
 use Rattle.guarded_tell.specs.Words.{Keeps, IsProperIn, point_of, AreVariables}
-use Rattle.guarded_tell.specs.Kernels.{vars_of, tells, Holds, IsKernel, IsClosedUnder, HasNumbers}
+use Rattle.guarded_tell.specs.Kernels.{vars_of, tells, Holds, HasNumbers}
 use Rattle.guarded_tell.proofs.LePoint.{le_closed_holds, le_holds_closed}
 use Rattle.guarded_tell.proofs.laws.law_point.Goals as goal
 

@@ -1,12 +1,12 @@
 -- One line for each kernel.
-use Rattle.std.proofs.Common.{◌≡◌, ℕ, length}
+use Rattle.std.proofs.Common.{length}
 use Rattle.std.specs.List.{All}
 use Rattle.interval.specs.Limits.{ClampOrder}
 use Rattle.interval.specs.Boxes.{Bounds}
 use Rattle.guarded_tell.specs.declared.kernel.Kernel.{Kernel}
 use Rattle.guarded_tell.specs.declared.kernel.Kernel.TheVariants.{Le}
 use Rattle.guarded_tell.specs.Words.{AreVariables}
-use Rattle.guarded_tell.specs.Kernels.{vars_of, tells, IsKernel, HasNumbers}
+use Rattle.guarded_tell.specs.Kernels.{vars_of, tells, HasNumbers}
 use Rattle.guarded_tell.proofs.LePlace.{IsPlaced, le_placed}
 use Rattle.guarded_tell.proofs.laws.law_tell_place.Goals as goal
 

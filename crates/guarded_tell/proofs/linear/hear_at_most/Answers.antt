@@ -1,5 +1,5 @@
 -- Each step makes the hearer hear the tells of one more term.
-use Rattle.std.proofs.Common.{◌≡◌, ◌∙◌, ◌<◌, ◌≤◌, sym, subst, ℕ, ℤ, pos, List, length, get_or, arith, to_z, of_z}
+use Rattle.std.proofs.Common.{◌<◌, ◌≤◌, sym, subst, ℤ, pos, List, length, to_z, of_z}
 use Rattle.std.proofs.lemmas.Int.{to_z-of_z}
 use Rattle.std.specs.List.{zip, flat_map}
 use mir.Syntax.{w64, w128}
@@ -7,7 +7,7 @@ use Rattle.guarded_tell.specs.declared.tell.Tell.{Tell}
 use Rattle.guarded_tell.specs.Hearing.{MayHearAll, HearsAll}
 use Rattle.guarded_tell.specs.Linear.{at_most_tell}
 use Rattle.guarded_tell.proofs.TermLaws.{length-zip}
-use Rattle.guarded_tell.proofs.HearingLaws.{leads_start, leads_may, leads_next, leads_end}
+use Rattle.guarded_tell.proofs.HearingLaws.{leads_may, leads_next, leads_end}
 use Rattle.guarded_tell.proofs.ProductLaws.{told_at_most}
 use Rattle.guarded_tell.proofs.linear.hear_at_most.Goals as goal
 

@@ -1,5 +1,4 @@
 -- The tells of the terms that are left may be heard, and lead to where all the terms' tells lead.
-use Rattle.std.proofs.Common.{ℕ}
 use Rattle.std.specs.List.{zip}
 use Rattle.guarded_tell.specs.Linear.{at_most_tell}
 use Rattle.guarded_tell.proofs.HearingLaws.{LeadsOn}

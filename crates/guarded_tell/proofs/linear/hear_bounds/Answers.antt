@@ -1,5 +1,5 @@
 -- Two lists of tells are heard one after the other.
-use Rattle.std.proofs.Common.{◌≡◌, List, ℤ, subst, sym, to_z, of_z}
+use Rattle.std.proofs.Common.{ℤ, subst, sym, to_z, of_z}
 use Rattle.std.proofs.lemmas.Int.{to_z-of_z}
 use Rattle.std.specs.List.{zip}
 use mir.Syntax.{w64, w128}

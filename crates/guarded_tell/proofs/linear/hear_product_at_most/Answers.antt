@@ -1,4 +1,4 @@
-use Rattle.std.proofs.Common.{◌≡◌, List, ℤ, pos, subst, sym, refl, arith, rules}
+use Rattle.std.proofs.Common.{List, subst, sym, refl, arith, rules}
 use Rattle.std.proofs.lemmas.Grind.{common_steps}
 use Rattle.std.proofs.lemmas.Int.{ints}
 use Rattle.guarded_tell.specs.declared.tell.Tell.{Tell}

@@ -1,8 +1,7 @@
 -- One more term moves from what is left into the sums.
-use Rattle.std.proofs.Common.{◌≡◌, ◌∙◌, ◌≤◌, ◌<◌, ap, sym, ℕ, ℤ, pos, ◌+ℤ◌, ◌+◌, length, get_or, unsigned_abs, arith, to_z, of_z}
+use Rattle.std.proofs.Common.{◌∙◌, ◌≤◌, ap, ℤ, pos, length, get_or, arith}
 use Rattle.std.proofs.lemmas.Int.{ints}
-use Rattle.std.specs.List.{zip}
-use Rattle.guarded_tell.specs.Linear.{least_of, greatest_of, sum_over, sum_limit, product_limit}
+use Rattle.guarded_tell.specs.Linear.{least_of, greatest_of}
 use Rattle.guarded_tell.proofs.TermLaws.{sum_over-drop, sum_over-drop_all}
 use Rattle.guarded_tell.proofs.ProductLaws.{coded_number, terms_small, one_more_small}
 use Rattle.guarded_tell.proofs.linear.sum_range.Goals as goal

@@ -1,5 +1,5 @@
 -- The two products are exact, and the lesser and the greater of them are the least and the greatest value.
-use Rattle.std.proofs.Common.{◌≡◌, ◌∙◌, ◌≤◌, ap, subst, sym, ℕ, ℤ, ◌*ℤ◌, unsigned_abs}
+use Rattle.std.proofs.Common.{◌≡◌, ◌∙◌, ◌≤◌, ap, ◌*ℤ◌, unsigned_abs}
 use Rattle.std.specs.Int.{int_min, int_max}
 use Rattle.interval.specs.Boxes.{low_of, high_of}
 use Rattle.guarded_tell.specs.Linear.{least_of, greatest_of, product_limit}

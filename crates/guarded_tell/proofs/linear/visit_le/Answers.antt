@@ -1,9 +1,8 @@
 -- Two lists of tells are heard one after the other.
-use Rattle.std.proofs.Common.{◌≡◌, ◌<◌, suc, ℤ, sym, arith}
+use Rattle.std.proofs.Common.{suc, ℤ, sym, arith}
 use Rattle.std.proofs.lemmas.Int.{to_z-of_z}
 use Rattle.std.specs.List.{zip}
 use mir.Syntax.{w64}
-use Rattle.guarded_tell.specs.Words.{AreVariables}
 use Rattle.guarded_tell.specs.Hearing.{MayHearAll, HearsAll}
 use Rattle.guarded_tell.specs.Linear.{literal_tells, bound_tells, sum_over, least_of, greatest_of}
 use Rattle.guarded_tell.proofs.HearingLaws.{may_first, may_rest, hears_both, along}

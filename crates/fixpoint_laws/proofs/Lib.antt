@@ -1,0 +1,11 @@
+pub mod Boxes
+pub mod Pair
+pub mod Places
+pub mod Copying
+pub mod Telling
+pub mod Hearing
+pub mod Existence
+pub mod Running
+pub mod Widths
+pub mod Settling
+pub mod Examples

@@ -1,0 +1,3 @@
+pub mod Fixpoints
+pub mod Changes
+pub mod Rounds

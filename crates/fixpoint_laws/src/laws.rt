@@ -1,0 +1,26 @@
+//! Laws of closed boxes, as functions that do nothing.
+
+ghost use Rattle.fixpoint_laws.specs.Changes.{TightensOne};
+ghost use Rattle.fixpoint_laws.specs.Fixpoints.{OneFixpoint, KeepsPoints};
+
+use guarded_tell::{law_monotone, law_tell_place};
+use interval::law_inside_order;
+
+/// For every start and list of kernels there is either exactly one greatest closed box, or no closed box.
+pub fn law_one_fixpoint()
+    ensures { OneFixpoint }
+{
+    law_inside_order();
+    law_monotone();
+    law_tell_place();
+}
+
+/// A point that all kernels leave as it is, is inside the greatest closed box.
+pub fn law_keeps_points()
+    ensures { KeepsPoints }
+{}
+
+/// What tighter bounds of one variable mean for a box.
+pub fn law_tightens_one()
+    ensures { TightensOne }
+{}

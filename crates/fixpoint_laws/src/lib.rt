@@ -1,0 +1,10 @@
+//! The one fixpoint of propagation: the greatest closed box inside a start, or none, whatever the order.
+#![tactic(auto)]
+
+mod laws;
+mod settle;
+#[cfg(test)]
+mod tests;
+
+pub use laws::{law_keeps_points, law_one_fixpoint, law_tightens_one};
+pub use settle::{Settled, settle_alone};

@@ -1,0 +1,12 @@
+pub mod ItemLaws
+pub mod NumberLaws
+pub mod NameLaws
+pub mod ResolveLaws
+pub mod EndLaws
+pub mod SeenLaws
+pub mod LawfulLaws
+pub mod ModelLaws
+pub mod ProgramLaws
+pub mod SearchLaws
+pub mod NodeLaws
+pub mod OutcomeLaws

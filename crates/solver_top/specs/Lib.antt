@@ -1,0 +1,10 @@
+pub mod SmallModel
+pub mod SmallText
+pub mod Solutions
+pub mod AnswerText
+pub mod Words
+pub mod Outcome
+pub mod SmallReader
+pub mod SmallResolver
+pub mod Program
+pub mod Branching

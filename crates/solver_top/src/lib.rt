@@ -1,0 +1,16 @@
+//! From the bytes of a text to the bytes of its answer.
+#![tactic(auto)]
+
+mod constants;
+mod model;
+mod printing;
+mod reading;
+mod solving;
+mod status;
+#[cfg(test)]
+mod tests;
+mod top;
+mod words;
+
+pub use status::Status;
+pub use top::solve_main;

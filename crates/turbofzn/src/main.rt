@@ -1,0 +1,41 @@
+//! `turbofzn`: solves the FlatZinc file that its words name, and ends with the status of the call.
+#![tactic(auto)]
+
+use fzn_io::{FileSource, StdSink, write_all};
+use solver_top::{Status, solve_main};
+use std::process::ExitCode;
+use std::{env, io};
+
+fn main(rt: HostRuntime) -> ExitCode {
+    let status = match words(&rt) {
+        Ok(words) => solve(&rt, &words),
+        Err(error) if error.kind() == io::ErrorKind::OutOfMemory => refuse_memory(&rt),
+        // Words that can't be had, as those that are no text, are taken as no words.
+        Err(_) => solve(&rt, &[]),
+    };
+    ExitCode::from(status.code())
+}
+
+/// The words of the command line, the program's name first.
+fn words(rt: &HostRuntime) -> io::Result<Vec<String>> {
+    let mut words = Vec::new(rt.alloc());
+    for word in env::args(rt)? {
+        words.push(word)?;
+    }
+    Ok(words)
+}
+
+/// The top call over the real files and streams.
+fn solve(rt: &HostRuntime, words: &[String]) -> Status {
+    let mut files = FileSource::new(rt);
+    let mut out = StdSink::new(rt.stdout());
+    let mut err = StdSink::new(rt.stderr());
+    solve_main(rt.alloc(), words, &mut files, &mut out, &mut err)
+}
+
+/// What is said where there is no memory for the words.
+fn refuse_memory(rt: &HostRuntime) -> Status {
+    let status = Status::NoMemory;
+    let _ = write_all(&mut StdSink::new(rt.stderr()), status.line());
+    status
+}

@@ -10,3 +10,4 @@ pub mod ProgramLaws
 pub mod SearchLaws
 pub mod NodeLaws
 pub mod OutcomeLaws
+pub mod TreeLaws

@@ -20,7 +20,7 @@ use Rattle.solver_top.specs.Branching.{IsFirstUnfixed, AreFixed, left_of, right_
 use Rattle.solver_top.proofs.ProgramLaws.{low_fixed, high_fixed, start_numbers, start_length, start_in_range, kernels_fit, program_meaning, declared_value, constant_start, constant_value, extended_length, lies_length}
 use Rattle.solver_top.proofs.SearchLaws.{PointLaw, low_put, high_put, low_other, high_other, put_length, put_holds, IsPart, less_of, left_part, right_part, Ahead, StackRule, ordered_push, ordered_front, all_last, all_but_last, ordered_last, some_cases, some_more, some_last, behind}
 
-fixed_point : (xs : List ℤ) → IsPoint (fixed_box xs)
+pub fixed_point : (xs : List ℤ) → IsPoint (fixed_box xs)
 fixed_point xs v h = low_fixed xs v ∙ sym (high_fixed xs v)
 
 fixed_proper : (xs : List ℤ) → IsProper (fixed_box xs)
@@ -70,7 +70,7 @@ module _ (model : SmallModel) (g : Bounds) (p : ℕ) (len : length g ≡ length 
       let s : low_of g (suc w) ≡ high_of g (suc w) = first.before (suc w) (omega arith) (omega arith) in
       omega (arith, ints)
 
-  left_ahead : Ahead model (left_of g (suc p)) (right_of g (suc p))
+  pub left_ahead : Ahead model (left_of g (suc p)) (right_of g (suc p))
   left_ahead x y h j =
       let low = low_of g (suc p) in
       let v_in : suc p < length g = let q = first.last in omega (arith, start_length model) in
@@ -89,7 +89,7 @@ module _ (model : SmallModel) (g : Bounds) (p : ℕ) (len : length g ≡ length 
       }
 
 -- a box of an assignment inside a box is inside one of the two parts
-part_holds : (g c : Bounds) (v : ℕ) → v < length g → IsInside c g → low_of c v ≡ high_of c v → IsInside c (left_of g v) ⊎ IsInside c (right_of g v)
+pub part_holds : (g c : Bounds) (v : ℕ) → v < length g → IsInside c g → low_of c v ≡ high_of c v → IsInside c (left_of g v) ⊎ IsInside c (right_of g v)
 part_holds g c v h i e = by_lt_z (low_of g v) (low_of c v)
     (λ l. inr (put_holds g c v (low_of g v +ℤ pos 1) (high_of g v) h i (omega (arith, ints)) (i.highs v h)))
     (λ l. inl (put_holds g c v (low_of g v) (low_of g v) h i (i.lows v h) (omega (arith, ints))))
@@ -164,14 +164,14 @@ module _ (order : InsideOrder) (model : SmallModel) (f : IsWellFormed model) whe
         let q = point k box i range (fixed_point (extended model a)) numbers in
         (λ c. subst (Holds k) (point_fixed (extended model a)) (q.0 c), λ c. q.1 (subst (Holds k) (sym (point_fixed (extended model a))) c))
 
-    solution_closed : (a : Assignment) → IsSolution model a → IsClosed (fixed_box (extended model a)) (kernels_of model)
+    pub solution_closed : (a : Assignment) → IsSolution model a → IsClosed (fixed_box (extended model a)) (kernels_of model)
     solution_closed a s =
         let m = (program_meaning model f a).0 s in
         let fits = fits_inside (fixed_box (extended model a)) m.0.same_length in
         record { proper = fixed_proper (extended model a); quiet = λ j d l. (on_point a m.0 (get_or (kernels_of model) j d) (fits j d l)).1 (m.1 j d l) }
 
     -- a solution in a box lies in the greatest closed box
-    greatest_holds : (g b : Bounds) → IsGreatest g b (kernels_of model) → (a : Assignment) → IsSolution model a → LiesIn model a b → LiesIn model a g
+    pub greatest_holds : (g b : Bounds) → IsGreatest g b (kernels_of model) → (a : Assignment) → IsSolution model a → LiesIn model a b → LiesIn model a g
     greatest_holds g b r a s h = r.greatest (fixed_box (extended model a)) (solution_closed a s) h
 
     pub drop_rule : (bs : List Bounds) (b : Bounds) → StackRule model (bs ++ b ∷ []) → Fails b (kernels_of model) → StackRule model bs
@@ -180,6 +180,68 @@ module _ (order : InsideOrder) (model : SmallModel) (f : IsWellFormed model) whe
       ordered = ordered_front model bs b r.ordered;
       covers = λ a s. elim (some_cases model a bs b (r.covers a s)) [ inl h ↦ h | inr h ↦ absurd (fails (fixed_box (extended model a)) (solution_closed a s) h) ];
     }
+
+    -- a closed box inside the start in which each declared variable is fixed: its values are a solution, the only one in it
+    module _ (g : Bounds) (closed : IsClosed g (kernels_of model)) (g_in : IsInside g (start_of model)) (fixed : AreFixed (length model.vars) g) where
+      g_length : length g ≡ suc (length model.vars + length (constants_of model.constraints))
+      g_length = g_in.same_length ∙ start_length model
+
+      values_length : length (assignment_of (length model.vars) g) ≡ length model.vars
+      values_length = omega (arith, length-take (length model.vars) (drop 1 (point_of g)), length-drop 1 (point_of g), point_length g, g_length)
+
+      value_is : (w : ℕ) → w < length model.vars → value_at (assignment_of (length model.vars) g) w ≡ low_of g (suc w)
+      value_is w h =
+          let one : 1 + w ≡ suc w = omega arith in
+          get_or-take (length model.vars) (drop 1 (point_of g)) w (pos 0) h ∙ get_or-drop 1 (point_of g) w (pos 0) ∙ ap (value_of (point_of g)) one ∙ low_point g (suc w)
+
+      same_at : (v : ℕ) → v < length g → (value_of (extended model (assignment_of (length model.vars) g)) v ≡ low_of g v) × (low_of g v ≡ high_of g v)
+      same_at zero h =
+          let m : 0 < length (start_of model) = let e = g_in.same_length in omega arith in
+          let l = g_in.lows 0 m in
+          let u = g_in.highs 0 m in
+          let o = closed.proper 0 h in
+          (omega (arith, ints), omega (arith, ints))
+      same_at (suc w) h = elim (cases_lt w (length model.vars)) [
+        | inl k ↦ (declared_value model (assignment_of (length model.vars) g) w (omega (arith, values_length)) ∙ value_is w k, fixed (suc w) (omega arith) (omega arith))
+        | inr k ↦
+            let m : suc w < length (start_of model) = let e = g_in.same_length in omega arith in
+            let c = constant_start model w k in
+            let q = constant_value model (assignment_of (length model.vars) g) w values_length k in
+            let l = g_in.lows (suc w) m in
+            let u = g_in.highs (suc w) m in
+            let o = closed.proper (suc w) h in
+            (omega (arith, ints), omega (arith, ints))
+      ]
+
+      same_box : fixed_box (extended model (assignment_of (length model.vars) g)) ≡ g
+      same_box =
+          let xs = extended model (assignment_of (length model.vars) g) in
+          let n : length (fixed_box xs) ≡ length g = omega (arith, extended_length model (assignment_of (length model.vars) g), values_length, g_length) in
+          order.equal (fixed_box xs) g
+          (record { same_length = n; lows = λ v h. let s = same_at v h in let e = low_fixed xs v in omega (arith, ints); highs = λ v h. let s = same_at v h in let e = high_fixed xs v in omega (arith, ints) })
+          (record { same_length = sym n; lows = λ v h. let s = same_at v (omega arith) in let e = low_fixed xs v in omega (arith, ints); highs = λ v h. let s = same_at v (omega arith) in let e = high_fixed xs v in omega (arith, ints) })
+
+      pub in_g : LiesIn model (assignment_of (length model.vars) g) g
+      in_g = subst (λ (c : Bounds). IsInside c g) (sym same_box) (order.itself g)
+
+      pub is_solution : IsSolution model (assignment_of (length model.vars) g)
+      is_solution =
+          let a = assignment_of (length model.vars) g in
+          let h : LiesIn model a (start_of model) = order.through (fixed_box (extended model a)) g (start_of model) in_g g_in in
+          let fits = fits_inside (fixed_box (extended model a)) h.same_length in
+          (program_meaning model f a).1 (
+            h,
+            λ j d l. (on_point a h (get_or (kernels_of model) j d) (fits j d l)).0
+                (subst (λ (c : Bounds). IsClosedUnder (get_or (kernels_of model) j d) c) (sym same_box) (closed.quiet j d l)),
+          )
+
+      pub same_solution : (y : Assignment) → LiesIn model y g → assignment_of (length model.vars) g ≡ y
+      same_solution y h =
+          let n = lies_length model y g g_in.same_length h in
+          ext_get_or (pos 0) (assignment_of (length model.vars) g) y (values_length ∙ sym n) (λ w l.
+          let k : w < length model.vars = omega (arith, values_length) in
+          let q = lies_bounds model y g g_in.same_length h w k in
+          value_is w k ∙ sym (between (value_at y w) (low_of g (suc w)) (high_of g (suc w)) (fixed (suc w) (omega arith) (omega arith)) q.0 q.1))
 
     module _ (bs : List Bounds) (b g : Bounds) (r : StackRule model (bs ++ b ∷ [])) (gr : IsGreatest g b (kernels_of model)) where
       g_inside : IsInside g (start_of model)
@@ -217,72 +279,12 @@ module _ (order : InsideOrder) (model : SmallModel) (f : IsWellFormed model) whe
           }
 
       module _ (fixed : AreFixed (length model.vars) g) where
-        g_length : length g ≡ suc (length model.vars + length (constants_of model.constraints))
-        g_length = g_inside.same_length ∙ start_length model
-
-        values_length : length (assignment_of (length model.vars) g) ≡ length model.vars
-        values_length = omega (arith, length-take (length model.vars) (drop 1 (point_of g)), length-drop 1 (point_of g), point_length g, g_length)
-
-        value_is : (w : ℕ) → w < length model.vars → value_at (assignment_of (length model.vars) g) w ≡ low_of g (suc w)
-        value_is w h =
-            let one : 1 + w ≡ suc w = omega arith in
-            get_or-take (length model.vars) (drop 1 (point_of g)) w (pos 0) h ∙ get_or-drop 1 (point_of g) w (pos 0) ∙ ap (value_of (point_of g)) one ∙ low_point g (suc w)
-
-        same_at : (v : ℕ) → v < length g → (value_of (extended model (assignment_of (length model.vars) g)) v ≡ low_of g v) × (low_of g v ≡ high_of g v)
-        same_at zero h =
-            let m : 0 < length (start_of model) = let e = g_inside.same_length in omega arith in
-            let l = g_inside.lows 0 m in
-            let u = g_inside.highs 0 m in
-            let o = gr.closed.proper 0 h in
-            (omega (arith, ints), omega (arith, ints))
-        same_at (suc w) h = elim (cases_lt w (length model.vars)) [
-          | inl k ↦ (declared_value model (assignment_of (length model.vars) g) w (omega (arith, values_length)) ∙ value_is w k, fixed (suc w) (omega arith) (omega arith))
-          | inr k ↦
-              let m : suc w < length (start_of model) = let e = g_inside.same_length in omega arith in
-              let c = constant_start model w k in
-              let q = constant_value model (assignment_of (length model.vars) g) w values_length k in
-              let l = g_inside.lows (suc w) m in
-              let u = g_inside.highs (suc w) m in
-              let o = gr.closed.proper (suc w) h in
-              (omega (arith, ints), omega (arith, ints))
-        ]
-
-        same_box : fixed_box (extended model (assignment_of (length model.vars) g)) ≡ g
-        same_box =
-            let xs = extended model (assignment_of (length model.vars) g) in
-            let n : length (fixed_box xs) ≡ length g = omega (arith, extended_length model (assignment_of (length model.vars) g), values_length, g_length) in
-            order.equal (fixed_box xs) g
-            (record { same_length = n; lows = λ v h. let s = same_at v h in let e = low_fixed xs v in omega (arith, ints); highs = λ v h. let s = same_at v h in let e = high_fixed xs v in omega (arith, ints) })
-            (record { same_length = sym n; lows = λ v h. let s = same_at v (omega arith) in let e = low_fixed xs v in omega (arith, ints); highs = λ v h. let s = same_at v (omega arith) in let e = high_fixed xs v in omega (arith, ints) })
-
-        in_g : LiesIn model (assignment_of (length model.vars) g) g
-        in_g = subst (λ (c : Bounds). IsInside c g) (sym same_box) (order.itself g)
-
-        is_solution : IsSolution model (assignment_of (length model.vars) g)
-        is_solution =
-            let a = assignment_of (length model.vars) g in
-            let h : LiesIn model a (start_of model) = order.through (fixed_box (extended model a)) g (start_of model) in_g g_inside in
-            let fits = fits_inside (fixed_box (extended model a)) h.same_length in
-            (program_meaning model f a).1 (
-              h,
-              λ j d l. (on_point a h (get_or (kernels_of model) j d) (fits j d l)).0
-                  (subst (λ (c : Bounds). IsClosedUnder (get_or (kernels_of model) j d) c) (sym same_box) (gr.closed.quiet j d l)),
-            )
-
-        same_solution : (y : Assignment) → LiesIn model y g → assignment_of (length model.vars) g ≡ y
-        same_solution y h =
-            let n = lies_length model y g g_inside.same_length h in
-            ext_get_or (pos 0) (assignment_of (length model.vars) g) y (values_length ∙ sym n) (λ w l.
-            let k : w < length model.vars = omega (arith, values_length) in
-            let q = lies_bounds model y g g_inside.same_length h w k in
-            value_is w k ∙ sym (between (value_at y w) (low_of g (suc w)) (high_of g (suc w)) (fixed (suc w) (omega arith) (omega arith)) q.0 q.1))
-
         pub least_here : IsLeastSolution model (assignment_of (length model.vars) g)
         least_here = record {
-          solves = is_solution;
+          solves = is_solution g gr.closed g_inside fixed;
           least = λ y s. elim (some_cases model y bs b (r.covers y s)) [
-            | inl h ↦ inr (behind model (assignment_of (length model.vars) g) g bs in_g (ahead_rest g (order.itself g)) y h)
-            | inr h ↦ inl (same_solution y (greatest_holds g b gr y s h))
+            | inl h ↦ inr (behind model (assignment_of (length model.vars) g) g bs (in_g g gr.closed g_inside fixed) (ahead_rest g (order.itself g)) y h)
+            | inr h ↦ inl (same_solution g gr.closed g_inside fixed y (greatest_holds g b gr y s h))
           ];
         }
 

@@ -8,3 +8,4 @@ pub mod SmallReader
 pub mod SmallResolver
 pub mod Program
 pub mod Branching
+pub mod SearchTree

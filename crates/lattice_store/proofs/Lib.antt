@@ -1,0 +1,13 @@
+pub mod WordLaws
+pub mod BoxLaws
+pub mod Moves
+pub mod Telling
+pub mod Openings
+pub mod Parting
+pub mod Seating
+pub mod Moving
+pub mod Making
+pub mod Showing
+pub mod Starting
+pub mod Joining
+pub mod Pairs

@@ -1,0 +1,5 @@
+pub mod Words
+pub mod Rule
+pub mod Steps
+pub mod Standing
+pub mod Seats

@@ -1,0 +1,21 @@
+//! Bounds of variables that threads share without locks. Each thread has a seat; it asks and tells single bounds,
+//! which only tighten, whatever the threads' steps interleave to. A store serves many searches one after another:
+//! its first seat opens an epoch, with a new box, by joins.
+#![tactic(auto)]
+
+mod calls;
+mod close;
+mod laws;
+mod make;
+mod open;
+mod seat;
+mod seats;
+mod steps;
+mod store;
+mod table;
+#[cfg(test)]
+mod tests;
+mod words;
+
+pub use seat::Seat;
+pub use store::{Full, Store};

@@ -1,0 +1,13 @@
+pub mod Inversions
+pub mod Lists
+pub mod NoteLists
+pub mod SoundItems
+pub mod SoundNotes
+pub mod SoundValues
+pub mod Stretches
+pub mod Trees
+pub mod Unique
+pub mod Whole
+pub mod WholeItems
+pub mod WholeNotes
+pub mod WholeValues

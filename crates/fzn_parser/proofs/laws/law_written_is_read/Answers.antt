@@ -1,0 +1,5 @@
+use Rattle.fzn_parser.proofs.WholeItems.{what_whole}
+use Rattle.fzn_parser.proofs.laws.law_written_is_read.Goals as goal
+
+pub returns : goal.returns
+returns c = what_whole

@@ -1,0 +1,26 @@
+//! The laws of the grammar, as contracts of functions that do nothing.
+
+ghost use Rattle.std.specs.Prelude.{◌≡◌, ℕ, List, [], ◌∷◌, ◌++◌};
+ghost use Rattle.fzn_lexer.specs.declared.Token.{Token};
+ghost use Rattle.fzn_parser.specs.Items.{WhatTree, what_at};
+ghost use Rattle.fzn_parser.specs.Grammar.{IsWritten, print_what};
+ghost use Rattle.fzn_parser.specs.Parsing.{ItemTree, ReadsAs, FaultsAt};
+ghost use Rattle.fzn_parser.specs.declared.cursor.Lexeme.{Lexeme};
+ghost use Rattle.fzn_parser.specs.declared.cursor.Symbol.{Symbol};
+
+/// What is read as an item that is no predicate is what the grammar writes for it.
+pub fn law_read_is_written()
+    ensures { (depth : ℕ) (ls r : List Lexeme) (what : WhatTree) → what_at depth ls ≡ Some (what, r) → ls ≡ print_what what ++ r }
+{}
+
+/// What the grammar writes for an item that is no predicate is read back.
+pub fn law_written_is_read()
+    ensures { (depth : ℕ) (more : List Lexeme) (what : WhatTree) → IsWritten depth what → what_at depth (print_what what ++ Lexeme.Fixed Symbol.Semicolon ∷ more) ≡ Some (what, Lexeme.Fixed Symbol.Semicolon ∷ more) }
+{}
+
+/// Tokens read as one list of items or have one fault, and never both.
+pub fn law_one_reading()
+    ensures one_list { (text : List ℕ) (items others : List ItemTree) (tokens : List Token) → ReadsAs text tokens items → ReadsAs text tokens others → items ≡ others }
+    ensures one_fault { (text : List ℕ) (tokens : List Token) (at place : ℕ) → FaultsAt text tokens at → FaultsAt text tokens place → at ≡ place }
+    ensures never_both { (text : List ℕ) (tokens : List Token) (items : List ItemTree) (at : ℕ) → ReadsAs text tokens items → FaultsAt text tokens at → ⊥ }
+{}

@@ -1,3 +1,4 @@
 pub mod QuotientLaws
 pub mod BoxLaws
 pub mod ClampLaws
+pub mod CornerLaws

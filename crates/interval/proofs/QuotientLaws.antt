@@ -3,9 +3,9 @@ use Rattle.std.proofs.Common.{◌≡◌, ◌≢◌, ◌↔◌, ℕ, zero, suc, �
 use Rattle.std.proofs.lemmas.Int.{ints, by_lt_z, quot-rem, rem_below, quot_is, rem_is, to_z-of_z, fits_signed_from_abs}
 use Rattle.std.proofs.Math.Nat.{div-add-mod', mod-lt, div-le_self, mul-le-mul_right}
 use Rattle.std.specs.Int.RustNames.{int_div, int_rem, unsigned_abs}
-use Rattle.interval.specs.Limits.{dividend_limit}
-use mir.Syntax.{w128}
-use Rattle.interval.specs.Quotients.{floor_of, ceiling_of, IsFloorOf, IsCeilingOf, QuotientOrder}
+use Rattle.interval.specs.Limits.{dividend_limit, short_limit}
+use mir.Syntax.{Width, w64, w128}
+use Rattle.interval.specs.Quotients.{floor_of, ceiling_of, IsFloorOf, IsCeilingOf, AreParts, QuotientOrder}
 use borrow.Author.Differences.{up, down, sum_is_lem, neg_is, product_is, same_in}
 
 -- a product of a sum, and of an opposite
@@ -132,11 +132,7 @@ floor_unique a (negsuc b) q n f =
     let own = (floor_below a (negsuc b) (q +ℤ pos 1) (omega (arith, ints))).0 in
     by_lt_z q (floor_of a (negsuc b)) (λ lt. absurd (omega (arith, ints, own (omega (arith, ints))))) (λ ge. omega (arith, ints))
 
--- q and r are the quotient toward zero and what it leaves
-pub record AreParts (a b q r : ℤ) : Type 0 where
-  pub whole : q *ℤ b +ℤ r ≡ a
-  pub small : unsigned_abs r < unsigned_abs b
-
+-- the quotient toward zero and what it leaves
 pub parts_are : (a b : ℤ) → b ≢ pos 0 → AreParts a b (int_div a b) (int_rem a b)
 parts_are a b n = record { whole = quot-rem a b; small = rem_below a b (omega (arith, ints)) }
 
@@ -182,45 +178,81 @@ floor_lowered_below a b q r p h k =
       below_zero = λ _. (omega (arith, ints), omega (arith, ints));
     })
 
--- ---- what the code's `a / b` and `a % b` give
+-- ---- what the code's `a / b` and `a % b` give at a signed type of width w
 
-abbrev pub coded_quotient : ℤ → ℤ → ℤ
-coded_quotient a b = to_z w128 (of_z w128 (int_div (to_z w128 (of_z w128 a)) (to_z w128 (of_z w128 b))))
+abbrev pub coded_quotient : Width → ℤ → ℤ → ℤ
+coded_quotient w a b = to_z w (of_z w (int_div (to_z w (of_z w a)) (to_z w (of_z w b))))
 
-abbrev pub coded_rest : ℤ → ℤ → ℤ
-coded_rest a b = to_z w128 (of_z w128 (int_rem (to_z w128 (of_z w128 a)) (to_z w128 (of_z w128 b))))
+abbrev pub coded_rest : Width → ℤ → ℤ → ℤ
+coded_rest w a b = to_z w (of_z w (int_rem (to_z w (of_z w a)) (to_z w (of_z w b))))
 
 abs_opposite : (n : ℕ) → unsigned_abs (neg_ℤ (pos n)) ≡ n
 abs_opposite zero = refl
 abs_opposite (suc n) = refl
 
-quotient_small : (a b : ℤ) → unsigned_abs (int_div a b) ≤ unsigned_abs a
+pub quotient_small : (a b : ℤ) → unsigned_abs (int_div a b) ≤ unsigned_abs a
 quotient_small (pos a) (pos b) = div-le_self a b
 quotient_small (pos a) (negsuc b) = omega (arith, abs_opposite (a / suc b), div-le_self a (suc b))
 quotient_small (negsuc a) (pos b) = omega (arith, abs_opposite (suc a / b), div-le_self (suc a) b)
 quotient_small (negsuc a) (negsuc b) = div-le_self (suc a) (suc b)
 
-module _ (a b : ℤ) (f : FitsSigned w128 a) (g : FitsSigned w128 b) (small : unsigned_abs a ≤ dividend_limit) (n : b ≢ pos 0) where
-  quotient_fits : FitsSigned w128 (int_div a b)
-  unfolding dividend_limit
-  quotient_fits = fits_signed_from_abs w128 (int_div a b) (omega (arith, quotient_small a b))
+pub wide_quotient_fits : (a b : ℤ) → unsigned_abs a ≤ dividend_limit → FitsSigned w128 (int_div a b)
+unfolding dividend_limit
+wide_quotient_fits a b h = fits_signed_from_abs w128 (int_div a b) (omega (arith, quotient_small a b))
 
-  pub may_divide : (0 < of_z w128 b) × FitsSigned w128 (int_div (to_z w128 (of_z w128 a)) (to_z w128 (of_z w128 b)))
+pub short_quotient_fits : (a b : ℤ) → unsigned_abs a ≤ short_limit → FitsSigned w64 (int_div a b)
+unfolding short_limit
+short_quotient_fits a b h = fits_signed_from_abs w64 (int_div a b) (omega (arith, quotient_small a b))
+
+-- a number other than 0 has bits that aren't all 0
+pub wide_bits : (b : ℤ) → FitsSigned w128 b → b ≢ pos 0 → 0 < of_z w128 b
+wide_bits b g n = omega (arith, ints)
+
+pub short_bits : (b : ℤ) → FitsSigned w64 b → b ≢ pos 0 → 0 < of_z w64 b
+short_bits b g n = omega (arith, ints)
+
+module _ (w : Width) (a b : ℤ) (f : FitsSigned w a) (g : FitsSigned w b) (fits : FitsSigned w (int_div a b)) (n : b ≢ pos 0) (bits : 0 < of_z w b) where
+  pub may_divide : (0 < of_z w b) × FitsSigned w (int_div (to_z w (of_z w a)) (to_z w (of_z w b)))
   may_divide =
-      let P : ℤ → Type 0 = λ z. FitsSigned w128 z in
-      (omega (arith, ints), subst P (sym (λ i. int_div (to_z-of_z w128 a f i) (to_z-of_z w128 b g i))) quotient_fits)
+      let P : ℤ → Type 0 = λ z. FitsSigned w z in
+      (bits, subst P (sym (λ i. int_div (to_z-of_z w a f i) (to_z-of_z w b g i))) fits)
 
-  pub coded_parts : AreParts a b (coded_quotient a b) (coded_rest a b)
+  pub coded_parts : AreParts a b (coded_quotient w a b) (coded_rest w a b)
   coded_parts =
       let P : ℤ → ℤ → Type 0 = λ q r. AreParts a b q r in
-      subst (P (coded_quotient a b)) (sym (rem_is w128 a b f g)) (subst (λ (q : ℤ). P q (int_rem a b)) (sym (quot_is w128 a b f g quotient_fits)) (parts_are a b n))
+      subst (P (coded_quotient w a b)) (sym (rem_is w a b f g)) (subst (λ (q : ℤ). P q (int_rem a b)) (sym (quot_is w a b f g fits)) (parts_are a b n))
 
-  pub coded_small : unsigned_abs (coded_quotient a b) ≤ dividend_limit
-  coded_small = rw (quot_is w128 a b f g quotient_fits) (omega (arith, quotient_small a b))
+  pub coded_small : unsigned_abs (coded_quotient w a b) ≤ unsigned_abs a
+  coded_small = rw (quot_is w a b f g fits) (quotient_small a b)
 
-  pub lowered_fits : to_z w128 (of_z w128 (coded_quotient a b -ℤ pos 1)) ≡ coded_quotient a b -ℤ pos 1
-  unfolding dividend_limit
-  lowered_fits = let s = coded_small in to_z-of_z w128 (coded_quotient a b -ℤ pos 1) (omega (arith, ints))
+-- numbers that went to 128 bits and came back
+pub wide_back : (q : ℤ) → unsigned_abs q ≤ dividend_limit → to_z w128 (of_z w128 q) ≡ q
+unfolding dividend_limit
+wide_back q h = omega (arith, ints)
+
+pub wide_one_less : (q : ℤ) → unsigned_abs q ≤ dividend_limit → to_z w128 (of_z w128 (to_z w128 (of_z w128 q) -ℤ pos 1)) ≡ q -ℤ pos 1
+unfolding dividend_limit
+wide_one_less q h = omega (arith, ints)
+
+pub short_back : (q : ℤ) → unsigned_abs q ≤ short_limit → to_z w128 (of_z w128 q) ≡ q
+unfolding short_limit
+short_back q h = omega (arith, ints)
+
+pub rest_back : (r b : ℤ) → FitsSigned w64 b → unsigned_abs r < unsigned_abs b → to_z w128 (of_z w128 r) ≡ r
+rest_back r b f h = omega (arith, ints)
+
+-- a number that is short went to 128 bits, and from there to 64
+pub short_word : (a : ℤ) → unsigned_abs (to_z w128 (of_z w128 a)) ≤ short_limit → FitsSigned w64 (to_z w128 (of_z w128 a))
+unfolding short_limit
+short_word a h = omega (arith, ints)
+
+pub word_back : (a : ℤ) → FitsSigned w128 a → unsigned_abs (to_z w128 (of_z w128 a)) ≤ short_limit → to_z w64 (of_z w64 (to_z w128 (of_z w128 a))) ≡ a
+unfolding short_limit
+word_back a f h = omega (arith, ints)
+
+pub short_is_lower : short_limit ≤ dividend_limit
+unfolding short_limit dividend_limit
+short_is_lower = omega arith
 
 pub floor_small : (a b : ℤ) → unsigned_abs (floor_of a b) ≤ unsigned_abs a
 unfolding floor_of

@@ -1,3 +1,4 @@
 pub mod Limits
 pub mod Quotients
 pub mod Boxes
+pub mod Corners

@@ -19,6 +19,10 @@ box_limit = 262144
 unfoldable pub dividend_limit : ℕ
 dividend_limit = 2 ^ 120
 
+-- the quotient of two numbers between this and its opposite fits 64 bits
+unfoldable pub short_limit : ℕ
+short_limit = 2 ^ 62
+
 -- z is a number of a model
 abbrev pub IsNumber : ℤ → Type 0
 IsNumber z = unsigned_abs z ≤ largest_number

@@ -1,5 +1,5 @@
 -- The floor and the ceiling of an exact quotient.
-use Rattle.std.specs.Prelude.{ℤ, pos, negsuc, zero, suc, neg_ℤ, ◌+ℤ◌, ◌*ℤ◌, ◌≤ℤ◌, ◌<ℤ◌, ◌/◌, ◌↔◌}
+use Rattle.std.specs.Prelude.{◌≡◌, ℤ, pos, negsuc, zero, suc, neg_ℤ, ◌+ℤ◌, ◌*ℤ◌, ◌≤ℤ◌, ◌<ℤ◌, ◌<◌, ◌/◌, ◌↔◌, unsigned_abs}
 
 -- the greatest whole number that is at most a divided by b
 unfoldable pub floor_of : ℤ → ℤ → ℤ
@@ -22,6 +22,11 @@ pub record IsFloorOf (a b q : ℤ) : Type 0 where
 pub record IsCeilingOf (a b q : ℤ) : Type 0 where
   pub above_zero : pos 0 <ℤ b → (a ≤ℤ (q *ℤ b)) × (((q +ℤ negsuc 0) *ℤ b) <ℤ a)
   pub below_zero : b <ℤ pos 0 → ((q *ℤ b) ≤ℤ a) × (a <ℤ ((q +ℤ negsuc 0) *ℤ b))
+
+-- q is a divided by b, rounded to one of the two whole numbers beside it, and r is the rest that it leaves
+pub record AreParts (a b q r : ℤ) : Type 0 where
+  pub whole : q *ℤ b +ℤ r ≡ a
+  pub small : unsigned_abs r < unsigned_abs b
 
 -- how whole numbers compare with the floor and the ceiling of every exact quotient
 pub record QuotientOrder : Type 0 where

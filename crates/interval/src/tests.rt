@@ -1,6 +1,9 @@
 ghost use Rattle.std.specs.Prelude.{◌≡◌, IfOk, pos, negsuc, [], ◌∷◌};
 
-use crate::{BoxOf, NoMemory, ceil_div, clamp_bound, floor_div, is_crossed, is_point, width_sum};
+use crate::{
+    BoxOf, NoMemory, ceil_div, clamp_bound, corner_products, corner_quotients, floor_div,
+    is_crossed, is_point, width_sum,
+};
 use std::alloc::Global;
 use std::test::Fail;
 
@@ -12,6 +15,18 @@ fn quotients_are_rounded_down_and_up(rt: HostRuntime) -> Result<(), Fail> {
     assert_eq!(rt; (floor_div(7, -2), ceil_div(7, -2)), (-4, -3));
     assert_eq!(rt; (floor_div(-7, -2), ceil_div(-7, -2)), (3, 4));
     assert_eq!(rt; (floor_div(-6, 3), ceil_div(-6, 3)), (-2, -2));
+    assert_eq!(rt;
+        floor_div(1 << 100, 3),
+        422_550_200_076_076_467_165_567_735_125
+    );
+    assert_eq!(rt;
+        ceil_div(1 << 100, 3),
+        422_550_200_076_076_467_165_567_735_126
+    );
+    assert_eq!(rt;
+        (floor_div(7, -(1 << 100)), ceil_div(7, -(1 << 100))),
+        (-1, 0)
+    );
     Ok(())
 }
 
@@ -21,6 +36,23 @@ fn bounds_are_clamped_one_past_the_numbers(rt: HostRuntime) -> Result<(), Fail> 
     assert_eq!(rt; clamp_bound(1 << 100), 2_147_483_647);
     assert_eq!(rt; clamp_bound(-2_147_483_648), -2_147_483_647);
     assert_eq!(rt; clamp_bound(-5), -5);
+    Ok(())
+}
+
+#[tactic(auto, unfolding(crate::specs::Limits::bound_limit, crate::specs::Limits::largest_number))]
+#[test]
+fn corners_are_those_of_the_rectangle(rt: HostRuntime) -> Result<(), Fail> {
+    assert_eq!(rt; corner_products((-3, 4), (-5, 2)), (-20, 15));
+    assert_eq!(rt; corner_products((2, 3), (5, 7)), (10, 21));
+    assert_eq!(rt; corner_products((-3, -2), (-7, 0)), (0, 21));
+    assert_eq!(rt;
+        corner_products((-2_147_483_647, 1), (-2_147_483_647, 0)),
+        (-2_147_483_647, 4_611_686_014_132_420_609)
+    );
+    assert_eq!(rt; corner_quotients((-6, -6), (2, 3)), (-3, -2));
+    assert_eq!(rt; corner_quotients((7, 9), (2, 4)), (2, 4));
+    assert_eq!(rt; corner_quotients((-7, 9), (-4, -2)), (-4, 3));
+    assert_eq!(rt; corner_quotients((5, 5), (3, 3)), (2, 1));
     Ok(())
 }
 

@@ -1,0 +1,35 @@
+-- Each of the four quotients is exact, and so are the least and the greatest of them.
+use Rattle.std.proofs.Common.{FitsSigned, rules}
+use mir.Syntax.{w64}
+use Rattle.interval.specs.Quotients.{floor_of, ceiling_of}
+use Rattle.interval.specs.Corners.{least_ceiling, greatest_floor}
+use Rattle.interval.proofs.CornerLaws.{same_least, same_greatest, same_pair}
+use Rattle.interval.proofs.corners.corner_quotients.Goals as goal
+
+pub returns-clause-least : goal.returns-clause-least
+unfolding least_ceiling
+returns-clause-least c =
+    let z_low : FitsSigned w64 c.args.z.0 = search rules in
+    let z_high : FitsSigned w64 c.args.z.1 = search rules in
+    let y_low : FitsSigned w64 c.args.y.0 = search rules in
+    let y_high : FitsSigned w64 c.args.y.1 = search rules in
+    same_least c.least_of_four.result c.ceiling.result c.ceiling-2.result c.ceiling-3.result c.ceiling-4.result _ _ _ _ (search rules) (search rules) (search rules) (search rules) (search rules)
+    (same_pair ceiling_of c.ceiling.result c.args.z.0 c.args.y.0 z_low y_low c.ceiling.ensures)
+    (same_pair ceiling_of c.ceiling-2.result c.args.z.0 c.args.y.1 z_low y_high c.ceiling-2.ensures)
+    (same_pair ceiling_of c.ceiling-3.result c.args.z.1 c.args.y.0 z_high y_low c.ceiling-3.ensures)
+    (same_pair ceiling_of c.ceiling-4.result c.args.z.1 c.args.y.1 z_high y_high c.ceiling-4.ensures)
+    c.least_of_four.ensures
+
+pub returns-clause-greatest : goal.returns-clause-greatest
+unfolding greatest_floor
+returns-clause-greatest c =
+    let z_low : FitsSigned w64 c.args.z.0 = search rules in
+    let z_high : FitsSigned w64 c.args.z.1 = search rules in
+    let y_low : FitsSigned w64 c.args.y.0 = search rules in
+    let y_high : FitsSigned w64 c.args.y.1 = search rules in
+    same_greatest c.greatest_of_four.result c.floor.result c.floor-2.result c.floor-3.result c.floor-4.result _ _ _ _ (search rules) (search rules) (search rules) (search rules) (search rules)
+    (same_pair floor_of c.floor.result c.args.z.0 c.args.y.0 z_low y_low c.floor.ensures)
+    (same_pair floor_of c.floor-2.result c.args.z.0 c.args.y.1 z_low y_high c.floor-2.ensures)
+    (same_pair floor_of c.floor-3.result c.args.z.1 c.args.y.0 z_high y_low c.floor-3.ensures)
+    (same_pair floor_of c.floor-4.result c.args.z.1 c.args.y.1 z_high y_high c.floor-4.ensures)
+    c.greatest_of_four.ensures

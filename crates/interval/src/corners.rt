@@ -1,0 +1,96 @@
+//! The corners of a rectangle of two ranges.
+
+ghost use Rattle.std.specs.Prelude.{◌≡◌, ◌≢◌, ◌*ℤ◌, pos, unsigned_abs, ◌≤◌};
+ghost use Rattle.interval.specs.Limits.{IsBound, bound_limit};
+ghost use Rattle.interval.specs.Quotients.{floor_of, ceiling_of};
+ghost use Rattle.interval.specs.Corners as corners;
+
+use crate::{ceil_div, floor_div};
+
+/// The least and the greatest of the four products of a bound of `x` and a bound of `y`.
+pub fn corner_products(x: (i64, i64), y: (i64, i64)) -> (i128, i128)
+    requires x_low { IsBound x.0 }
+    requires x_high { IsBound x.1 }
+    requires y_low { IsBound y.0 }
+    requires y_high { IsBound y.1 }
+    ensures least { result.0 ≡ corners.least_product x y }
+    ensures greatest { result.1 ≡ corners.greatest_product x y }
+{
+    let at_lows = product(x.0, y.0);
+    let at_low_high = product(x.0, y.1);
+    let at_high_low = product(x.1, y.0);
+    let at_highs = product(x.1, y.1);
+    (
+        least_of_four(at_lows, at_low_high, at_high_low, at_highs),
+        greatest_of_four(at_lows, at_low_high, at_high_low, at_highs),
+    )
+}
+
+/// The least ceiling and the greatest floor of the four quotients of a bound of `z` by a bound of `y`.
+pub fn corner_quotients(z: (i64, i64), y: (i64, i64)) -> (i128, i128)
+    requires z_low { IsBound z.0 }
+    requires z_high { IsBound z.1 }
+    requires low_divisor { y.0 ≢ pos 0 }
+    requires high_divisor { y.1 ≢ pos 0 }
+    ensures least { result.0 ≡ corners.least_ceiling z y }
+    ensures greatest { result.1 ≡ corners.greatest_floor z y }
+{
+    (
+        least_of_four(
+            ceiling(z.0, y.0),
+            ceiling(z.0, y.1),
+            ceiling(z.1, y.0),
+            ceiling(z.1, y.1),
+        ),
+        greatest_of_four(
+            floor(z.0, y.0),
+            floor(z.0, y.1),
+            floor(z.1, y.0),
+            floor(z.1, y.1),
+        ),
+    )
+}
+
+/// The order of the corners, as a law: it does nothing.
+pub fn law_corner_order()
+    ensures { corners.CornerOrder }
+{}
+
+#[tactic(auto, unfolding(crate::specs::Limits::bound_limit, crate::specs::Limits::largest_number))]
+fn product(a: i64, b: i64) -> i128
+    requires first { IsBound a }
+    requires second { IsBound b }
+    ensures { result ≡ a *ℤ b }
+{
+    a as i128 * b as i128
+}
+
+#[tactic(auto, unfolding(crate::specs::Limits::bound_limit, crate::specs::Limits::largest_number, crate::specs::Limits::dividend_limit))]
+fn ceiling(a: i64, b: i64) -> i128
+    requires dividend { IsBound a }
+    requires divisor { b ≢ pos 0 }
+    ensures { result ≡ ceiling_of a b }
+{
+    ceil_div(a as i128, b as i128)
+}
+
+#[tactic(auto, unfolding(crate::specs::Limits::bound_limit, crate::specs::Limits::largest_number, crate::specs::Limits::dividend_limit))]
+fn floor(a: i64, b: i64) -> i128
+    requires dividend { IsBound a }
+    requires divisor { b ≢ pos 0 }
+    ensures { result ≡ floor_of a b }
+{
+    floor_div(a as i128, b as i128)
+}
+
+fn least_of_four(p: i128, q: i128, r: i128, s: i128) -> i128
+    ensures { result ≡ corners.least_of_four p q r s }
+{
+    p.min(q).min(r.min(s))
+}
+
+fn greatest_of_four(p: i128, q: i128, r: i128, s: i128) -> i128
+    ensures { result ≡ corners.greatest_of_four p q r s }
+{
+    p.max(q).max(r.max(s))
+}

@@ -69,10 +69,10 @@ module _ (quotients : QuotientOrder) (clamped : ClampOrder) where
   ceiling_falls r s b h k = let own = (quotients.ceiling_below_zero r b (ceiling_of r b) h).0 (omega (arith, ints)) in (quotients.ceiling_below_zero s b (ceiling_of r b) h).1 (omega (arith, ints))
 
   -- a looser bound is kept where a tighter is
-  keeps_low : (b : Bounds) (x : ℕ) (y z : ℤ) → z ≤ℤ y → Keeps b (low_tell x y) → Keeps b (low_tell x z)
+  pub keeps_low : (b : Bounds) (x : ℕ) (y z : ℤ) → z ≤ℤ y → Keeps b (low_tell x y) → Keeps b (low_tell x z)
   keeps_low b x y z h k = let c = clamped.rises z y h in omega (arith, ints)
 
-  keeps_high : (b : Bounds) (x : ℕ) (y z : ℤ) → y ≤ℤ z → Keeps b (high_tell x y) → Keeps b (high_tell x z)
+  pub keeps_high : (b : Bounds) (x : ℕ) (y z : ℤ) → y ≤ℤ z → Keeps b (high_tell x y) → Keeps b (high_tell x z)
   keeps_high b x y z h k = let c = clamped.rises y z h in omega (arith, ints)
 
   -- more room gives looser tells

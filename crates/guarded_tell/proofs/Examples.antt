@@ -15,11 +15,11 @@ use Rattle.guarded_tell.specs.Kernels.{vars_of, HasNumbers, IsKernel}
 abbrev pub IsSmall : ℤ → Type 0
 IsSmall z = unsigned_abs z ≤ 9
 
-small_bound : (z : ℤ) → IsSmall z → IsBound z
+pub small_bound : (z : ℤ) → IsSmall z → IsBound z
 unfolding bound_limit largest_number
 small_bound z h = omega arith
 
-small_number : (z : ℤ) → IsSmall z → IsNumber z
+pub small_number : (z : ℤ) → IsSmall z → IsNumber z
 unfolding largest_number
 small_number z h = omega arith
 

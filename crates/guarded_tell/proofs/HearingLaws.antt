@@ -1,8 +1,9 @@
 -- Hearing a list that is put together of two.
-use Rattle.std.proofs.Common.{◌≡◌, List, [], ◌∷◌, ◌++◌, ℕ, ◌<◌, ◌≤◌, ◌+◌, length, drop, get_or, refl, sym, subst}
+use Rattle.std.proofs.Common.{◌≡◌, Bool, true, List, [], ◌∷◌, ◌++◌, ℕ, ◌<◌, ◌≤◌, ◌+◌, length, drop, get_or, refl, sym, subst}
 use Rattle.std.proofs.lemmas.List.{at_drop_more, at_drop_all}
 use Rattle.std.specs.List.{flat_map}
 use Rattle.guarded_tell.specs.declared.tell.Tell.{Tell}
+use Rattle.guarded_tell.specs.Words.{when}
 use Rattle.guarded_tell.specs.Hearing.{MayHearAll, HearsAll}
 
 module _ {H : Type 0} (may : H → Tell → Type 0) (hears : H → Tell → H → Type 0) where
@@ -17,6 +18,19 @@ module _ {H : Type 0} (may : H → Tell → Type 0) (hears : H → Tell → H �
   pub hears_both : (before mid after : H) (xs ys : List Tell) → HearsAll hears before xs mid → HearsAll hears mid ys after → HearsAll hears before (xs ++ ys) after
   hears_both before mid after [] ys h k = let P : H → Type 0 = λ z. HearsAll hears z ys after in subst P (sym h) k
   hears_both before mid after (t ∷ xs) ys h k = (h.0, h.1, hears_both h.0 mid after xs ys h.2 k)
+
+  -- one tell that is heard where a test holds
+  pub may_one : (before : H) (t : Bool) (tell told : Tell) → t ≡ true → told ≡ tell → MayHearAll may hears before (when t (tell ∷ [])) → may before told
+  may_one before t tell told e f m =
+      let P : Bool → Type 0 = λ s. MayHearAll may hears before (when s (tell ∷ [])) in
+      let one = subst P e m in
+      subst (may before) (sym f) one.0
+
+  pub hears_one : (before after : H) (t : Bool) (tell told : Tell) → t ≡ true → told ≡ tell → hears before told after → HearsAll hears before (when t (tell ∷ [])) after
+  hears_one before after t tell told e f h =
+      let P : Bool → Type 0 = λ s. HearsAll hears before (when s (tell ∷ [])) after in
+      let heard : hears before tell after = subst (λ u. hears before u after) f h in
+      subst P (sym e) (after, heard, refl)
 
   -- what is heard from a place of a list on brings the hearer to where the whole list would
   pub record LeadsOn {X : Type 0} (f : X → List Tell) (xs : List X) (first : H) (i : ℕ) (now : H) : Type 0 where

@@ -84,7 +84,7 @@ pub coded_number_wide : (z : ℤ) → IsNumber z → to_z w128 (of_z w128 (to_z 
 unfolding largest_number
 coded_number_wide z h = omega (arith, ints)
 
-room_fits : (z : ℤ) → unsigned_abs z ≤ dividend_limit → to_z w128 (of_z w128 z) ≡ z
+pub room_fits : (z : ℤ) → unsigned_abs z ≤ dividend_limit → to_z w128 (of_z w128 z) ≡ z
 unfolding dividend_limit
 room_fits z h = to_z-of_z w128 z (fits_signed_from_abs w128 z (omega arith))
 

@@ -1,4 +1,14 @@
 pub mod Words
 pub mod Hearing
 pub mod Linear
+pub mod Equality
+pub mod Times
+pub mod Absolute
+pub mod Clause
+pub mod Extremes
+pub mod Maximum
+pub mod Minimum
+pub mod InSet
+pub mod Element
+pub mod Hull
 pub mod Kernels

@@ -54,9 +54,14 @@ product_at_least var coeff room =
 abbrev pub at_most_tell : Bounds → ℤ → ℤ → Term → List Tell
 at_most_tell b limit least t = product_at_most t.1 t.0 (limit -ℤ (least -ℤ least_of b t))
 
--- the sum is more than the limit: what the greatest values of the other terms demand of this one
+-- the sum is at least the limit: what the greatest values of the other terms demand of this one. `greatest` is the sum
+-- of all greatest values
+abbrev pub at_least_tell : Bounds → ℤ → ℤ → Term → List Tell
+at_least_tell b limit greatest t = product_at_least t.1 t.0 (limit -ℤ (greatest -ℤ greatest_of b t))
+
+-- the sum is more than the limit
 abbrev pub more_than_tell : Bounds → ℤ → ℤ → Term → List Tell
-more_than_tell b limit greatest t = product_at_least t.1 t.0 (limit +ℤ pos 1 -ℤ (greatest -ℤ greatest_of b t))
+more_than_tell b limit greatest t = at_least_tell b (limit +ℤ pos 1) greatest t
 
 -- the literal is told true where the greatest sum is within the limit, false where the least isn't
 abbrev pub literal_tells : Lit → ℤ → ℤ → ℤ → List Tell

@@ -3,6 +3,7 @@
 ghost use Rattle.std.specs.Prelude.{◌≡◌, ◌<◌, length, slice_index};
 
 use crate::Lit;
+use crate::clause::{clause_var, clause_var_count};
 use list_of::ListOf;
 
 /// A relation over a box's variables that is run as a propagator.
@@ -19,19 +20,89 @@ pub enum Kernel {
         /// The limit.
         limit: i64,
     },
+    /// The literal is true exactly where the sum of the coefficients times the variables is the limit.
+    Eq {
+        /// The literal.
+        lit: Lit,
+        /// One coefficient for each variable of `vars`.
+        coeffs: ListOf<i64>,
+        /// The variables of the sum.
+        vars: ListOf<u32>,
+        /// The limit.
+        limit: i64,
+    },
+    /// `z` is the product of `x` and `y`.
+    Times {
+        /// The first factor.
+        x: u32,
+        /// The second factor.
+        y: u32,
+        /// The product.
+        z: u32,
+    },
+    /// `y` is the absolute value of `x`.
+    Abs {
+        /// The variable whose absolute value it is.
+        x: u32,
+        /// The variable of the absolute value.
+        y: u32,
+    },
+    /// A variable is the greatest of some others.
+    Max {
+        /// The greatest.
+        m: u32,
+        /// The others.
+        xs: ListOf<u32>,
+    },
+    /// A variable is the least of some others.
+    Min {
+        /// The least.
+        m: u32,
+        /// The others.
+        xs: ListOf<u32>,
+    },
+    /// Some literal is true.
+    Clause {
+        /// The literals.
+        lits: ListOf<Lit>,
+    },
+    /// A variable is a place of a list, counted from 1, and the variable at that place equals another.
+    Element {
+        /// The variable that is the place.
+        x: u32,
+        /// The list.
+        entries: ListOf<u32>,
+        /// The variable that equals the one at the place.
+        c: u32,
+    },
+    /// The literal is true exactly where the variable is in the set of these ranges.
+    InSet {
+        /// The literal.
+        lit: Lit,
+        /// The variable.
+        x: u32,
+        /// The ranges of the set, in order, none of which touch or overlap, each by its first and its last number.
+        ranges: ListOf<(i64, i64)>,
+    },
 }
 
 impl Kernel {
     ghost use Rattle.guarded_tell.specs.Kernels.{vars_of, HasNumbers};
 
     /// How many variables it names, with repeats.
-    #[tactic(auto, unfolding(crate::specs::Kernels::vars_of, crate::specs::Kernels::HasNumbers, crate::specs::Linear::term_limit))]
+    #[tactic(auto, unfolding(crate::specs::Kernels::vars_of, crate::specs::Kernels::HasNumbers, crate::specs::Linear::term_limit, crate::specs::Extremes::member_limit))]
     pub fn var_count(&self) -> usize
         requires { HasNumbers self.now }
         ensures { result ≡ length (vars_of self.now) }
     {
         match self {
-            Kernel::Le { vars, .. } => vars.len() + 1,
+            Kernel::Le { vars, .. } | Kernel::Eq { vars, .. } => vars.len() + 1,
+            Kernel::Times { .. } => 3,
+            Kernel::Abs { .. } => 2,
+            Kernel::Max { xs, .. } | Kernel::Min { xs, .. } => xs.len() + 1,
+            Kernel::Clause { lits } => clause_var_count(lits.as_slice()),
+            Kernel::Element { entries, .. } => entries.len() + 2,
+            Kernel::InSet { .. } => 2,
         }
     }
 
@@ -42,13 +113,37 @@ impl Kernel {
         ensures { result ≡ slice_index (vars_of self.now) place }
     {
         match self {
-            Kernel::Le { lit, vars, .. } => {
+            Kernel::Le { lit, vars, .. } | Kernel::Eq { lit, vars, .. } => {
                 if place == 0 {
                     lit.var
                 } else {
                     vars.as_slice()[place - 1]
                 }
             }
+            Kernel::Times { x, y, z } => match place {
+                0 => *x,
+                1 => *y,
+                _ => *z,
+            },
+            Kernel::Abs { x, y } => { if place == 0 { *x } else { *y } }
+            Kernel::Max { m, xs } | Kernel::Min { m, xs } => {
+                if place == 0 {
+                    *m
+                } else {
+                    xs.as_slice()[place - 1]
+                }
+            }
+            Kernel::Clause { lits } => clause_var(lits.as_slice(), place),
+            Kernel::Element { x, entries, c } => {
+                if place == 0 {
+                    *x
+                } else if place == 1 {
+                    *c
+                } else {
+                    entries.as_slice()[place - 2]
+                }
+            }
+            Kernel::InSet { lit, x, .. } => { if place == 0 { lit.var } else { *x } }
         }
     }
 }

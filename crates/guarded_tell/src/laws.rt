@@ -8,7 +8,7 @@ ghost use Rattle.guarded_tell.specs.declared.kernel.Kernel.{Kernel};
 ghost use Rattle.guarded_tell.specs.Words.{Keeps, IsProperIn, IsInsideIn, AgreeIn, SameValuesIn, point_of};
 ghost use Rattle.guarded_tell.specs.Kernels.{vars_of, tells, Holds, IsKernel, IsClosedUnder};
 
-use interval::{law_clamp_order, law_quotient_order};
+use interval::{law_clamp_order, law_corner_order, law_quotient_order};
 
 /// No tell of a kernel on a box narrows a box that is closed under that kernel and, in the kernel's variables, inside it.
 pub fn law_monotone()
@@ -18,6 +18,7 @@ pub fn law_monotone()
 {
     law_quotient_order();
     law_clamp_order();
+    law_corner_order();
 }
 
 /// A point within the range is closed under a kernel exactly where the kernel's relation holds.

@@ -1,23 +1,19 @@
 //! The linear inequality.
 
-ghost use Rattle.std.specs.Prelude.{◌≡◌, ◌<◌, ◌≤◌, ◌+◌, ◌*◌, ◌+ℤ◌, ◌-ℤ◌, ℤ, pos, unsigned_abs, ◌∷◌, length};
+ghost use Rattle.std.specs.Prelude.{◌≡◌, ◌<◌, ◌≤◌, ◌+ℤ◌, ◌-ℤ◌, ℤ, pos, unsigned_abs, ◌∷◌, length};
 ghost use Rattle.std.specs.List.{zip, flat_map};
 ghost use Rattle.interval.specs.Limits.{IsNumber, dividend_limit};
 ghost use Rattle.guarded_tell.specs.Words.{AreVariables};
 ghost use Rattle.guarded_tell.specs.Words as words;
 ghost use Rattle.guarded_tell.specs.Hearing.{MayHearAll, HearsAll};
-ghost use Rattle.guarded_tell.specs.Linear.{least_of, greatest_of, sum_over, sum_limit, product_limit, product_at_most, product_at_least, at_most_tell, more_than_tell, at_most_tells, literal_tells, sure_tells, out_tells, bound_tells, IsLinear};
+ghost use Rattle.guarded_tell.specs.Linear.{sum_limit, product_limit, at_most_tell, more_than_tell, at_most_tells, literal_tells, sure_tells, out_tells, bound_tells, IsLinear};
 
-use crate::literals::{high_tell, is_out, is_sure, low_tell, tell_false, tell_true};
+use crate::literals::{is_out, is_sure, tell_false, tell_true};
+use crate::terms::{
+    Range, hear_product_at_least, hear_product_at_most, room_for, sum_range, term_range,
+};
 use crate::{Hear, Lit};
-use interval::{BoxOf, ceil_div, floor_div};
-
-/// What a term, or a sum of terms, is at least and at most in a box.
-#[derive(Clone, Copy)]
-struct Range {
-    least: i128,
-    greatest: i128,
-}
+use interval::BoxOf;
 
 /// Gives the tells of the inequality to `h`, in order.
 pub fn visit_le<H: Hear>(lit: Lit, coeffs: &[i64], vars: &[u32], limit: i64, b: &BoxOf, h: &mut H)
@@ -29,61 +25,6 @@ pub fn visit_le<H: Hear>(lit: Lit, coeffs: &[i64], vars: &[u32], limit: i64, b: 
     let sum = sum_range(coeffs, vars, b);
     hear_literal(lit, limit, sum, h);
     hear_bounds(lit, coeffs, vars, limit, sum, b, h);
-}
-
-/// What the whole sum is at least and at most.
-fn sum_range(coeffs: &[i64], vars: &[u32], b: &BoxOf) -> Range
-    requires linear { IsLinear coeffs.now vars.now (pos 0) }
-    requires variables { AreVariables (length b.now) vars.now }
-    ensures least { result.least ≡ sum_over (least_of b.now) (zip coeffs.now vars.now) }
-    ensures greatest { result.greatest ≡ sum_over (greatest_of b.now) (zip coeffs.now vars.now) }
-    ensures least_in_range { unsigned_abs result.least ≤ sum_limit }
-    ensures greatest_in_range { unsigned_abs result.greatest ≤ sum_limit }
-{
-    let mut sum = Range {
-        least: 0,
-        greatest: 0,
-    };
-    for i in 0..coeffs.len() {
-        let term = term_range(coeffs[i], vars[i], b);
-        sum = sum_with(sum, term);
-    }
-    sum
-}
-
-/// The sum with one more term.
-#[tactic(auto, unfolding(crate::specs::Linear::sum_limit, crate::specs::Linear::term_limit, crate::specs::Linear::product_limit, interval::specs::Limits::bound_limit, interval::specs::Limits::largest_number))]
-fn sum_with(sum: Range, term: Range) -> Range
-    requires sum_least { unsigned_abs sum.least ≤ sum_limit }
-    requires sum_greatest { unsigned_abs sum.greatest ≤ sum_limit }
-    requires term_least { unsigned_abs term.least ≤ product_limit }
-    requires term_greatest { unsigned_abs term.greatest ≤ product_limit }
-    ensures least { result.least ≡ sum.least +ℤ term.least }
-    ensures greatest { result.greatest ≡ sum.greatest +ℤ term.greatest }
-{
-    Range {
-        least: sum.least + term.least,
-        greatest: sum.greatest + term.greatest,
-    }
-}
-
-/// What one term is at least and at most.
-#[tactic(auto, unfolding(crate::specs::Linear::least_of, crate::specs::Linear::greatest_of))]
-fn term_range(coeff: i64, var: u32, b: &BoxOf) -> Range
-    requires coefficient { IsNumber coeff }
-    requires variable { var < length b.now }
-    ensures least { result.least ≡ least_of b.now (coeff, var) }
-    ensures greatest { result.greatest ≡ greatest_of b.now (coeff, var) }
-    ensures least_in_range { unsigned_abs result.least ≤ product_limit }
-    ensures greatest_in_range { unsigned_abs result.greatest ≤ product_limit }
-{
-    let coeff = coeff as i128;
-    let at_low = coeff * b.low(var) as i128;
-    let at_high = coeff * b.high(var) as i128;
-    Range {
-        least: at_low.min(at_high),
-        greatest: at_low.max(at_high),
-    }
 }
 
 /// Tells the literal where the box decides the inequality.
@@ -184,7 +125,7 @@ fn hear_at_most<H: Hear>(
 {
     for i in 0..coeffs.len() {
         let term = term_range(coeffs[i], vars[i], b);
-        let room = room_at_most(limit, least, term.least);
+        let room = room_for(limit, least, term.least);
         hear_product_at_most(vars[i], coeffs[i], room, h);
     }
 }
@@ -212,18 +153,6 @@ fn hear_more_than<H: Hear>(
     }
 }
 
-/// What the least values of the other terms leave for a term of a sum that is at most the limit.
-#[tactic(auto, unfolding(crate::specs::Linear::sum_limit, crate::specs::Linear::term_limit, crate::specs::Linear::product_limit, interval::specs::Limits::bound_limit, interval::specs::Limits::largest_number, interval::specs::Limits::dividend_limit))]
-fn room_at_most(limit: i64, least: i128, term_least: i128) -> i128
-    requires limit { IsNumber limit }
-    requires sum { unsigned_abs least ≤ sum_limit }
-    requires term { unsigned_abs term_least ≤ product_limit }
-    ensures value { result ≡ limit -ℤ (least -ℤ term_least) }
-    ensures in_range { unsigned_abs result ≤ dividend_limit }
-{
-    limit as i128 - (least - term_least)
-}
-
 /// What the greatest values of the other terms demand of a term of a sum that is more than the limit.
 #[tactic(auto, unfolding(crate::specs::Linear::sum_limit, crate::specs::Linear::term_limit, crate::specs::Linear::product_limit, interval::specs::Limits::bound_limit, interval::specs::Limits::largest_number, interval::specs::Limits::dividend_limit))]
 fn room_more_than(limit: i64, greatest: i128, term_greatest: i128) -> i128
@@ -234,30 +163,4 @@ fn room_more_than(limit: i64, greatest: i128, term_greatest: i128) -> i128
     ensures in_range { unsigned_abs result ≤ dividend_limit }
 {
     limit as i128 + 1 - (greatest - term_greatest)
-}
-
-/// Tells that `coeff` times the variable is at most `room`.
-fn hear_product_at_most<H: Hear>(var: u32, coeff: i64, room: i128, h: &mut H)
-    requires dividend { unsigned_abs room ≤ dividend_limit }
-    requires hearer { MayHearAll H.can_hear H.hears h.old (product_at_most var coeff room) }
-    ensures { HearsAll H.hears h.old (product_at_most var coeff room) h.new }
-{
-    if coeff > 0 {
-        h.hear(high_tell(var, floor_div(room, coeff as i128)));
-    } else if coeff < 0 {
-        h.hear(low_tell(var, ceil_div(room, coeff as i128)));
-    }
-}
-
-/// Tells that `coeff` times the variable is at least `room`.
-fn hear_product_at_least<H: Hear>(var: u32, coeff: i64, room: i128, h: &mut H)
-    requires dividend { unsigned_abs room ≤ dividend_limit }
-    requires hearer { MayHearAll H.can_hear H.hears h.old (product_at_least var coeff room) }
-    ensures { HearsAll H.hears h.old (product_at_least var coeff room) h.new }
-{
-    if coeff > 0 {
-        h.hear(low_tell(var, ceil_div(room, coeff as i128)));
-    } else if coeff < 0 {
-        h.hear(high_tell(var, floor_div(room, coeff as i128)));
-    }
 }

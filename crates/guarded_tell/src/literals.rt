@@ -1,11 +1,12 @@
 //! Literals on a box, and the tells that are made of a number.
 
 ghost use Rattle.std.specs.Prelude.{◌≡◌, ◌<◌, ◌≤ℤ◌, pos, ℤ, length};
+ghost use Rattle.interval.specs.Limits.{bound_limit};
 ghost use Rattle.interval.specs.Boxes.{low_of, high_of};
 ghost use Rattle.guarded_tell.specs.Words as words;
 
 use crate::{Lit, Side, Tell};
-use interval::{BoxOf, clamp_bound};
+use interval::{BOUND_LIMIT, BoxOf, clamp_bound};
 
 /// Whether the literal is true where its variable is `value`.
 fn is_true(lit: Lit, value: i64) -> bool
@@ -52,6 +53,14 @@ pub fn high_tell(var: u32, value: i128) -> Tell
         side: Side::High,
         bound: clamp_bound(value),
     }
+}
+
+/// The low of `var` is told the bound past all numbers: no number is left.
+#[tactic(auto, unfolding(interval::specs::Limits::bound_limit, interval::specs::Limits::largest_number))]
+pub fn no_number(var: u32) -> Tell
+    ensures { result ≡ words.low_tell var (pos bound_limit) }
+{
+    low_tell(var, BOUND_LIMIT as i128)
 }
 
 /// The literal is told true.

@@ -5,7 +5,15 @@ ghost use Rattle.guarded_tell.specs.Words.{IsProperIn};
 ghost use Rattle.guarded_tell.specs.Hearing.{MayHearAll, HearsAll};
 ghost use Rattle.guarded_tell.specs.Kernels.{vars_of, tells, IsKernel};
 
+use crate::absolute::visit_abs;
+use crate::clause::visit_clause;
+use crate::element::visit_element;
+use crate::equality::visit_eq;
+use crate::in_set::visit_in_set;
 use crate::linear::visit_le;
+use crate::maximum::visit_max;
+use crate::minimum::visit_min;
+use crate::times::visit_times;
 use crate::{Hear, Kernel};
 use interval::BoxOf;
 
@@ -24,5 +32,18 @@ pub fn visit_tells<H: Hear>(k: &Kernel, b: &BoxOf, h: &mut H)
             vars,
             limit,
         } => visit_le(*lit, coeffs.as_slice(), vars.as_slice(), *limit, b, h),
+        Kernel::Eq {
+            lit,
+            coeffs,
+            vars,
+            limit,
+        } => visit_eq(*lit, coeffs.as_slice(), vars.as_slice(), *limit, b, h),
+        Kernel::Times { x, y, z } => visit_times(*x, *y, *z, b, h),
+        Kernel::Abs { x, y } => visit_abs(*x, *y, b, h),
+        Kernel::Max { m, xs } => visit_max(*m, xs.as_slice(), b, h),
+        Kernel::Min { m, xs } => visit_min(*m, xs.as_slice(), b, h),
+        Kernel::Clause { lits } => visit_clause(lits.as_slice(), b, h),
+        Kernel::Element { x, entries, c } => visit_element(*x, entries.as_slice(), *c, b, h),
+        Kernel::InSet { lit, x, ranges } => visit_in_set(*lit, *x, ranges.as_slice(), b, h),
     }
 }

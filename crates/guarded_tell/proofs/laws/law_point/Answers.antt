@@ -6,19 +6,46 @@ use Rattle.interval.specs.Limits.{ClampOrder, IsNumber}
 use Rattle.interval.specs.Quotients.{QuotientOrder}
 use Rattle.interval.specs.Boxes.{Bounds, low_of, IsPoint}
 use Rattle.guarded_tell.specs.declared.kernel.Kernel.{Kernel}
-use Rattle.guarded_tell.specs.declared.kernel.Kernel.TheVariants.{Le}
+use Rattle.guarded_tell.specs.declared.kernel.Kernel.TheVariants.{Le, Eq, Times, Abs, Max, Min, Clause, Element, InSet}
 use Rattle.guarded_tell.specs.Words.{Keeps, IsProperIn, point_of, AreVariables}
 use Rattle.guarded_tell.specs.Kernels.{vars_of, tells, Holds, HasNumbers}
 use Rattle.guarded_tell.proofs.LePoint.{le_closed_holds, le_holds_closed}
+use Rattle.guarded_tell.proofs.EqualityPoint.{eq_closed_holds, eq_holds_closed}
+use Rattle.guarded_tell.proofs.TimesLaws.{IsFixed, times_closed_holds, times_holds_closed}
+use Rattle.guarded_tell.proofs.AbsoluteLaws.{abs_closed_holds, abs_holds_closed}
+use Rattle.guarded_tell.proofs.MaximumLaws.{max_closed_holds, max_holds_closed}
+use Rattle.guarded_tell.proofs.MinimumLaws.{min_closed_holds, min_holds_closed}
+use Rattle.guarded_tell.proofs.ClauseLaws.{clause_closed_holds, clause_holds_closed}
+use Rattle.guarded_tell.proofs.ElementLaws.{element_closed_holds, element_holds_closed}
+use Rattle.guarded_tell.proofs.InSetLaws.{in_set_closed_holds, in_set_holds_closed}
 use Rattle.guarded_tell.proofs.laws.law_point.Goals as goal
+
+fixed_at : (b : Bounds) (v : ℕ) → v < length b → IsPoint b → ((v : ℕ) → v < length b → IsNumber (low_of b v)) → IsFixed b v
+fixed_at b v h point numbers = record { fixed = point v h; low = numbers v h }
 
 closed_holds : QuotientOrder → ClampOrder → (k : Kernel) (b : Bounds) → HasNumbers k → AreVariables (length b) (vars_of k) → IsPoint b → ((v : ℕ) → v < length b → IsNumber (low_of b v)) → All (Keeps b) (tells k b) → Holds k (point_of b)
 unfolding vars_of tells HasNumbers Holds
 closed_holds q c (Le l coeffs vars limit) b n variables point numbers = le_closed_holds q c b l coeffs vars limit n.same_length variables point numbers
+closed_holds q c (Eq l coeffs vars limit) b n variables point numbers = eq_closed_holds q c b l coeffs vars limit n.same_length variables point numbers
+closed_holds q c (Times x y z) b n variables point numbers = times_closed_holds q c b x y z (fixed_at b x (variables.each 0 (omega arith)) point numbers) (fixed_at b y (variables.each 1 (omega arith)) point numbers) (fixed_at b z (variables.each 2 (omega arith)) point numbers)
+closed_holds q c (Abs x y) b n variables point numbers = abs_closed_holds c b x y (point x (variables.each 0 (omega arith))) (point y (variables.each 1 (omega arith))) (numbers x (variables.each 0 (omega arith))) (numbers y (variables.each 1 (omega arith)))
+closed_holds q c (Max m xs) b n variables point numbers = max_closed_holds c b m xs variables point numbers
+closed_holds q c (Min m xs) b n variables point numbers = min_closed_holds c b m xs variables point numbers
+closed_holds q c (Clause lits) b n variables point numbers = clause_closed_holds c b lits variables point numbers
+closed_holds q c (Element x entries z) b n variables point numbers = element_closed_holds c b x z entries variables point numbers
+closed_holds q c (InSet l x ranges) b n variables point numbers = in_set_closed_holds c b l x ranges variables point numbers
 
 holds_closed : QuotientOrder → ClampOrder → (k : Kernel) (b : Bounds) → HasNumbers k → AreVariables (length b) (vars_of k) → IsPoint b → ((v : ℕ) → v < length b → IsNumber (low_of b v)) → Holds k (point_of b) → All (Keeps b) (tells k b)
 unfolding vars_of tells HasNumbers Holds
 holds_closed q c (Le l coeffs vars limit) b n variables point numbers = le_holds_closed q c b l coeffs vars limit n.same_length variables point numbers
+holds_closed q c (Eq l coeffs vars limit) b n variables point numbers = eq_holds_closed q c b l coeffs vars limit n.same_length variables point numbers
+holds_closed q c (Times x y z) b n variables point numbers = times_holds_closed q c b x y z (fixed_at b x (variables.each 0 (omega arith)) point numbers) (fixed_at b y (variables.each 1 (omega arith)) point numbers) (fixed_at b z (variables.each 2 (omega arith)) point numbers)
+holds_closed q c (Abs x y) b n variables point numbers = abs_holds_closed c b x y (point x (variables.each 0 (omega arith))) (point y (variables.each 1 (omega arith))) (numbers x (variables.each 0 (omega arith))) (numbers y (variables.each 1 (omega arith)))
+holds_closed q c (Max m xs) b n variables point numbers = max_holds_closed c b m xs variables point numbers
+holds_closed q c (Min m xs) b n variables point numbers = min_holds_closed c b m xs variables point numbers
+holds_closed q c (Clause lits) b n variables point numbers = clause_holds_closed c b lits variables point
+holds_closed q c (Element x entries z) b n variables point numbers = element_holds_closed c b x z entries variables point numbers
+holds_closed q c (InSet l x ranges) b n variables point numbers = in_set_holds_closed c b l x ranges variables point numbers
 
 proper_point : (vars : List ℕ) (b : Bounds) → AreVariables (length b) vars → IsPoint b → IsProperIn vars b
 proper_point vars b variables point i h = let e = point _ (variables.each i h) in omega (arith, ints)

@@ -17,7 +17,7 @@ hear_product_at_most-requires-clause-hearer g c =
     let same = c.requires.linear.same_length in
     let inside : at < length (zip c.args.coeffs.now c.args.vars.now) = rw (length-zip c.args.coeffs.now c.args.vars.now same) c.loop-i-test.true in
     let P : List Tell → Type 0 = λ ts. MayHearAll g.H.Hear.can_hear g.H.Hear.hears c.loop-i.h ts in
-    let equal = told_at_most c.args.b.now (to_z w64 (of_z w64 c.args.limit)) (to_z w128 (of_z w128 c.args.least)) c.args.coeffs.now c.args.vars.now at c.term_range-term.result.least c.room_at_most-room.result same (c.requires.linear.coefficients at c.loop-i-test.true) c.term_range-term.ensures.least_in_range c.room_at_most-room.ensures.in_range c.term_range-term.ensures.least c.room_at_most-room.ensures.value in
+    let equal = told_at_most c.args.b.now (to_z w64 (of_z w64 c.args.limit)) (to_z w128 (of_z w128 c.args.least)) c.args.coeffs.now c.args.vars.now at c.term_range-term.result.least c.room_for-room.result same (c.requires.linear.coefficients at c.loop-i-test.true) c.term_range-term.ensures.least_in_range c.room_for-room.ensures.in_range c.term_range-term.ensures.least c.room_for-room.ensures.value in
     subst P (sym equal) (leads_may _ _ _ _ _ _ at (pos 0, 0) inside c.loop-i.invariant)
 
 pub loop-i-preserved : goal.loop-i-preserved
@@ -26,7 +26,7 @@ loop-i-preserved g c =
     let same = c.requires.linear.same_length in
     let inside : at < length (zip c.args.coeffs.now c.args.vars.now) = rw (length-zip c.args.coeffs.now c.args.vars.now same) c.loop-i-test.true in
     let P : List Tell → Type 0 = λ ts. HearsAll g.H.Hear.hears c.loop-i.h ts c.hear_product_at_most.new.h in
-    let equal = told_at_most c.args.b.now (to_z w64 (of_z w64 c.args.limit)) (to_z w128 (of_z w128 c.args.least)) c.args.coeffs.now c.args.vars.now at c.term_range-term.result.least c.room_at_most-room.result same (c.requires.linear.coefficients at c.loop-i-test.true) c.term_range-term.ensures.least_in_range c.room_at_most-room.ensures.in_range c.term_range-term.ensures.least c.room_at_most-room.ensures.value in
+    let equal = told_at_most c.args.b.now (to_z w64 (of_z w64 c.args.limit)) (to_z w128 (of_z w128 c.args.least)) c.args.coeffs.now c.args.vars.now at c.term_range-term.result.least c.room_for-room.result same (c.requires.linear.coefficients at c.loop-i-test.true) c.term_range-term.ensures.least_in_range c.room_for-room.ensures.in_range c.term_range-term.ensures.least c.room_for-room.ensures.value in
     leads_next _ _ _ _ _ _ _ at (pos 0, 0) inside c.loop-i.invariant (subst P equal c.hear_product_at_most.ensures)
 
 pub returns : goal.returns

@@ -1,12 +1,12 @@
 -- Reading one pair of a box that was changed, and the width of a pair.
-use Rattle.std.proofs.Common.{◌≡◌, ℕ, zero, suc, ℤ, pos, negsuc, ◌+◌, ◌-ℤ◌, ◌<◌, ◌≤◌, ◌≤ℤ◌, [], ◌∷◌, length, refl, arith, ◌⊎◌, inl, inr, ap}
+use Rattle.std.proofs.Common.{◌≡◌, ℕ, ℤ, pos, negsuc, ◌+◌, ◌-ℤ◌, ◌<◌, ◌≤◌, ◌≤ℤ◌, length, refl, arith, ◌⊎◌, inl, inr, ap}
 use Rattle.std.specs.Prelude.{unsigned_abs}
 use Rattle.std.proofs.Math.ListN.{length-set}
 use Rattle.std.proofs.lemmas.List.{get_or-set_other}
 use Rattle.std.proofs.lemmas.Grind.{get_or-set_at}
 use Rattle.std.proofs.lemmas.Bool.{cases_eq}
-use Rattle.std.proofs.lemmas.Int.{ints, by_lt_z}
-use Rattle.interval.specs.Boxes.{Bounds, low_of, high_of, put_of, IsProper, IsCrossed}
+use Rattle.std.proofs.lemmas.Int.{ints}
+use Rattle.interval.specs.Boxes.{Bounds, low_of, high_of, put_of}
 
 -- a pair of a changed box is the new one at its place, and the old one elsewhere
 pub get_put : (b : Bounds) (v : ℕ) (low high : ℤ) (w : ℕ) → v < length b →
@@ -53,14 +53,3 @@ span_parts low high l h a b c =
     let x : pos (span low l) ≡ l -ℤ low = span_is low l a in
     let y : pos (span h high) ≡ high -ℤ h = span_is h high b in
     omega (arith, ints)
-
-proper_cons : (p : ℤ × ℤ) (b : Bounds) → p.0 ≤ℤ p.1 → IsProper b → IsProper (p ∷ b)
-proper_cons p b c f zero h = c
-proper_cons p b c f (suc v) h = f v (omega arith)
-
--- a box is crossed or proper
-pub crossed_or_proper : (b : Bounds) → IsCrossed b ⊎ IsProper b
-crossed_or_proper [] = inr (λ v h. omega arith)
-crossed_or_proper (p ∷ b) = by_lt_z p.1 p.0
-    (λ c. inl (0, omega arith, c))
-    (λ c. elim (crossed_or_proper b) [ inl x ↦ inl (suc x.0, omega (arith, x.1), x.2) | inr f ↦ inr (proper_cons p b c f) ])

@@ -1,3 +1,4 @@
 pub mod Fixpoints
 pub mod Changes
 pub mod Rounds
+pub mod Greatest

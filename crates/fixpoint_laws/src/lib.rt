@@ -6,5 +6,5 @@ mod settle;
 #[cfg(test)]
 mod tests;
 
-pub use laws::{law_keeps_points, law_one_fixpoint, law_tightens_one};
+pub use laws::{law_greatest_is_computed, law_keeps_points, law_one_fixpoint, law_tightens_one};
 pub use settle::{Settled, settle_alone};

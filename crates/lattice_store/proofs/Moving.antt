@@ -52,5 +52,5 @@ moved before after k n table epoch step seen past inside =
         (λ (t : (b ≡ true) × (slice_index (seen_after before.past b before.seen.items k n) k ≡ n)). let z = subst (λ (l : List ℕ). slice_index l k ≤ n) before.stands.seen_is step.later in let y = t.1 in omega arith)
         (seen_here before.past b before.seen.items k n inside)
 
-pub heard : (before after : Seat) (k n : ℕ) → after.seen.items ≡ seen_after before.past (epoch_of n == before.epoch) before.seen.items k n → after.past ≡ past_after before.past (epoch_of n == before.epoch) → k < length before.seen.items → after.past ≡ false → slice_index after.seen.items k ≡ n
-heard before after k n seen past inside not = ap (λ (l : List ℕ). slice_index l k) seen ∙ new_when_not before.past (epoch_of n == before.epoch) before.seen.items k n inside (sym past ∙ not)
+pub heard : (before : Seat) (seen : List ℕ) (past : Bool) (k n : ℕ) → seen ≡ seen_after before.past (epoch_of n == before.epoch) before.seen.items k n → past ≡ past_after before.past (epoch_of n == before.epoch) → k < length before.seen.items → past ≡ false → slice_index seen k ≡ n
+heard before seen past k n saw turned inside not = ap (λ (l : List ℕ). slice_index l k) saw ∙ new_when_not before.past (epoch_of n == before.epoch) before.seen.items k n inside (sym turned ∙ not)

@@ -1,9 +1,11 @@
 -- What a seat may do.
-use Rattle.std.specs.Prelude.{ℕ, ◌≡◌, ◌≤◌, ◌<◌, ◌+◌, ◌*◌, List, [], length, slice_index, true, false, Option}
-use Rattle.atomic_table.specs.Table.{Me}
+use Rattle.std.specs.Prelude.{ℕ, ◌≡◌, ◌≤◌, ◌<◌, ◌+◌, ◌*◌, max, List, [], length, slice_index, true, false, Option}
+use mathlib.Core.Option as maybe
+use Rattle.atomic_table.specs.Table.{Me, Allows, step}
 use Rattle.atomic_table.specs.Seated.{TableId}
 use Rattle.interval.specs.Boxes.{Bounds}
 use Rattle.lattice_store.specs.Words.{epoch_of, code_of, word_of, IsCode, ceiling, codes_of}
+use Rattle.lattice_store.specs.Rule.{Keeps, told}
 use Rattle.lattice_store.specs.declared.table.View.{View}
 
 -- the word k that a seat may tell: of its epoch, and holding its floor
@@ -11,6 +13,10 @@ pub record MayTell (v : View) (k word : ℕ) : Type 0 where
   pub code : IsCode word
   pub epoch : epoch_of word ≡ v.epoch
   pub held : code_of word ≤ ceiling v.floor k
+
+-- Whatever stands at the place k, the rule is kept where the greater of it and the word stands there then
+abbrev pub MayJoin : ℕ → ℕ → Me ℕ View → ℕ → ℕ → Type 0
+MayJoin slots id me k word = Allows Keeps slots id me k (λ n. max n word) (told (step slots k word 0 maybe.none) me)
 
 -- a seat of an epoch that isn't being opened
 pub record IsReady (v : View) : Type 0 where

@@ -10,6 +10,7 @@ mod make;
 mod open;
 mod seat;
 mod seats;
+mod seen;
 mod steps;
 mod store;
 mod table;

@@ -1,12 +1,13 @@
 //! Single steps on a word.
 
-ghost use Rattle.std.specs.Prelude.{◌≡◌, ◌+◌, ◌*◌, ◌<◌, ◌≤◌, length, slice_index, false};
+ghost use Rattle.std.specs.Prelude.{◌≡◌, ◌+◌, ◌*◌, ◌<◌, ◌≤◌, max, length, slice_index, false};
 ghost use Rattle.lattice_store.specs.Seats.{IsSeatOf, Moved};
-ghost use Rattle.lattice_store.specs.Steps.{MayTell};
+ghost use Rattle.lattice_store.specs.Rule.{Notes};
+ghost use Rattle.lattice_store.specs.Steps.{MayTell, MayJoin};
 
 use crate::seat::{Seat, note};
 use crate::store::Store;
-use crate::table::{Asks, Tells};
+use crate::table::{Asks, Place, Table, Tells};
 
 // The places of the words of a variable's bounds.
 pub(crate) fn low_place(v: u32) -> usize
@@ -19,6 +20,18 @@ pub(crate) fn high_place(v: u32) -> usize
     ensures { result ≡ 2 * v + 2 }
 {
     2 * v as usize + 2
+}
+
+// Joins a word: the greater of the two stands there then. Answers the word that stood there.
+fn join(table: &Table, place: &mut Place, k: usize, word: u64) -> u64
+    requires table { place.old.table_id ≡ table.now.shared.table_id }
+    requires place { k < table.now.shared.table_id.words }
+    requires lawful { MayJoin table.now.shared.table_id.slots place.old.id place.old.me k word }
+    ensures table { place.new.table_id ≡ place.old.table_id }
+    ensures slots { place.new.me.1 ≡ place.old.me.1 }
+    ensures seen { Notes place.old.me.0 k (max result word) place.new.me.0 }
+{
+    table.shared.fetch_max::<Tells>(place, k, word)
 }
 
 impl Store {
@@ -42,10 +55,7 @@ impl Store {
         ensures moved { Moved seat.old seat.new k }
         ensures told { seat.new.past ≡ false → word ≤ slice_index seat.new.seen.items k }
     {
-        let found = self
-            .table
-            .shared
-            .fetch_max::<Tells>(&mut seat.place, k, word);
+        let found = join(&self.table, &mut seat.place, k, word);
         note(
             &mut seat.seen,
             &mut seat.past,

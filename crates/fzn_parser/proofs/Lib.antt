@@ -1,6 +1,11 @@
+pub mod Blocks
+pub mod Existing
 pub mod Inversions
+pub mod ItemForms
 pub mod Lists
 pub mod NoteLists
+pub mod Progress
+pub mod Shallow
 pub mod SoundItems
 pub mod SoundNotes
 pub mod SoundValues

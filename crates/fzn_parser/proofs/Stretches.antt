@@ -5,11 +5,11 @@ use Rattle.fzn_lexer.specs.declared.Token.{Token}
 use Rattle.fzn_parser.specs.declared.cursor.Symbol.{Symbol}
 use Rattle.fzn_parser.specs.Texts.{is_at, first_stretch, before_last, no_more}
 
-first_at : (text : List ℕ) (t : Token) (us : List Token) → is_at Symbol.Semicolon text t ≡ true → first_stretch text (t ∷ us) ≡ t ∷ []
+pub first_at : (text : List ℕ) (t : Token) (us : List Token) → is_at Symbol.Semicolon text t ≡ true → first_stretch text (t ∷ us) ≡ t ∷ []
 unfolding first_stretch
 first_at text t us e = ap (λ b. t ∷ cond b [] (first_stretch text us)) e
 
-first_not : (text : List ℕ) (t : Token) (us : List Token) → is_at Symbol.Semicolon text t ≡ false → first_stretch text (t ∷ us) ≡ t ∷ first_stretch text us
+pub first_not : (text : List ℕ) (t : Token) (us : List Token) → is_at Symbol.Semicolon text t ≡ false → first_stretch text (t ∷ us) ≡ t ∷ first_stretch text us
 unfolding first_stretch
 first_not text t us e = ap (λ b. t ∷ cond b [] (first_stretch text us)) e
 
@@ -36,11 +36,11 @@ pub stretch_out : (text : List ℕ) (ts whole : List Token) (i n : ℕ) → n �
 unfolding first_stretch
 stretch_out text ts whole i n e h inv = sym (inv ∙ ap (λ zs. take n ts ++ first_stretch text zs) (drop_past n ts (omega arith)) ∙ append-nil (take n ts))
 
-last_at : (text : List ℕ) (t : Token) (us : List Token) → is_at Symbol.Semicolon text t ≡ true → before_last text (t ∷ us) ≡ no_more us
+pub last_at : (text : List ℕ) (t : Token) (us : List Token) → is_at Symbol.Semicolon text t ≡ true → before_last text (t ∷ us) ≡ no_more us
 unfolding before_last
 last_at text t us e = ap (λ b. cond b (no_more us) (option_map (λ vs. t ∷ vs) (before_last text us))) e
 
-last_not : (text : List ℕ) (t : Token) (us : List Token) → is_at Symbol.Semicolon text t ≡ false → before_last text (t ∷ us) ≡ option_map (λ vs. t ∷ vs) (before_last text us)
+pub last_not : (text : List ℕ) (t : Token) (us : List Token) → is_at Symbol.Semicolon text t ≡ false → before_last text (t ∷ us) ≡ option_map (λ vs. t ∷ vs) (before_last text us)
 unfolding before_last
 last_not text t us e = ap (λ b. cond b (no_more us) (option_map (λ vs. t ∷ vs) (before_last text us))) e
 

@@ -1,17 +1,12 @@
--- The turns of the loop over stretches.
-use Rattle.std.proofs.Common.{◌≡◌, ℕ, zero, suc, true, false, cond, map, Option, option_map, drop-drop, length-drop, ◌-◌, ◌+◌, ◌<◌, ◌≤◌, List, [], ◌∷◌, ◌++◌, Some, None, length, take, drop, sym, ap, ◌∙◌, subst, refl, arith}
+-- What a stretch is read as, case by case.
+use Rattle.std.proofs.Common.{◌≡◌, ℕ, zero, suc, true, false, cond, map, Option, option_map, drop-drop, length-drop, ◌-◌, ◌+◌, ◌<◌, ◌≤◌, List, [], ◌∷◌, ◌++◌, None, length, take, drop, sym, ap, ◌∙◌, refl, arith}
 use Rattle.fzn_lexer.specs.declared.Token.{Token}
 use Rattle.fzn_parser.specs.declared.cursor.Symbol.{Symbol}
 use Rattle.fzn_parser.specs.declared.cursor.Lexeme.{Lexeme}
 use Rattle.fzn_parser.specs.Items.{WhatTree, predicate_item, whole_at}
-use Rattle.fzn_parser.specs.Texts.{lexeme_of, is_at, first_stretch, before_last}
-use Rattle.fzn_parser.specs.Parsing.{ItemTree, placed, max_depth, item_at, ReadsUpTo}
-
-pub reads_more : (text : List ℕ) (items : List ItemTree) (item : ItemTree) (left more tokens : List Token) → ReadsUpTo text items left tokens → left ≡ first_stretch text left ++ more → item_at text (first_stretch text left) ≡ Some item → ReadsUpTo text (items ++ item ∷ []) more tokens
-reads_more text [] item left more tokens r c e =
-    let P : List Token → Type 0 = λ ts. ReadsUpTo text (item ∷ []) more ts in
-    subst P (sym r) (more, c, e, refl)
-reads_more text (i ∷ items) item left more tokens r c e = (r.0, r.1, r.2, reads_more text items item left more r.0 r.3 c e)
+use Rattle.fzn_parser.specs.Texts.{lexeme_of, is_at, before_last}
+use Rattle.fzn_parser.specs.Parsing.{placed, max_depth}
+use Rattle.fzn_parser.specs.Stretches.{item_at}
 
 pub take_drop_same : {A : Type 0} (n : ℕ) (xs : List A) → xs ≡ take n xs ++ drop n xs
 take_drop_same zero xs = refl
@@ -44,10 +39,3 @@ pub item_empty : (text : List ℕ) (ts : List Token) → length ts < 1 → item_
 unfolding item_at
 item_empty text [] h = refl
 item_empty text (t ∷ ts) h = absurd (omega arith)
-
--- one more stretch behind those up to `start`
-pub reads_on : (text : List ℕ) (tokens stretch : List Token) (items : List ItemTree) (item : ItemTree) (start len : ℕ) → ReadsUpTo text items (drop start tokens) tokens → stretch ≡ first_stretch text (drop start tokens) → stretch ≡ take len (drop start tokens) → item_at text stretch ≡ Some item → ReadsUpTo text (items ++ item ∷ []) (drop (start + len) tokens) tokens
-reads_on text tokens stretch items item start len r e f g =
-    let cut : drop start tokens ≡ first_stretch text (drop start tokens) ++ drop (start + len) tokens =
-    take_drop_same len (drop start tokens) ∙ ap (λ ts. ts ++ drop len (drop start tokens)) (sym f ∙ e) ∙ ap (λ ts. first_stretch text (drop start tokens) ++ ts) (sym (drop_sum start len tokens)) in
-    reads_more text items item _ _ tokens r cut (ap (item_at text) (sym e) ∙ g)

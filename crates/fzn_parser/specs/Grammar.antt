@@ -25,10 +25,14 @@ separated print (x ∷ xs) = print x ++ further print xs
 abbrev pub print_int : Token → List Lexeme
 print_int t = Lexeme.Kept Class.Int t ∷ []
 
+-- `low..high`, or integers in braces
 abbrev pub print_set : SetLit → List Lexeme
-print_set (SetLit.Range low high) = Lexeme.Kept Class.Int low ∷ Lexeme.Fixed Symbol.DotDot ∷ Lexeme.Kept Class.Int high ∷ []
-print_set (SetLit.Braces values) = Lexeme.Fixed Symbol.BraceOpen ∷ (separated print_int values ++ Lexeme.Fixed Symbol.BraceClose ∷ [])
+print_set (SetLit.Range low high) =
+    Lexeme.Kept Class.Int low ∷ Lexeme.Fixed Symbol.DotDot ∷ Lexeme.Kept Class.Int high ∷ []
+print_set (SetLit.Braces values) =
+    Lexeme.Fixed Symbol.BraceOpen ∷ (separated print_int values ++ Lexeme.Fixed Symbol.BraceClose ∷ [])
 
+-- `true`, `false`, a literal, a name or a set
 abbrev pub print_elem : Elem → List Lexeme
 print_elem Elem.True = Lexeme.Fixed Symbol.True ∷ []
 print_elem Elem.False = Lexeme.Fixed Symbol.False ∷ []
@@ -37,10 +41,14 @@ print_elem (Elem.Float t) = Lexeme.Kept Class.Float t ∷ []
 print_elem (Elem.Name t) = Lexeme.Kept Class.Name t ∷ []
 print_elem (Elem.Set s) = print_set s
 
+-- an element, or elements in square brackets
 abbrev pub print_expr : Expr → List Lexeme
 print_expr (Expr.One e) = print_elem e
-print_expr (Expr.Row es) = Lexeme.Fixed Symbol.BracketOpen ∷ (separated print_elem es ++ Lexeme.Fixed Symbol.BracketClose ∷ [])
+print_expr (Expr.Row es) =
+    Lexeme.Fixed Symbol.BracketOpen ∷ (separated print_elem es ++ Lexeme.Fixed Symbol.BracketClose ∷ [])
 
+-- an annotation is a name, or a name with arguments in parentheses; an argument is an annotation, `true`, `false`, a
+-- literal, a set, or arguments in square brackets
 abbrev mutual
   pub print_arg : ArgTree → List Lexeme
   print_arg (note_arg a) = print_ann a
@@ -54,7 +62,8 @@ abbrev mutual
 
   pub print_ann : AnnTree → List Lexeme
   print_ann (bare name) = Lexeme.Kept Class.Name name ∷ []
-  print_ann (called name args) = Lexeme.Kept Class.Name name ∷ Lexeme.Fixed Symbol.ParenOpen ∷ (print_args args ++ Lexeme.Fixed Symbol.ParenClose ∷ [])
+  print_ann (called name args) =
+      Lexeme.Kept Class.Name name ∷ Lexeme.Fixed Symbol.ParenOpen ∷ (print_args args ++ Lexeme.Fixed Symbol.ParenClose ∷ [])
 
   pub print_args : ArgTrees → List Lexeme
   print_args no_args = []
@@ -64,6 +73,7 @@ abbrev mutual
   print_further no_args = []
   print_further (more_args a rest) = Lexeme.Fixed Symbol.Comma ∷ (print_arg a ++ print_further rest)
 
+-- each annotation behind `::`
 abbrev pub print_notes : List AnnTree → List Lexeme
 print_notes [] = []
 print_notes (a ∷ rest) = Lexeme.Fixed Symbol.DoubleColon ∷ (print_ann a ++ print_notes rest)
@@ -88,6 +98,7 @@ abbrev mutual
   depth_args no_args = 0
   depth_args (more_args a rest) = max (depth_arg a) (depth_args rest)
 
+-- a declared type: of a parameter, or behind `var` of a variable
 abbrev pub print_shape : Shape → List Lexeme
 print_shape Shape.Bool = Lexeme.Fixed Symbol.Bool ∷ []
 print_shape Shape.Int = Lexeme.Fixed Symbol.Int ∷ []
@@ -97,14 +108,18 @@ print_shape Shape.VarBool = Lexeme.Fixed Symbol.Var ∷ Lexeme.Fixed Symbol.Bool
 print_shape Shape.VarInt = Lexeme.Fixed Symbol.Var ∷ Lexeme.Fixed Symbol.Int ∷ []
 print_shape Shape.VarFloat = Lexeme.Fixed Symbol.Var ∷ Lexeme.Fixed Symbol.Float ∷ []
 print_shape (Shape.VarIn s) = Lexeme.Fixed Symbol.Var ∷ print_set s
-print_shape (Shape.VarFloats low high) = Lexeme.Fixed Symbol.Var ∷ Lexeme.Kept Class.Float low ∷ Lexeme.Fixed Symbol.DotDot ∷ Lexeme.Kept Class.Float high ∷ []
-print_shape Shape.VarSet = Lexeme.Fixed Symbol.Var ∷ Lexeme.Fixed Symbol.Set ∷ Lexeme.Fixed Symbol.Of ∷ Lexeme.Fixed Symbol.Int ∷ []
+print_shape (Shape.VarFloats low high) =
+    Lexeme.Fixed Symbol.Var ∷ Lexeme.Kept Class.Float low ∷ Lexeme.Fixed Symbol.DotDot ∷ Lexeme.Kept Class.Float high ∷ []
+print_shape Shape.VarSet =
+    Lexeme.Fixed Symbol.Var ∷ Lexeme.Fixed Symbol.Set ∷ Lexeme.Fixed Symbol.Of ∷ Lexeme.Fixed Symbol.Int ∷ []
 print_shape (Shape.VarSetIn s) = Lexeme.Fixed Symbol.Var ∷ Lexeme.Fixed Symbol.Set ∷ Lexeme.Fixed Symbol.Of ∷ print_set s
 
+-- `=` and an expression, or nothing
 abbrev pub print_value : Option Expr → List Lexeme
 print_value None = []
 print_value (Some e) = Lexeme.Fixed Symbol.Equals ∷ print_expr e
 
+-- `satisfy`, or `minimize` or `maximize` and an expression
 abbrev pub print_aim : Aim → List Lexeme
 print_aim Aim.Satisfy = Lexeme.Fixed Symbol.Satisfy ∷ []
 print_aim (Aim.Minimize e) = Lexeme.Fixed Symbol.Minimize ∷ print_expr e
@@ -114,15 +129,18 @@ print_aim (Aim.Maximize e) = Lexeme.Fixed Symbol.Maximize ∷ print_expr e
 abbrev pub print_named : Token → List AnnTree → List Lexeme
 print_named name notes = Lexeme.Fixed Symbol.Colon ∷ Lexeme.Kept Class.Name name ∷ print_notes notes
 
--- an item but its semicolon; a predicate item is written by the tokens that it keeps, which are told apart elsewhere
+-- an item but its semicolon; a predicate item keeps its tokens as they stand, and `toks` writes it
 abbrev pub print_what : WhatTree → List Lexeme
 print_what (predicate_item tokens) = []
 print_what (scalar_item shape name notes value) = print_shape shape ++ (print_named name notes ++ print_value value)
 print_what (array_item low high shape name notes value) =
-    Lexeme.Fixed Symbol.Array ∷ Lexeme.Fixed Symbol.BracketOpen ∷ Lexeme.Kept Class.Int low ∷ Lexeme.Fixed Symbol.DotDot ∷ Lexeme.Kept Class.Int high ∷ Lexeme.Fixed Symbol.BracketClose ∷ Lexeme.Fixed Symbol.Of
+    Lexeme.Fixed Symbol.Array ∷ Lexeme.Fixed Symbol.BracketOpen
+    ∷ Lexeme.Kept Class.Int low ∷ Lexeme.Fixed Symbol.DotDot ∷ Lexeme.Kept Class.Int high
+    ∷ Lexeme.Fixed Symbol.BracketClose ∷ Lexeme.Fixed Symbol.Of
     ∷ (print_shape shape ++ (print_named name notes ++ (Lexeme.Fixed Symbol.Equals ∷ print_expr value)))
 print_what (constraint_item name args notes) =
-    Lexeme.Fixed Symbol.Constraint ∷ Lexeme.Kept Class.Name name ∷ Lexeme.Fixed Symbol.ParenOpen ∷ (separated print_expr args ++ (Lexeme.Fixed Symbol.ParenClose ∷ print_notes notes))
+    Lexeme.Fixed Symbol.Constraint ∷ Lexeme.Kept Class.Name name
+    ∷ Lexeme.Fixed Symbol.ParenOpen ∷ (separated print_expr args ++ (Lexeme.Fixed Symbol.ParenClose ∷ print_notes notes))
 print_what (solve_item notes aim) = Lexeme.Fixed Symbol.Solve ∷ (print_notes notes ++ print_aim aim)
 
 -- in none of these annotations are more than so many brackets open at once

@@ -2,6 +2,8 @@ pub mod Grammar
 pub mod Items
 pub mod Notes
 pub mod Parsing
+pub mod Printer
 pub mod Reading
+pub mod Stretches
 pub mod Terminals
 pub mod Texts

@@ -1,11 +1,11 @@
 -- The items of a text, and where a text has none.
-use Rattle.std.specs.Prelude.{◌≡◌, ℕ, List, [], ◌∷◌, ◌++◌, map, cond, Option, Some, None, option_map}
+use Rattle.std.specs.Prelude.{◌≡◌, ℕ, List, [], ◌∷◌, ◌++◌}
 use Rattle.fzn_lexer.specs.declared.Token.{Token}
-use Rattle.fzn_parser.specs.declared.cursor.Symbol.{Symbol}
 use Rattle.fzn_parser.specs.declared.tree.Item.{Item}
 use Rattle.fzn_parser.specs.declared.ParseError.{ParseError}
-use Rattle.fzn_parser.specs.Items.{WhatTree, predicate_item, what_tree, whole_at}
-use Rattle.fzn_parser.specs.Texts.{lexeme_of, is_at, first_stretch, before_last}
+use Rattle.fzn_parser.specs.Items.{WhatTree, what_tree}
+use Rattle.fzn_parser.specs.Texts.{first_stretch}
+use Rattle.fzn_parser.specs.Printer.{toks, MatchesAll, NestsWithin, IsOfGrammar}
 
 -- an item with its place, its annotations as trees
 pub record ItemTree : Type 0 where
@@ -22,31 +22,35 @@ placed first what = record { from = first.from; what = what }
 abbrev pub max_depth : ℕ
 max_depth = 64
 
--- the item that these tokens read as
-unfoldable pub item_at : List ℕ → List Token → Option ItemTree
-item_at text [] = None
-item_at text (first ∷ more) = cond (is_at Symbol.Predicate text first)
-    (option_map (λ kept. placed first (predicate_item kept)) (before_last text more))
-    (option_map (λ what. placed first what) (whole_at max_depth (map (lexeme_of text) (first ∷ more))))
+-- the first of the tokens begins at the byte `at`
+abbrev pub BeginsAt : ℕ → List Token → Type 0
+BeginsAt at [] = ⊥
+BeginsAt at (first ∷ more) = at ≡ first.from
 
--- the tokens are stretches, each up to and with its semicolon, that read as these items, and then `left`
-abbrev pub ReadsUpTo : List ℕ → List ItemTree → List Token → List Token → Type 0
-ReadsUpTo text [] left tokens = tokens ≡ left
-ReadsUpTo text (item ∷ items) left tokens = (more : List Token) × (tokens ≡ first_stretch text tokens ++ more)
-    × (item_at text (first_stretch text tokens) ≡ Some item) × ReadsUpTo text items left more
+-- the tokens read as the item: they are what the grammar writes for it, and the first of them begins where the item does
+pub record ReadsAsItem (text : List ℕ) (tokens : List Token) (item : ItemTree) : Type 0 where
+  pub of_grammar : IsOfGrammar item.what
+  pub written : MatchesAll text (toks item.what) tokens
+  pub nested : NestsWithin max_depth text tokens item.what
+  pub place : BeginsAt item.from tokens
 
--- the tokens read as these items
+-- the tokens read as these items: they are the tokens of the first, then those of the second, and so on
 abbrev pub ReadsAs : List ℕ → List Token → List ItemTree → Type 0
-ReadsAs text tokens items = ReadsUpTo text items [] tokens
+ReadsAs text tokens [] = tokens ≡ []
+ReadsAs text tokens (item ∷ items) = (front : List Token) × (more : List Token) × (tokens ≡ front ++ more)
+    × ReadsAsItem text front item × ReadsAs text more items
 
--- after some items a stretch that reads as none begins at the byte `at`
+-- after some items the stretch of tokens that begins at the byte `at`, up to and with its semicolon or to the end,
+-- reads as no item
 pub record FaultsAt (text : List ℕ) (tokens : List Token) (at : ℕ) : Type 0 where
-  pub items : List ItemTree
+  pub front : List Token
   pub first : Token
   pub more : List Token
-  pub before : ReadsUpTo text items (first ∷ more) tokens
+  pub cut : tokens ≡ front ++ first ∷ more
+  pub items : List ItemTree
+  pub before : ReadsAs text front items
   pub place : at ≡ first.from
-  pub refused : item_at text (first_stretch text (first ∷ more)) ≡ None
+  pub refused : (item : ItemTree) → ReadsAsItem text (first_stretch text (first ∷ more)) item → ⊥
 
 -- why `parse` may answer this error; memory may be refused at any time
 abbrev pub IsCause : List ℕ → List Token → ParseError → Type 0

@@ -13,7 +13,8 @@ mod values;
 
 ghost use Rattle.std.specs.Prelude.{◌≡◌, ◌≤◌, ◌<◌, ◌++◌, ◌∷◌, [], length, map, take, drop, true, false, IfOk, MatchResult};
 ghost use Rattle.fzn_parser.specs.Texts.{is_at};
-ghost use Rattle.fzn_parser.specs.Parsing.{item_tree, item_at, ReadsAs, IsCause};
+ghost use Rattle.fzn_parser.specs.Parsing.{item_tree, ReadsAs, IsCause};
+ghost use Rattle.fzn_parser.specs.Stretches.{item_at};
 
 use cursor::{Stop, Symbol};
 use fzn_lexer::Token;

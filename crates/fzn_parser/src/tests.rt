@@ -1,5 +1,7 @@
-//! Small texts whose words stand apart by blanks, so that a token is a word.
+//! Small texts whose words stand apart by blanks, so that a token is a word. What is expected was worked out by hand
+//! from the grammar.
 
+use crate::tree::{Aim, Elem, Expr, Item, SetLit, What};
 use crate::{ParseError, parse};
 use fzn_lexer::{Kind, Token};
 use std::alloc::{AllocError, Global};
@@ -30,7 +32,7 @@ fn tokens_of(alloc: Global, text: &[u8]) -> Result<Vec<Token>, AllocError> {
     Ok(tokens)
 }
 
-// How many items the text has, or the place of its fault as one below 0.
+// How many items the text has, or the place of its fault.
 fn outcome(alloc: Global, text: &str) -> Result<(usize, Option<usize>), AllocError> {
     let tokens = tokens_of(alloc, text.as_bytes())?;
     match parse(alloc, text.as_bytes(), tokens.as_slice()) {
@@ -41,50 +43,128 @@ fn outcome(alloc: Global, text: &str) -> Result<(usize, Option<usize>), AllocErr
 }
 
 #[test]
-fn texts_are_taken_or_refused_at_their_fault(rt: HostRuntime) -> Result<(), Fail> {
+fn each_production_is_taken(rt: HostRuntime) -> Result<(), Fail> {
     let taken = [
         ("", 0),
+        // predicate
         ("predicate ; ", 1),
-        ("predicate p ( ( [ [ { x , ; ", 1),
-        ("bool : b = true ; ", 1),
-        ("set of int : s = { } ; set of int : t = 1 .. 3 ; ", 2),
-        ("float : f = 1.5 ; ", 1),
         (
-            "var bool : b ; var int : i :: is_defined_var ; var float : f ; ",
-            3,
-        ),
-        (
-            "var 1 .. 9 : i ; var { 1 , 3 } : j = 3 ; var 1.5 .. 2.5 : f ; ",
-            3,
-        ),
-        ("var set of int : s ; var set of 1 .. 3 : t ; ", 2),
-        (
-            "array [ 1 .. 2 ] of var int : a :: x ( [ 1 .. 2 ] ) = [ x , 2 ] ; ",
+            "predicate p ( var int : x , ] } ) : : satisfy = 1.5 \"t\" ; ",
             1,
         ),
+        // a parameter of each type, with an expression of each kind
+        ("bool : b = true ; bool : c = false ; ", 2),
+        ("int : i = 3 ; int : j = i ; ", 2),
+        ("float : f = 1.5 ; float : g = f ; ", 2),
+        (
+            "set of int : s = { } ; set of int : t = 1 .. 3 ; set of int : u = { 3 , 1 , 3 } ; ",
+            3,
+        ),
+        ("int : i = [ ] ; ", 1),
+        // a variable of each type, without a value and with one
+        ("var bool : b ; var bool : c = b ; ", 2),
+        ("var int : i ; var int : j :: is_defined_var = 3 ; ", 2),
+        ("var float : f ; var float : g = 1.5 ; ", 2),
+        ("var 1 .. 9 : i ; var { } : j ; var { 1 , 3 } : k = 3 ; ", 3),
+        ("var 1.5 .. 2.5 : f ; ", 1),
+        (
+            "var set of int : s ; var set of 1 .. 3 : t ; var set of { 1 , 3 } : u = { 1 } ; ",
+            3,
+        ),
+        // arrays
         ("array [ 1 .. 0 ] of int : a = [ ] ; ", 1),
+        (
+            "array [ 1 .. 2 ] of var int : a :: x ( [ 1 .. 2 ] ) :: y = [ x , 2 ] ; ",
+            1,
+        ),
+        (
+            "array [ 1 .. 2 ] of var set of 1 .. 3 : a = [ { } , s ] ; array [ 1 .. 1 ] of bool : b = c ; ",
+            2,
+        ),
+        // constraints
         ("constraint c ( ) ; ", 1),
         (
-            "constraint c ( [ ] , { } , 1 .. 2 , true , x ) :: d ( e ( ) , \"t\" , [ ] ) :: f ; ",
+            "constraint c ( [ ] , { } , 1 .. 2 , { 1 , 2 } , true , false , 1 , 1.5 , x ) ; ",
             1,
         ),
+        (
+            "constraint c ( [ true , 1 , 1.5 , x , 1 .. 2 , { } ] , [ y ] ) :: d :: e ; ",
+            1,
+        ),
+        // solve
         ("solve satisfy ; ", 1),
-        ("solve :: s ( a , b ) minimize x ; solve maximize 3 ; ", 2),
+        (
+            "solve :: s ( a , b ) :: t minimize x ; solve maximize 3 ; solve minimize [ x ] ; ",
+            3,
+        ),
+        // annotations and their arguments, nested
+        (
+            "constraint c ( ) :: d ( ) :: e ( [ ] ) :: f ( g ( ) , h ) ; ",
+            1,
+        ),
+        (
+            "solve :: a ( true , false , 1 , 1.5 , \"t\" , 1 .. 2 , { } , { 3 , 1 } , n ) satisfy ; ",
+            1,
+        ),
+        (
+            "solve :: a ( [ b ( [ c ( d , [ ] ) , [ [ \"t\" ] ] ] ) , e ] , f ( g ) ) satisfy ; ",
+            1,
+        ),
     ];
     for (text, items) in taken {
         assert_eq!(rt; outcome(rt.alloc(), text)?, (items, None));
     }
+    Ok(())
+}
+
+#[test]
+fn what_the_grammar_does_not_write_is_refused_at_its_stretch(rt: HostRuntime) -> Result<(), Fail> {
     let refused = [
-        ("var int : x solve satisfy ; ", 0),
-        ("solve satisfy ; var int : x = ", 16),
+        // stretches: the third of five, the end inside an item, no semicolon before `solve`
         (
             "var int : a ; var int : b ; var int ; var : d ; solve satisfy ; ",
             28,
         ),
-        ("int : x ; ", 0),
-        ("constraint c ( { 1 , } ) ; ", 0),
-        ("var int : var ; ", 0),
+        ("solve satisfy ; var int : x = ", 16),
+        ("solve satisfy ; predicate p ( ", 16),
+        ("var int : y ; var int : x solve satisfy ; ", 14),
         ("; ", 0),
+        ("solve satisfy ; ; ", 16),
+        // a parameter and an array have a value
+        ("int : x ; ", 0),
+        ("array [ 1 .. 2 ] of var int : a ; ", 0),
+        ("var int : x = ; ", 0),
+        // types
+        ("set of bool : s = { } ; ", 0),
+        ("1 .. 3 : i = 1 ; ", 0),
+        ("var 1.5 .. 2 : f ; ", 0),
+        ("var set of bool : s ; ", 0),
+        ("array [ x .. 2 ] of int : a = [ ] ; ", 0),
+        ("array [ int ] of int : a = [ ] ; ", 0),
+        // keywords are no names
+        ("var int : var ; ", 0),
+        ("constraint solve ( ) ; ", 0),
+        ("solve :: satisfy satisfy ; ", 0),
+        // expressions
+        ("constraint c ( [ [ 1 ] ] ) ; ", 0),
+        ("constraint c ( \"t\" ) ; ", 0),
+        ("constraint c ( { x } ) ; ", 0),
+        ("constraint c ( x .. 2 ) ; ", 0),
+        // lists
+        ("constraint c ( { 1 , } ) ; ", 0),
+        ("constraint c ( x , ) ; ", 0),
+        ("constraint c ( [ x , ] ) ; ", 0),
+        ("constraint c ( , x ) ; ", 0),
+        ("constraint c ( x y ) ; ", 0),
+        ("solve :: a ( b , ) satisfy ; ", 0),
+        // solve and annotations
+        ("solve ; ", 0),
+        ("solve minimize ; ", 0),
+        ("solve satisfy x ; ", 0),
+        ("constraint c ; ", 0),
+        ("constraint c ( ) : : d ; ", 0),
+        ("constraint c ( ) :: d ( ) ( ) ; ", 0),
+        ("constraint c ( ) :: \"t\" ; ", 0),
     ];
     for (text, at) in refused {
         assert_eq!(rt; outcome(rt.alloc(), text)?, (0, Some(at)));
@@ -92,25 +172,145 @@ fn texts_are_taken_or_refused_at_their_fault(rt: HostRuntime) -> Result<(), Fail
     Ok(())
 }
 
-fn nested(alloc: Global, depth: usize) -> Result<String, AllocError> {
+// The words around and inside some pairs of brackets.
+#[derive(Clone, Copy)]
+struct Frame {
+    before: &'static str,
+    opening: &'static str,
+    middle: &'static str,
+    closing: &'static str,
+    after: &'static str,
+}
+
+fn nested(alloc: Global, frame: &Frame, depth: usize) -> Result<String, AllocError> {
     let mut text = String::new(alloc);
-    text.push_str("solve ")?;
-    text.push_str(":: a ")?;
+    text.push_str(frame.before)?;
     for _ in 0..depth {
-        text.push_str("( a ")?;
+        text.push_str(frame.opening)?;
     }
+    text.push_str(frame.middle)?;
     for _ in 0..depth {
-        text.push_str(") ")?;
+        text.push_str(frame.closing)?;
     }
-    text.push_str("satisfy ; ")?;
+    text.push_str(frame.after)?;
     Ok(text)
+}
+
+fn nested_outcome(
+    alloc: Global,
+    frame: &Frame,
+    depth: usize,
+) -> Result<(usize, Option<usize>), AllocError> {
+    let text = nested(alloc, frame, depth)?;
+    outcome(alloc, text.as_str())
 }
 
 #[test]
 fn sixty_four_brackets_are_taken_and_one_more_is_not(rt: HostRuntime) -> Result<(), Fail> {
-    let taken = nested(rt.alloc(), 64)?;
-    assert_eq!(rt; outcome(rt.alloc(), taken.as_str())?, (1, None));
-    let refused = nested(rt.alloc(), 65)?;
-    assert_eq!(rt; outcome(rt.alloc(), refused.as_str())?, (0, Some(0)));
+    let parens = Frame {
+        before: "solve :: a ",
+        opening: "( a ",
+        middle: "",
+        closing: ") ",
+        after: "satisfy ; ",
+    };
+    assert_eq!(rt; nested_outcome(rt.alloc(), &parens, 64)?, (1, None));
+    assert_eq!(rt; nested_outcome(rt.alloc(), &parens, 65)?, (0, Some(0)));
+    // one more bracket stands around these, and the innermost hold braces, which don't count, or nothing
+    let braces = Frame {
+        before: "solve :: a ( ",
+        opening: "[ ",
+        middle: "{ 1 } ",
+        closing: "] ",
+        after: ") satisfy ; ",
+    };
+    assert_eq!(rt; nested_outcome(rt.alloc(), &braces, 63)?, (1, None));
+    let empty = Frame {
+        middle: "",
+        ..braces
+    };
+    assert_eq!(rt; nested_outcome(rt.alloc(), &empty, 63)?, (1, None));
+    assert_eq!(rt; nested_outcome(rt.alloc(), &empty, 64)?, (0, Some(0)));
+    Ok(())
+}
+
+#[test]
+fn brackets_side_by_side_and_in_a_predicate_are_free(rt: HostRuntime) -> Result<(), Fail> {
+    let side_by_side = Frame {
+        before: "solve ",
+        opening: ":: a ( ) ",
+        middle: "",
+        closing: "",
+        after: "satisfy ; ",
+    };
+    assert_eq!(rt; nested_outcome(rt.alloc(), &side_by_side, 70)?, (1, None));
+    let predicate = Frame {
+        before: "predicate p ",
+        opening: "( [ ",
+        middle: "",
+        closing: "] ) ",
+        after: "; ",
+    };
+    assert_eq!(rt; nested_outcome(rt.alloc(), &predicate, 70)?, (1, None));
+    Ok(())
+}
+
+// The first bytes of what an expression keeps, entry by entry.
+fn places(alloc: Global, expr: &Expr) -> Result<Vec<usize>, AllocError> {
+    let entries = match expr {
+        Expr::One(_) => &[],
+        Expr::Row(entries) => entries.as_slice(),
+    };
+    let mut places = Vec::new(alloc);
+    for entry in entries {
+        match entry {
+            Elem::True | Elem::False => places.push(0)?,
+            Elem::Int(token) | Elem::Float(token) | Elem::Name(token) => places.push(token.from)?,
+            Elem::Set(SetLit::Range(low, high)) => {
+                places.push(low.from)?;
+                places.push(high.from)?;
+            }
+            Elem::Set(SetLit::Braces(_)) => places.push(1)?,
+        }
+    }
+    Ok(places)
+}
+
+// The first bytes of an item and of what it keeps.
+fn item_places(alloc: Global, item: &Item) -> Result<Vec<usize>, AllocError> {
+    let mut found = Vec::new(alloc);
+    found.push(item.from)?;
+    match &item.what {
+        What::Predicate(kept) => {
+            for token in kept.as_slice() {
+                found.push(token.from)?;
+            }
+        }
+        What::Solve {
+            aim: Aim::Maximize(objective),
+            ..
+        } => {
+            for place in &places(alloc, objective)? {
+                found.push(*place)?;
+            }
+        }
+        _ => found.push(1)?,
+    }
+    Ok(found)
+}
+
+#[test]
+fn what_an_item_keeps_stands_in_its_place(rt: HostRuntime) -> Result<(), Fail> {
+    let text = "predicate p ; solve maximize [ x , 1 .. 3 , true , 2.5 ] ; ";
+    let tokens = tokens_of(rt.alloc(), text.as_bytes())?;
+    let Ok(items) = parse(rt.alloc(), text.as_bytes(), tokens.as_slice()) else {
+        return Err(AllocError.into());
+    };
+    let expected = [[0, 10].as_slice(), [14, 31, 35, 40, 0, 51].as_slice()];
+    assert_eq!(rt; items.len(), expected.len());
+    for (item, places) in items.iter().zip(expected) {
+        let found = item_places(rt.alloc(), item)?;
+        assert_eq!(rt; found.as_slice(), places);
+    }
     Ok(())
 }

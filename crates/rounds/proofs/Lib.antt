@@ -1,0 +1,12 @@
+pub mod BoxLaws
+pub mod Stepping
+pub mod Snapshots
+pub mod TellingAll
+pub mod Quietness
+pub mod Keeping
+pub mod Returning
+pub mod Rounding
+pub mod Widths
+pub mod Ending
+pub mod Dealing
+pub mod Examples

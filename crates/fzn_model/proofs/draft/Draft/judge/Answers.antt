@@ -1,0 +1,21 @@
+use Rattle.std.proofs.Common.{◌≡◌, ◌∙◌, ap, subst, ◌++◌, None, length}
+use Rattle.fzn_parser.specs.Items.{what_tree}
+use Rattle.fzn_model.specs.declared.effect.Effect.{Effect}
+use Rattle.fzn_model.specs.Drafts.{seen}
+use Rattle.fzn_model.specs.Effects.{effect_of}
+use Rattle.fzn_model.specs.Faults.{fault_of, own_tests, place_tests, first_kind, Refuses}
+use Rattle.fzn_model.proofs.FaultLaws.{refused_place}
+use Rattle.fzn_model.proofs.draft.Draft.judge.Goals as goal
+
+pub returns-in-Err-place-clause-fault : goal.returns-in-Err-place-clause-fault
+unfolding fault_of
+returns-in-Err-place-clause-fault c =
+    let before = seen c.args.self.now in
+    let what = what_tree c.args.what.now in
+    let own = own_tests c.args.text.now before.scope what in
+    let P : Effect → Type 0 = λ more. Refuses (first_kind (own ++ place_tests before what more)) c.in-Err-place.stop in
+    let f : Refuses (first_kind (place_tests before what c.in-Ok.effect)) c.in-Err-place.stop = c.in-Err-place.ensures.fault in
+    let l : first_kind own ≡ None = c.in-Ok.ensures.lawful in
+    let e : c.in-Ok.effect ≡ effect_of c.args.text.now before.scope (length before.vars) what =
+    c.in-Ok.ensures.effect ∙ ap (λ n. effect_of c.args.text.now before.scope n what) c.len-count.ensures in
+    subst P e (refused_place own (place_tests before what c.in-Ok.effect) c.in-Err-place.stop l f)

@@ -1,0 +1,5 @@
+use Rattle.fzn_model.proofs.WellFormedLaws.{well_formed}
+use Rattle.fzn_model.proofs.resolving.law_well_formed.Goals as goal
+
+pub returns : goal.returns
+returns c = well_formed

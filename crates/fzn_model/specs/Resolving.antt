@@ -1,0 +1,57 @@
+-- The model of a list of items, or their first fault.
+use Rattle.std.specs.Prelude.{◌≡◌, ◌⊎◌, ◌<◌, ℕ, take, slice_index_or, List, length, Some, None}
+use Rattle.fzn_parser.specs.Parsing.{ItemTree}
+use Rattle.fzn_model.specs.declared.model.Phase.{Phase}
+use Rattle.fzn_model.specs.declared.model.Goal.{Goal}
+use Rattle.fzn_model.specs.declared.model.FznModel.{FznModel}
+use Rattle.fzn_model.specs.declared.resolving.ModelError.{ModelError}
+use Rattle.fzn_model.specs.declared.stop.Stop.{Stop}
+use Rattle.fzn_model.specs.Effects.{Reading, reading_of}
+use Rattle.fzn_model.specs.Faults.{fault_of, no_solve}
+
+-- no item has a fault against the items before it
+abbrev pub AreLawful : List ℕ → List ItemTree → Type 0
+AreLawful text items = (k : ℕ) (d : ItemTree) → k < length items → fault_of text (reading_of text (take k items)) (slice_index_or items k d).what ≡ None
+
+-- the model that a reading makes, with what its solve item asks for
+abbrev pub model_with : Reading → List Phase × Goal → FznModel
+model_with r s = record { vars = r.vars; constraints = r.constraints; search = s.0; goal = s.1; output = r.output }
+
+-- a reading with a solve item makes this model
+pub record IsModelWith (r : Reading) (model : FznModel) : Type 0 where
+  pub asked : List Phase × Goal
+  pub solved : r.solved ≡ Some asked
+  pub is_model : model ≡ model_with r asked
+
+-- the items have this model: none has a fault, one of them is a solve item
+pub record IsModelOf (text : List ℕ) (items : List ItemTree) (model : FznModel) : Type 0 where
+  pub lawful : AreLawful text items
+  pub is_model : IsModelWith (reading_of text items) model
+
+-- the item at some place has this fault, and no item before it has one
+pub record IsFirstFault (text : List ℕ) (items : List ItemTree) (kind at : ℕ) : Type 0 where
+  pub place : ℕ
+  pub inside : place < length items
+  pub lawful : AreLawful text (take place items)
+  pub fault : (d : ItemTree) → fault_of text (reading_of text (take place items)) (slice_index_or items place d).what ≡ Some kind
+  pub first_byte : (d : ItemTree) → at ≡ (slice_index_or items place d).from
+
+-- no item has a fault, and none is a solve item; the fault stands at the end of the text
+pub record LacksSolve (text : List ℕ) (items : List ItemTree) (kind at : ℕ) : Type 0 where
+  pub lawful : AreLawful text items
+  pub unsolved : (reading_of text items).solved ≡ None
+  pub is_kind : kind ≡ no_solve
+  pub at_end : at ≡ length text
+
+abbrev pub HasFault : List ℕ → List ItemTree → ℕ → ℕ → Type 0
+HasFault text items kind at = IsFirstFault text items kind at ⊎ LacksSolve text items kind at
+
+-- why `resolve` may answer this error; memory may be refused at any time
+abbrev pub IsCause : List ℕ → List ItemTree → ModelError → Type 0
+IsCause text items (ModelError.Fault kind at) = HasFault text items kind at
+IsCause text items ModelError.NoMemory = Unit {0}
+
+-- the error where the item at this byte isn't taken
+abbrev pub stopped_at : Stop → ℕ → ModelError
+stopped_at (Stop.Fault kind) at = ModelError.Fault kind at
+stopped_at Stop.NoMemory at = ModelError.NoMemory

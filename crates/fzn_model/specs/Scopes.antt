@@ -1,0 +1,75 @@
+-- What names and expressions stand for, against the declarations before them.
+-- (MiniZinc Handbook, FlatZinc: parameter and variable declarations, basic expressions.)
+use Rattle.std.specs.Prelude.{ℕ, ℤ, pos, List, [], ◌∷◌, map, true, false, bytes_eq, find, Option, Some, None, option_map, option_and_then, unwrap_or, Vec}
+use Rattle.std.specs.declared.alloc.Global.{Global}
+use Rattle.fzn_lexer.specs.declared.Token.{Token}
+use Rattle.fzn_parser.specs.declared.tree.SetLit.{SetLit}
+use Rattle.fzn_parser.specs.declared.tree.Elem.{Elem}
+use Rattle.fzn_parser.specs.declared.tree.Expr.{Expr}
+use Rattle.fzn_parser.specs.Texts.{spelling}
+use Rattle.fzn_model.specs.declared.model.Term.{Term}
+use Rattle.fzn_model.specs.declared.scope.Scalar.{Scalar}
+use Rattle.fzn_model.specs.declared.scope.Meaning.{Meaning}
+use Rattle.fzn_model.specs.Numbers.{number_of}
+use Rattle.fzn_model.specs.Ranges.{Range, ranges_of, range_of}
+
+-- the declared names in order, each with what it stands for
+abbrev pub Scope : Type 0
+Scope = List (List ℕ × Meaning)
+
+-- the entries of a map from names, as such a list
+abbrev pub declared_in : List (Vec ℕ Global × Meaning) → Scope
+declared_in entries = map (λ entry. (entry.0.items, entry.1)) entries
+
+-- what a name stands for, where it was declared
+abbrev pub meaning_of : Scope → List ℕ → Option Meaning
+meaning_of scope name = option_map (λ entry. entry.1) (find (λ entry. bytes_eq name entry.0) scope)
+
+-- the number of an integer literal; one that no model has is refused before it counts, and is 0 here
+abbrev pub number_at : List ℕ → Token → ℤ
+number_at text t = unwrap_or (number_of (spelling text t)) (pos 0)
+
+-- the set that a literal writes
+abbrev pub set_at : List ℕ → SetLit → List Range
+set_at text (SetLit.Range low high) = range_of (number_at text low) (number_at text high)
+set_at text (SetLit.Braces values) = ranges_of (map (number_at text) values)
+
+abbrev pub boolean : ℤ → Scalar
+boolean n = record { is_bool = true; term = Term.Number n }
+
+abbrev pub integer : ℤ → Scalar
+integer n = record { is_bool = false; term = Term.Number n }
+
+-- the boolean or the integer that something stands for
+abbrev pub scalar_of : Meaning → Option Scalar
+scalar_of (Meaning.One s) = Some s
+scalar_of (Meaning.Row entries) = None
+scalar_of (Meaning.Set ranges) = None
+
+-- what an array's entry stands for, where it is a boolean or an integer
+abbrev pub entry_at : List ℕ → Scope → Elem → Option Scalar
+entry_at text scope Elem.True = Some (boolean (pos 1))
+entry_at text scope Elem.False = Some (boolean (pos 0))
+entry_at text scope (Elem.Int t) = Some (integer (number_at text t))
+entry_at text scope (Elem.Float t) = None
+entry_at text scope (Elem.Name t) = option_and_then scalar_of (meaning_of scope (spelling text t))
+entry_at text scope (Elem.Set s) = None
+
+-- all of them, where each is there
+abbrev pub all_some : {A : Type 0} → List (Option A) → Option (List A)
+all_some [] = Some []
+all_some (None ∷ os) = None
+all_some (Some x ∷ os) = option_map (λ xs. x ∷ xs) (all_some os)
+
+abbrev pub simple_at : List ℕ → Scope → Elem → Option Meaning
+simple_at text scope Elem.True = Some (Meaning.One (boolean (pos 1)))
+simple_at text scope Elem.False = Some (Meaning.One (boolean (pos 0)))
+simple_at text scope (Elem.Int t) = Some (Meaning.One (integer (number_at text t)))
+simple_at text scope (Elem.Float t) = None
+simple_at text scope (Elem.Name t) = meaning_of scope (spelling text t)
+simple_at text scope (Elem.Set s) = Some (Meaning.Set (set_at text s))
+
+-- what an expression stands for, where it is a boolean, an integer, an array of these or a set
+unfoldable pub expr_meaning : List ℕ → Scope → Expr → Option Meaning
+expr_meaning text scope (Expr.One e) = simple_at text scope e
+expr_meaning text scope (Expr.Row es) = option_map Meaning.Row (all_some (map (entry_at text scope) es))

@@ -1,0 +1,166 @@
+//! What the declaration of an array adds.
+
+ghost use Rattle.std.specs.Prelude.{◌≡◌, ℕ, true, false, length, map, pos, IfOk, IfErr, OnOk};
+ghost use Rattle.fzn_parser.specs.Notes.{ann_tree};
+ghost use Rattle.fzn_model.specs.Effects as effects;
+ghost use Rattle.fzn_model.specs.Faults as faults;
+ghost use Rattle.fzn_model.specs.Scopes as scopes;
+
+use crate::domains::element_constraints;
+use crate::effect::Effect;
+use crate::exprs::{expr_meaning, spelling};
+use crate::kinds::WRONG_ARGUMENT;
+use crate::model::{Output, Term};
+use crate::numbers::number_of;
+use crate::outputs::output_ranges;
+use crate::scalars::{copy_name, named};
+use crate::scope::{Meaning, Scalar, Scope};
+use crate::stop::Stop;
+use crate::types::{fits_array_type, is_bool_shape};
+use fzn_lexer::Token;
+use fzn_parser::tree::{Ann, Expr, Shape};
+use list_of::ListOf;
+use std::alloc::Global;
+
+fn is_number(text: &[u8], literal: Token, number: usize) -> bool
+    ensures { result ≡ faults.is_number text.now literal number }
+{
+    match number_of(spelling(text, &literal)) {
+        Some(value) => value as i128 == number as i128,
+        None => false,
+    }
+}
+
+/// Whether the index set is 1..n.
+fn is_index_set(text: &[u8], low: Token, high: Token, n: usize) -> bool
+    ensures { result ≡ faults.is_index_set text.now low high n }
+{
+    is_number(text, low, 1) && is_number(text, high, n)
+}
+
+/// Whether a value is an array literal with an entry for each index.
+fn has_index_set(text: &[u8], low: Token, high: Token, value: &Expr) -> bool
+    ensures { result ≡ faults.has_index_set text.now low high value.now }
+{
+    match value {
+        Expr::One(_) => false,
+        Expr::Row(entries) => is_index_set(text, low, high, entries.len()),
+    }
+}
+
+fn fits_type(shape: &Shape, meaning: &Option<Meaning>) -> bool
+    ensures { result ≡ faults.if_some (faults.fits_array_type shape.now) meaning.now }
+{
+    match meaning {
+        Some(meaning) => fits_array_type(shape, meaning),
+        None => false,
+    }
+}
+
+/// What the value of an array stands for.
+fn read_row(
+    alloc: Global,
+    text: &[u8],
+    scope: &Scope,
+    low: Token,
+    high: Token,
+    shape: &Shape,
+    value: &Expr,
+) -> Result<Option<Meaning>, Stop>
+    ensures value { IfOk result (λ m. m ≡ scopes.expr_meaning text.now scope.now value.now) }
+    ensures fits { OnOk result (faults.is_wrong_row text.now scope.now low high shape.now value.now ≡ false) }
+    ensures wrong { IfErr result (faults.OnlyFault faults.wrong_argument (faults.is_wrong_row text.now scope.now low high shape.now value.now ≡ true)) }
+{
+    let meaning = expr_meaning(alloc, text, scope, value)?;
+    if has_index_set(text, low, high, value) && fits_type(shape, &meaning) {
+        Ok(meaning)
+    } else {
+        Err(Stop::Fault(WRONG_ARGUMENT))
+    }
+}
+
+pub(crate) fn terms_of(alloc: Global, entries: &[Scalar]) -> Result<ListOf<Term>, Stop>
+    ensures { IfOk result (λ ts. ts ≡ map (λ s. s.term) entries.now) }
+{
+    let mut terms = ListOf::new(alloc);
+    for entry in entries {
+        terms.push(entry.term)?;
+    }
+    Ok(terms)
+}
+
+fn terms_in(alloc: Global, value: &Option<Meaning>) -> Result<ListOf<Term>, Stop>
+    ensures { IfOk result (λ ts. ts ≡ effects.terms_in value.now) }
+{
+    match value {
+        Some(Meaning::Row(entries)) => terms_of(alloc, entries.as_slice()),
+        Some(Meaning::One(_)) | Some(Meaning::Set(_)) | None => Ok(ListOf::new(alloc)),
+    }
+}
+
+fn array_output(
+    alloc: Global,
+    text: &[u8],
+    anns: &[Ann],
+    is_bool: bool,
+    name: &[u8],
+    entries: ListOf<Term>,
+) -> Result<Option<Output>, Stop>
+    ensures { IfOk result (λ o. o ≡ effects.array_output text.now (map ann_tree anns.now) is_bool name.now entries) }
+{
+    let Some(ranges) = output_ranges(alloc, text, anns)? else {
+        return Ok(None);
+    };
+    let name = copy_name(alloc, name)?;
+    Ok(Some(Output::Array {
+        name,
+        is_bool,
+        ranges,
+        entries,
+    }))
+}
+
+fn array_effect(
+    alloc: Global,
+    text: &[u8],
+    shape: &Shape,
+    name: &[u8],
+    anns: &[Ann],
+    value: Option<Meaning>,
+) -> Result<Effect, Stop>
+    ensures { IfOk result (λ e. e ≡ effects.array_effect text.now shape.now name.now (map ann_tree anns.now) value) }
+{
+    let entries = terms_in(alloc, &value)?;
+    let constraints = element_constraints(alloc, text, shape, entries.as_slice())?;
+    let output = array_output(alloc, text, anns, is_bool_shape(shape), name, entries)?;
+    let declared = named(alloc, name, value)?;
+    Ok(Effect {
+        declared,
+        var: None,
+        constraints,
+        output,
+        solved: None,
+    })
+}
+
+/// What the declaration of an array adds, where its value fits.
+pub(crate) fn read_array(
+    alloc: Global,
+    text: &[u8],
+    scope: &Scope,
+    indices: (Token, Token),
+    shape: &Shape,
+    name: &[u8],
+    anns: &[Ann],
+    value: &Expr,
+) -> Result<Effect, Stop>
+    ensures effect { IfOk result (λ e. e ≡ effects.array_effect text.now shape.now name.now (map ann_tree anns.now) (scopes.expr_meaning text.now scope.now value.now)) }
+    ensures fits { OnOk result (faults.is_wrong_row text.now scope.now indices.0 indices.1 shape.now value.now ≡ false) }
+    ensures wrong { IfErr result (faults.OnlyFault faults.wrong_argument (faults.is_wrong_row text.now scope.now indices.0 indices.1 shape.now value.now ≡ true)) }
+{
+    let value = read_row(alloc, text, scope, indices.0, indices.1, shape, value)?;
+    match array_effect(alloc, text, shape, name, anns, value) {
+        Ok(effect) => Ok(effect),
+        Err(_) => Err(Stop::NoMemory),
+    }
+}

@@ -1,0 +1,245 @@
+//! What stands of a text after some of its items.
+
+ghost use Rattle.std.specs.Prelude.{◌≡◌, ◌+◌, ◌<◌, ◌≤◌, ◌++◌, not, true, false, nat_lt, length, fold, flat_map, sum_by, option_to_list, MatchOption, IfOk, IfErr, OnOk};
+ghost use Rattle.fzn_parser.specs.Items.{what_tree};
+ghost use Rattle.fzn_parser.specs.Parsing.{item_tree};
+ghost use Rattle.fzn_model.specs.Fits.{add_once, constants_in, kernels_of};
+ghost use Rattle.fzn_model.specs.Drafts.{seen, counted, put, IsNew};
+ghost use Rattle.fzn_model.specs.Effects as effects;
+ghost use Rattle.fzn_model.specs.Faults as faults;
+
+use crate::effect::Effect;
+use crate::kernels::{add_constant, add_constants, kernel_count};
+use crate::kinds::{AFTER_SOLVE, TOO_MANY};
+use crate::limits::{MOST_CONSTANTS, MOST_KERNELS, MOST_VARS, has_long_list};
+use crate::model::{Constraint, Goal, Output, Phase, VarDecl};
+use crate::reads::read_item;
+use crate::scope::Scope;
+use crate::stop::Stop;
+use fzn_parser::tree::{Item, What};
+use indexmap::IndexSet;
+use list_of::ListOf;
+use std::alloc::{AllocError, Global};
+
+/// What stands of a text after some of its items.
+#[derive(Drop)]
+pub(crate) struct Draft {
+    /// The declared names.
+    pub(crate) scope: Scope,
+    /// The declared variables.
+    pub(crate) vars: ListOf<VarDecl>,
+    /// The constraints.
+    pub(crate) constraints: ListOf<Constraint>,
+    /// What is written of a solution.
+    pub(crate) output: ListOf<Output>,
+    /// The phases of the search and the goal, behind the solve item.
+    pub(crate) solved: Option<(ListOf<Phase>, Goal)>,
+    /// The numbers other than 1 that stand where variables may.
+    pub(crate) constants: IndexSet<i64>,
+    /// How many propagators the constraints are run as.
+    pub(crate) kernels: u64,
+}
+
+/// How many propagators there are with one more constraint, where these are not too many.
+#[tactic(auto, unfolding(crate::specs::Fits::kernels_of))]
+fn with_kernels(total: u64, constraint: &Constraint) -> Option<u64>
+    requires { total ≤ faults.most_kernels }
+    ensures { MatchOption result (faults.most_kernels < total + kernels_of constraint.now)
+        (λ t. (t ≡ total + kernels_of constraint.now) × (t ≤ faults.most_kernels)) }
+{
+    let more = kernel_count(constraint);
+    if more > MOST_KERNELS - total {
+        None
+    } else {
+        Some(total + more)
+    }
+}
+
+/// How many propagators there are with these constraints, where these are not too many.
+fn with_all_kernels(total: u64, constraints: &[Constraint]) -> Option<u64>
+    requires { total ≤ faults.most_kernels }
+    ensures { MatchOption result (faults.most_kernels < total + sum_by kernels_of constraints.now)
+        (λ t. (t ≡ total + sum_by kernels_of constraints.now) × (t ≤ faults.most_kernels)) }
+{
+    let mut kernels = total;
+    for constraint in constraints {
+        match with_kernels(kernels, constraint) {
+            Some(sum) => kernels = sum,
+            None => return None,
+        }
+    }
+    Some(kernels)
+}
+
+fn add_all_constants(
+    found: &mut IndexSet<i64>,
+    constraints: &[Constraint],
+) -> Result<(), AllocError>
+    ensures { OnOk result (found.new.keys ≡ fold add_once found.old.keys (flat_map constants_in constraints.now)) }
+{
+    for constraint in constraints {
+        add_constants(found, constraint)?;
+    }
+    Ok(())
+}
+
+fn add_goal_constant(
+    found: &mut IndexSet<i64>,
+    solved: &Option<(ListOf<Phase>, Goal)>,
+) -> Result<(), AllocError>
+    ensures { OnOk result (found.new.keys ≡ fold add_once found.old.keys (effects.solved_constants solved.now)) }
+{
+    match solved {
+        Some((_, Goal::Minimize(term))) => add_constant(found, *term),
+        Some((_, Goal::Maximize(term))) => add_constant(found, *term),
+        Some((_, Goal::Satisfy)) | None => Ok(()),
+    }
+}
+
+/// Puts constraints behind others.
+fn push_all(list: &mut ListOf<Constraint>, more: ListOf<Constraint>) -> Result<(), Stop>
+    ensures { OnOk result (list.new ≡ list.old ++ more) }
+{
+    for constraint in more.into_vec() {
+        list.push(constraint)?;
+    }
+    Ok(())
+}
+
+impl Draft {
+    /// Before the first item.
+    pub(crate) fn new(alloc: Global) -> Draft
+        ensures { seen result ≡ effects.nothing }
+    {
+        Draft {
+            scope: Scope::new(alloc),
+            vars: ListOf::new(alloc),
+            constraints: ListOf::new(alloc),
+            output: ListOf::new(alloc),
+            solved: None,
+            constants: IndexSet::new(alloc),
+            kernels: 0,
+        }
+    }
+
+    fn has_room(&self, effect: &Effect) -> bool
+        requires { length self.now.vars ≤ faults.most_vars }
+        ensures { result ≡ not (nat_lt faults.most_vars (length (self.now.vars ++ option_to_list effect.now.var))) }
+    {
+        effect.var.is_none() || self.vars.len() < MOST_VARS
+    }
+
+    /// Counts what an item adds. Errors: a limit is passed with it; memory.
+    fn count(&mut self, effect: &Effect) -> Result<(), Stop>
+        requires vars { length self.old.vars ≤ faults.most_vars }
+        requires kernels { self.old.kernels ≤ faults.most_kernels }
+        ensures counted { OnOk result (seen self.new ≡ counted (seen self.old) effect.now) }
+        ensures fits { OnOk result (faults.is_too_large (effects.joined (seen self.old) effect.now) ≡ false) }
+        ensures large { IfErr result (faults.OnlyFault faults.too_many (faults.is_too_large (effects.joined (seen self.old) effect.now) ≡ true)) }
+    {
+        if !self.has_room(effect) {
+            return Err(Stop::Fault(TOO_MANY));
+        }
+        let Some(kernels) = with_all_kernels(self.kernels, effect.constraints.as_slice()) else {
+            return Err(Stop::Fault(TOO_MANY));
+        };
+        self.kernels = kernels;
+        add_all_constants(&mut self.constants, effect.constraints.as_slice())?;
+        add_goal_constant(&mut self.constants, &effect.solved)?;
+        if self.constants.len() > MOST_CONSTANTS {
+            return Err(Stop::Fault(TOO_MANY));
+        }
+        Ok(())
+    }
+
+    /// Puts behind what stands what an item adds, which was counted.
+    fn put(&mut self, effect: Effect) -> Result<(), Stop>
+        requires new { IsNew self.old.scope effect }
+        ensures { OnOk result (seen self.new ≡ put (seen self.old) effect) }
+    {
+        let Effect {
+            declared,
+            var,
+            constraints,
+            output,
+            solved,
+        } = effect;
+        if let Some((name, meaning)) = declared {
+            self.scope.declare(name.into_vec(), meaning)?;
+        }
+        if let Some(var) = var {
+            self.vars.push(var)?;
+        }
+        if let Some(output) = output {
+            self.output.push(output)?;
+        }
+        if self.solved.is_none() {
+            self.solved = solved;
+        }
+        push_all(&mut self.constraints, constraints)
+    }
+
+    /// Counts what an item adds. Errors: the item's least fault against all that stands; memory.
+    fn place(&mut self, what: &What, effect: &Effect) -> Result<(), Stop>
+        requires vars { length self.old.vars ≤ faults.most_vars }
+        requires kernels { self.old.kernels ≤ faults.most_kernels }
+        ensures counted { OnOk result (seen self.new ≡ counted (seen self.old) effect.now) }
+        ensures lawful { OnOk result (faults.first_kind (faults.place_tests (seen self.old) (what_tree what.now) effect.now) ≡ None) }
+        ensures fits { OnOk result (faults.is_too_large (effects.joined (seen self.old) effect.now) ≡ false) }
+        ensures fault { IfErr result (λ s. faults.Refuses (faults.first_kind (faults.place_tests (seen self.old) (what_tree what.now) effect.now)) s) }
+    {
+        if has_long_list(what) {
+            return Err(Stop::Fault(TOO_MANY));
+        }
+        match self.count(effect) {
+            Ok(()) => {}
+            Err(stop) => return Err(stop),
+        }
+        if self.solved.is_some() {
+            return Err(Stop::Fault(AFTER_SOLVE));
+        }
+        Ok(())
+    }
+
+    /// What an item adds, counted. Errors: its least fault against what stands; memory.
+    #[tactic(auto, unfolding(crate::specs::Faults::fault_of))]
+    fn judge(&mut self, alloc: Global, text: &[u8], what: &What) -> Result<Effect, Stop>
+        requires vars { length self.old.vars ≤ faults.most_vars }
+        requires kernels { self.old.kernels ≤ faults.most_kernels }
+        ensures effect { IfOk result (λ e. e ≡ effects.effect_of text.now self.old.scope (length self.old.vars) (what_tree what.now)) }
+        ensures new { IfOk result (λ e. IsNew self.old.scope e) }
+        ensures counted { IfOk result (λ e. seen self.new ≡ counted (seen self.old) e) }
+        ensures fits { IfOk result (λ e. faults.is_too_large (effects.joined (seen self.old) e) ≡ false) }
+        ensures lawful { OnOk result (faults.fault_of text.now (seen self.old) (what_tree what.now) ≡ None) }
+        ensures fault { IfErr result (λ s. faults.Refuses (faults.fault_of text.now (seen self.old) (what_tree what.now)) s) }
+    {
+        let count = self.vars.len() as u32;
+        let effect = match read_item(alloc, text, &self.scope, count, what) {
+            Ok(effect) => effect,
+            Err(stop) => return Err(stop),
+        };
+        match self.place(what, &effect) {
+            Ok(()) => Ok(effect),
+            Err(stop) => Err(stop),
+        }
+    }
+
+    /// Adds an item. Errors: its least fault against what stands; memory.
+    pub(crate) fn add(&mut self, alloc: Global, text: &[u8], item: &Item) -> Result<(), Stop>
+        requires vars { length self.old.vars ≤ faults.most_vars }
+        requires kernels { self.old.kernels ≤ faults.most_kernels }
+        ensures added { OnOk result (seen self.new ≡ effects.with_item text.now (seen self.old) (item_tree item.now)) }
+        ensures fits { OnOk result (faults.is_too_large (effects.with_item text.now (seen self.old) (item_tree item.now)) ≡ false) }
+        ensures lawful { OnOk result (faults.fault_of text.now (seen self.old) (what_tree item.now.what) ≡ None) }
+        ensures fault { IfErr result (λ s. faults.Refuses (faults.fault_of text.now (seen self.old) (what_tree item.now.what)) s) }
+    {
+        let effect = match self.judge(alloc, text, &item.what) {
+            Ok(effect) => effect,
+            Err(stop) => return Err(stop),
+        };
+        match self.put(effect) {
+            Ok(()) => Ok(()),
+            Err(_) => Err(Stop::NoMemory),
+        }
+    }
+}

@@ -1,0 +1,20 @@
+//! What an item adds to the model.
+
+use crate::model::{Constraint, Goal, Output, Phase, VarDecl};
+use crate::scope::Meaning;
+use list_of::ListOf;
+
+/// What an item adds to the model.
+#[derive(Drop)]
+pub struct Effect {
+    /// The name that it declares, with what it stands for.
+    pub declared: Option<(ListOf<u8>, Meaning)>,
+    /// The variable that it declares.
+    pub var: Option<VarDecl>,
+    /// Its constraint, or those that its declaration adds.
+    pub constraints: ListOf<Constraint>,
+    /// What is written of it.
+    pub output: Option<Output>,
+    /// The phases of the search and the goal that it asks for.
+    pub solved: Option<(ListOf<Phase>, Goal)>,
+}

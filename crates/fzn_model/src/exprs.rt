@@ -1,0 +1,174 @@
+//! What expressions stand for, against the declarations before them.
+
+ghost use Rattle.std.specs.Prelude.{◌≡◌, IfOk, map};
+ghost use Rattle.fzn_parser.specs.Texts.{spelling};
+ghost use Rattle.fzn_model.specs.Scopes.{number_at, set_at, boolean, integer, scalar_of, entry_at, all_some, simple_at, expr_meaning};
+
+use crate::model::Term;
+use crate::numbers::number_of;
+use crate::ranges::{range_of, ranges_of};
+use crate::scope::{Meaning, Scalar, Scope};
+use fzn_lexer::Token;
+use fzn_parser::tree::{Elem, Expr, SetLit};
+use list_of::ListOf;
+use std::alloc::{AllocError, Global};
+
+/// The bytes of a token; none where its place is not in the text.
+#[tactic(auto, unfolding(fzn_parser::specs::Texts::spelling))]
+pub(crate) fn spelling<'a>(text: &'a [u8], token: &Token) -> &'a [u8]
+    ensures { result.now ≡ spelling text.now token.now }
+{
+    if token.from <= token.to && token.to <= text.len() {
+        &text[token.from..token.to]
+    } else {
+        &[]
+    }
+}
+
+/// The number of an integer literal; 0 where the profile doesn't have it.
+fn number_at(text: &[u8], token: &Token) -> i64
+    ensures { result ≡ number_at text.now token.now }
+{
+    number_of(spelling(text, token)).unwrap_or(0)
+}
+
+fn numbers_at(alloc: Global, text: &[u8], tokens: &[Token]) -> Result<Vec<i64>, AllocError>
+    ensures { IfOk result (λ v. v.items ≡ map (number_at text.now) tokens.now) }
+{
+    tokens
+        .iter()
+        .map(|token| number_at(text, token))
+        .collect(alloc)
+}
+
+/// The set that a literal writes.
+pub(crate) fn set_at(
+    alloc: Global,
+    text: &[u8],
+    set: &SetLit,
+) -> Result<ListOf<(i64, i64)>, AllocError>
+    ensures { IfOk result (λ ranges. ranges ≡ set_at text.now set.now) }
+{
+    match set {
+        SetLit::Range(low, high) => range_of(alloc, number_at(text, low), number_at(text, high)),
+        SetLit::Braces(values) => ranges_of(alloc, numbers_at(alloc, text, values.as_slice())?),
+    }
+}
+
+fn copy_list<T: Copy>(alloc: Global, items: &[T]) -> Result<ListOf<T>, AllocError>
+    ensures { IfOk result (λ list. list ≡ items.now) }
+{
+    let items = Vec::from_slice(alloc, items)?;
+    Ok(ListOf::from_vec(items))
+}
+
+/// The same meaning once more.
+pub(crate) fn copy_meaning(alloc: Global, meaning: &Meaning) -> Result<Meaning, AllocError>
+    ensures { IfOk result (λ copy. copy ≡ meaning.now) }
+{
+    match meaning {
+        Meaning::One(scalar) => Ok(Meaning::One(*scalar)),
+        Meaning::Row(entries) => Ok(Meaning::Row(copy_list(alloc, entries.as_slice())?)),
+        Meaning::Set(ranges) => Ok(Meaning::Set(copy_list(alloc, ranges.as_slice())?)),
+    }
+}
+
+fn boolean(number: i64) -> Scalar
+    ensures { result ≡ boolean number }
+{
+    Scalar {
+        is_bool: true,
+        term: Term::Number(number),
+    }
+}
+
+fn integer(number: i64) -> Scalar
+    ensures { result ≡ integer number }
+{
+    Scalar {
+        is_bool: false,
+        term: Term::Number(number),
+    }
+}
+
+/// The boolean or the integer that something stands for.
+fn scalar_of(meaning: &Meaning) -> Option<Scalar>
+    ensures { result ≡ scalar_of meaning.now }
+{
+    match meaning {
+        Meaning::One(scalar) => Some(*scalar),
+        Meaning::Row(_) | Meaning::Set(_) => None,
+    }
+}
+
+/// What an array's entry stands for, where it is a boolean or an integer.
+fn entry_at(text: &[u8], scope: &Scope, entry: &Elem) -> Option<Scalar>
+    ensures { result ≡ entry_at text.now scope.now entry.now }
+{
+    match entry {
+        Elem::True => Some(boolean(1)),
+        Elem::False => Some(boolean(0)),
+        Elem::Int(token) => Some(integer(number_at(text, token))),
+        Elem::Name(token) => scalar_of(scope.meaning(spelling(text, token))?),
+        Elem::Float(_) | Elem::Set(_) => None,
+    }
+}
+
+/// What the entries of an array stand for, where each is a boolean or an integer.
+fn entries_at(
+    alloc: Global,
+    text: &[u8],
+    scope: &Scope,
+    entries: &[Elem],
+) -> Result<Option<ListOf<Scalar>>, AllocError>
+    ensures { IfOk result (λ o. o ≡ all_some (map (entry_at text.now scope.now) entries.now)) }
+{
+    let mut scalars = ListOf::new(alloc);
+    for entry in entries {
+        match entry_at(text, scope, entry) {
+            Some(scalar) => scalars.push(scalar)?,
+            None => return Ok(None),
+        }
+    }
+    Ok(Some(scalars))
+}
+
+fn simple_at(
+    alloc: Global,
+    text: &[u8],
+    scope: &Scope,
+    elem: &Elem,
+) -> Result<Option<Meaning>, AllocError>
+    ensures { IfOk result (λ o. o ≡ simple_at text.now scope.now elem.now) }
+{
+    match elem {
+        Elem::True => Ok(Some(Meaning::One(boolean(1)))),
+        Elem::False => Ok(Some(Meaning::One(boolean(0)))),
+        Elem::Int(token) => Ok(Some(Meaning::One(integer(number_at(text, token))))),
+        Elem::Float(_) => Ok(None),
+        Elem::Name(token) => match scope.meaning(spelling(text, token)) {
+            Some(meaning) => Ok(Some(copy_meaning(alloc, meaning)?)),
+            None => Ok(None),
+        },
+        Elem::Set(set) => Ok(Some(Meaning::Set(set_at(alloc, text, set)?))),
+    }
+}
+
+/// What an expression stands for, where it is a boolean, an integer, an array of these or a set.
+#[tactic(auto, unfolding(crate::specs::Scopes::expr_meaning))]
+pub(crate) fn expr_meaning(
+    alloc: Global,
+    text: &[u8],
+    scope: &Scope,
+    expr: &Expr,
+) -> Result<Option<Meaning>, AllocError>
+    ensures { IfOk result (λ m. m ≡ expr_meaning text.now scope.now expr.now) }
+{
+    match expr {
+        Expr::One(elem) => simple_at(alloc, text, scope, elem),
+        Expr::Row(entries) => match entries_at(alloc, text, scope, entries.as_slice())? {
+            Some(scalars) => Ok(Some(Meaning::Row(scalars))),
+            None => Ok(None),
+        },
+    }
+}

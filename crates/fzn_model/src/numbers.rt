@@ -1,0 +1,54 @@
+//! The numbers that integer literals write.
+
+ghost use Rattle.std.specs.Prelude.{◌≡◌, ◌≤◌, Some, None, MatchOption};
+ghost use Rattle.fzn_model.specs.Numbers.{number_in, natural_of, number_of};
+
+use std::str;
+
+/// The largest number of a model; the least is its opposite.
+const LARGEST: u32 = 2_147_483_646;
+
+/// The number that digits of this base write, where they are nothing else and the profile has it.
+#[tactic(auto, using(crate::proofs::NumberLaws::number_laws), unfolding(crate::specs::Numbers::number_in, crate::specs::Numbers::largest))]
+fn number_in(base: u32, digits: &[u8]) -> Option<u32>
+    requires low { 2 ≤ base }
+    requires high { base ≤ 16 }
+    ensures { result ≡ number_in base digits.now }
+{
+    // `from_str_radix` takes a plus in front; a literal of a text has none.
+    if digits.first().copied() == Some(b'+') {
+        return None;
+    }
+    let text = str::from_utf8(digits).ok()?;
+    let number = u32::from_str_radix(text, base).ok()?;
+    if number <= LARGEST {
+        Some(number)
+    } else {
+        None
+    }
+}
+
+/// The number of a literal without its minus, where the profile has it.
+#[tactic(auto, unfolding(crate::specs::Numbers::natural_of))]
+fn natural_of(literal: &[u8]) -> Option<u32>
+    ensures { result ≡ natural_of literal.now }
+{
+    if let Some(digits) = literal.strip_prefix(b"0x") {
+        number_in(16, digits)
+    } else if let Some(digits) = literal.strip_prefix(b"0o") {
+        number_in(8, digits)
+    } else {
+        number_in(10, literal)
+    }
+}
+
+/// The number of an integer literal, where the profile has it.
+#[tactic(auto, unfolding(crate::specs::Numbers::number_of))]
+pub(crate) fn number_of(literal: &[u8]) -> Option<i64>
+    ensures { MatchOption result (number_of literal.now ≡ None) (λ n. number_of literal.now ≡ Some n) }
+{
+    match literal {
+        [b'-', digits @ ..] => Some(-i64::from(natural_of(digits)?)),
+        digits => Some(i64::from(natural_of(digits)?)),
+    }
+}

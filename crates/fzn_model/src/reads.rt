@@ -1,0 +1,128 @@
+//! What an item adds, where it has no fault against the declarations before it.
+
+ghost use Rattle.std.specs.Prelude.{◌≡◌, ◌≤◌, true, false, length, IfOk, IfErr, OnOk};
+ghost use Rattle.fzn_parser.specs.Items.{what_tree};
+ghost use Rattle.fzn_model.specs.Effects as effects;
+ghost use Rattle.fzn_model.specs.Faults as faults;
+ghost use Rattle.fzn_model.specs.Drafts.{IsNew};
+
+use crate::arrays::read_array;
+use crate::constraints::{read_constraint, read_solve};
+use crate::effect::Effect;
+use crate::exprs::spelling;
+use crate::kinds::{NAME_TWICE, NAME_UNKNOWN, OUT_OF_RANGE, UNKNOWN_CONSTRAINT, UNSUPPORTED};
+use crate::literals::has_wide_literal;
+use crate::names::{declares_again, uses_unknown};
+use crate::scalars::read_scalar;
+use crate::scope::Scope;
+use crate::stop::Stop;
+use crate::types::{has_unknown_constraint, is_unsupported};
+use fzn_parser::tree::What;
+use list_of::ListOf;
+use std::alloc::Global;
+
+fn no_effect(alloc: Global) -> Effect
+    ensures { result ≡ effects.no_effect }
+{
+    Effect {
+        declared: None,
+        var: None,
+        constraints: ListOf::new(alloc),
+        output: None,
+        solved: None,
+    }
+}
+
+/// What an item adds, where its arguments, its value or its objective fit.
+#[tactic(auto, unfolding(crate::specs::Effects::effect_of))]
+fn read_effect(
+    alloc: Global,
+    text: &[u8],
+    scope: &Scope,
+    count: u32,
+    what: &What,
+) -> Result<Effect, Stop>
+    requires supported { faults.is_unsupported (what_tree what.now) ≡ false }
+    ensures effect { IfOk result (λ e. e ≡ effects.effect_of text.now scope.now count (what_tree what.now)) }
+    ensures fits { OnOk result (faults.has_wrong_argument text.now scope.now (what_tree what.now) ≡ false) }
+    ensures wrong { IfErr result (faults.OnlyFault faults.wrong_argument (faults.has_wrong_argument text.now scope.now (what_tree what.now) ≡ true)) }
+{
+    match what {
+        What::Predicate(_) => Ok(no_effect(alloc)),
+        What::Scalar {
+            shape,
+            name,
+            anns,
+            value,
+        } => {
+            let name = spelling(text, name);
+            read_scalar(
+                alloc,
+                text,
+                scope,
+                count,
+                shape,
+                name,
+                anns.as_slice(),
+                value,
+            )
+        }
+        What::Array {
+            low,
+            high,
+            shape,
+            name,
+            anns,
+            value,
+        } => {
+            let name = spelling(text, name);
+            let indices = (*low, *high);
+            read_array(
+                alloc,
+                text,
+                scope,
+                indices,
+                shape,
+                name,
+                anns.as_slice(),
+                value,
+            )
+        }
+        What::Constraint { name, args, .. } => {
+            read_constraint(alloc, text, scope, spelling(text, name), args.as_slice())
+        }
+        What::Solve { anns, aim } => read_solve(alloc, text, scope, count, anns.as_slice(), aim),
+    }
+}
+
+/// What an item adds. Errors: its least fault against the declarations before it; memory.
+pub(crate) fn read_item(
+    alloc: Global,
+    text: &[u8],
+    scope: &Scope,
+    count: u32,
+    what: &What,
+) -> Result<Effect, Stop>
+    ensures effect { IfOk result (λ e. e ≡ effects.effect_of text.now scope.now count (what_tree what.now)) }
+    ensures new { IfOk result (λ e. IsNew scope.now e) }
+    ensures lawful { OnOk result (faults.first_kind (faults.own_tests text.now scope.now (what_tree what.now)) ≡ None) }
+    ensures fault { IfErr result (λ s. faults.Refuses (faults.first_kind (faults.own_tests text.now scope.now (what_tree what.now))) s) }
+{
+    if declares_again(text, scope, what) {
+        return Err(Stop::Fault(NAME_TWICE));
+    }
+    if uses_unknown(text, scope, what) {
+        return Err(Stop::Fault(NAME_UNKNOWN));
+    }
+    if has_unknown_constraint(text, what) {
+        return Err(Stop::Fault(UNKNOWN_CONSTRAINT));
+    }
+    if is_unsupported(what) {
+        return Err(Stop::Fault(UNSUPPORTED));
+    }
+    let effect = read_effect(alloc, text, scope, count, what)?;
+    if has_wide_literal(text, what) {
+        return Err(Stop::Fault(OUT_OF_RANGE));
+    }
+    Ok(effect)
+}

@@ -1,0 +1,251 @@
+//! What the declaration of a scalar adds.
+
+ghost use Rattle.std.specs.Prelude.{◌≡◌, ◌++◌, ◌∷◌, [], ◌<◌, ◌≤◌, ℕ, true, false, length, map, IfOk, IfErr, OnOk, option_map, option_and_then};
+ghost use Rattle.fzn_parser.specs.Notes.{ann_tree};
+ghost use Rattle.fzn_model.specs.Effects as effects;
+ghost use Rattle.fzn_model.specs.Faults as faults;
+
+use crate::domains::{bounds_of, equality, push_domain};
+use crate::effect::Effect;
+use crate::exprs::expr_meaning;
+use crate::kinds::WRONG_ARGUMENT;
+use crate::model::{Constraint, Output, Term, VarDecl};
+use crate::outputs::has_output_var;
+use crate::scope::{Meaning, Scalar, Scope};
+use crate::stop::Stop;
+use crate::types::{declares_variable, fits_scalar_type, is_bool_shape};
+use fzn_parser::tree::{Ann, Expr, Shape};
+use list_of::ListOf;
+use std::alloc::Global;
+
+/// The bytes of a name.
+pub(crate) fn copy_name(alloc: Global, name: &[u8]) -> Result<ListOf<u8>, Stop>
+    ensures { IfOk result (λ n. n ≡ name.now) }
+{
+    Ok(ListOf::from_vec(Vec::from_slice(alloc, name)?))
+}
+
+/// The term that something stands for, where it is a boolean or an integer.
+pub(crate) fn term_in(meaning: &Option<Meaning>) -> Option<Term>
+    ensures { result ≡ effects.term_in meaning.now }
+{
+    match meaning {
+        Some(Meaning::One(scalar)) => Some(scalar.term),
+        Some(Meaning::Row(_)) | Some(Meaning::Set(_)) | None => None,
+    }
+}
+
+fn fits_type(shape: &Shape, meaning: &Option<Meaning>) -> bool
+    ensures { result ≡ faults.if_some (faults.fits_scalar_type shape.now) meaning.now }
+{
+    match meaning {
+        Some(meaning) => fits_scalar_type(shape, meaning),
+        None => false,
+    }
+}
+
+/// What the value of a declaration stands for.
+fn read_value(
+    alloc: Global,
+    text: &[u8],
+    scope: &Scope,
+    shape: &Shape,
+    value: &Option<Expr>,
+) -> Result<Option<Meaning>, Stop>
+    ensures value { IfOk result (λ m. m ≡ effects.value_of text.now scope.now value.now) }
+    ensures fits { OnOk result (faults.is_wrong_value text.now scope.now shape.now value.now ≡ false) }
+    ensures wrong { IfErr result (faults.OnlyFault faults.wrong_argument (faults.is_wrong_value text.now scope.now shape.now value.now ≡ true)) }
+{
+    let Some(expr) = value else {
+        return Ok(None);
+    };
+    let meaning = expr_meaning(alloc, text, scope, expr)?;
+    if fits_type(shape, &meaning) {
+        Ok(meaning)
+    } else {
+        Err(Stop::Fault(WRONG_ARGUMENT))
+    }
+}
+
+fn scalar_output(
+    alloc: Global,
+    text: &[u8],
+    anns: &[Ann],
+    is_bool: bool,
+    name: &[u8],
+    value: Term,
+) -> Result<Option<Output>, Stop>
+    ensures { IfOk result (λ o. o ≡ effects.scalar_output text.now (map ann_tree anns.now) is_bool name.now value) }
+{
+    if !has_output_var(text, anns) {
+        return Ok(None);
+    }
+    let name = copy_name(alloc, name)?;
+    Ok(Some(Output::Scalar {
+        name,
+        is_bool,
+        value,
+    }))
+}
+
+fn push_value(
+    alloc: Global,
+    shape: &Shape,
+    x: Term,
+    value: &Option<Meaning>,
+    constraints: &mut ListOf<Constraint>,
+) -> Result<(), Stop>
+    ensures { OnOk result (constraints.new ≡ constraints.old ++ effects.value_constraints shape.now x value.now) }
+{
+    if let Some(term) = term_in(value) {
+        constraints.push(equality(alloc, is_bool_shape(shape), x, term)?)?;
+    }
+    Ok(())
+}
+
+fn variable_constraints(
+    alloc: Global,
+    text: &[u8],
+    shape: &Shape,
+    x: Term,
+    value: &Option<Meaning>,
+) -> Result<ListOf<Constraint>, Stop>
+    ensures { IfOk result (λ cs. cs ≡ effects.domain_constraints text.now shape.now x ++ effects.value_constraints shape.now x value.now) }
+{
+    let mut constraints = ListOf::new(alloc);
+    push_domain(alloc, text, shape, x, &mut constraints)?;
+    push_value(alloc, shape, x, value, &mut constraints)?;
+    Ok(constraints)
+}
+
+fn variable(alloc: Global, text: &[u8], shape: &Shape, name: &[u8]) -> Result<VarDecl, Stop>
+    ensures { IfOk result (λ d. d ≡ effects.variable text.now shape.now name.now) }
+{
+    let (low, high) = bounds_of(alloc, text, shape)?;
+    let name = copy_name(alloc, name)?;
+    Ok(VarDecl {
+        name,
+        is_bool: is_bool_shape(shape),
+        low,
+        high,
+    })
+}
+
+/// What the declaration of a variable at this place adds.
+fn variable_effect(
+    alloc: Global,
+    text: &[u8],
+    place: u32,
+    shape: &Shape,
+    name: &[u8],
+    anns: &[Ann],
+    value: &Option<Meaning>,
+) -> Result<Effect, Stop>
+    ensures { IfOk result (λ e. e ≡ effects.variable_effect text.now place shape.now name.now (map ann_tree anns.now) value.now) }
+{
+    let x = Term::Var(place);
+    let is_bool = is_bool_shape(shape);
+    let var = variable(alloc, text, shape, name)?;
+    let constraints = variable_constraints(alloc, text, shape, x, value)?;
+    let output = scalar_output(alloc, text, anns, is_bool, name, x)?;
+    let scalar = Scalar { is_bool, term: x };
+    Ok(Effect {
+        declared: Some((copy_name(alloc, name)?, Meaning::One(scalar))),
+        var: Some(var),
+        constraints,
+        output,
+        solved: None,
+    })
+}
+
+fn parameter_output(
+    alloc: Global,
+    text: &[u8],
+    shape: &Shape,
+    name: &[u8],
+    anns: &[Ann],
+    value: &Option<Meaning>,
+) -> Result<Option<Output>, Stop>
+    ensures { IfOk result (λ o. o ≡ option_and_then (effects.scalar_output text.now (map ann_tree anns.now) (effects.is_bool_shape shape.now) name.now) (effects.term_in value.now)) }
+{
+    match term_in(value) {
+        Some(term) => scalar_output(alloc, text, anns, is_bool_shape(shape), name, term),
+        None => Ok(None),
+    }
+}
+
+/// The name with what it stands for, where that is there.
+pub(crate) fn named(
+    alloc: Global,
+    name: &[u8],
+    value: Option<Meaning>,
+) -> Result<Option<(ListOf<u8>, Meaning)>, Stop>
+    ensures { IfOk result (λ d. d ≡ option_map (λ m. (name.now, m)) value) }
+{
+    match value {
+        Some(meaning) => Ok(Some((copy_name(alloc, name)?, meaning))),
+        None => Ok(None),
+    }
+}
+
+/// What the declaration of a parameter adds.
+fn parameter_effect(
+    alloc: Global,
+    text: &[u8],
+    shape: &Shape,
+    name: &[u8],
+    anns: &[Ann],
+    value: Option<Meaning>,
+) -> Result<Effect, Stop>
+    ensures { IfOk result (λ e. e ≡ effects.parameter_effect text.now shape.now name.now (map ann_tree anns.now) value) }
+{
+    let output = parameter_output(alloc, text, shape, name, anns, &value)?;
+    let declared = named(alloc, name, value)?;
+    Ok(Effect {
+        declared,
+        var: None,
+        constraints: ListOf::new(alloc),
+        output,
+        solved: None,
+    })
+}
+
+fn scalar_effect(
+    alloc: Global,
+    text: &[u8],
+    place: u32,
+    shape: &Shape,
+    name: &[u8],
+    anns: &[Ann],
+    value: Option<Meaning>,
+) -> Result<Effect, Stop>
+    ensures { IfOk result (λ e. e ≡ effects.scalar_effect text.now place shape.now name.now (map ann_tree anns.now) value) }
+{
+    if declares_variable(shape) {
+        variable_effect(alloc, text, place, shape, name, anns, &value)
+    } else {
+        parameter_effect(alloc, text, shape, name, anns, value)
+    }
+}
+
+/// What the declaration of a scalar adds, where its value fits.
+pub(crate) fn read_scalar(
+    alloc: Global,
+    text: &[u8],
+    scope: &Scope,
+    place: u32,
+    shape: &Shape,
+    name: &[u8],
+    anns: &[Ann],
+    value: &Option<Expr>,
+) -> Result<Effect, Stop>
+    ensures effect { IfOk result (λ e. e ≡ effects.scalar_effect text.now place shape.now name.now (map ann_tree anns.now) (effects.value_of text.now scope.now value.now)) }
+    ensures fits { OnOk result (faults.is_wrong_value text.now scope.now shape.now value.now ≡ false) }
+    ensures wrong { IfErr result (faults.OnlyFault faults.wrong_argument (faults.is_wrong_value text.now scope.now shape.now value.now ≡ true)) }
+{
+    let value = read_value(alloc, text, scope, shape, value)?;
+    match scalar_effect(alloc, text, place, shape, name, anns, value) {
+        Ok(effect) => Ok(effect),
+        Err(_) => Err(Stop::NoMemory),
+    }
+}

@@ -1,0 +1,80 @@
+//! What the declared names stand for.
+
+ghost use Rattle.std.specs.Prelude.{◌≡◌, [], ◌∷◌, ◌++◌, None, is_some, OnOk, OnErr};
+ghost use Rattle.std.specs.Option.{option_copied};
+ghost use Rattle.fzn_model.specs.Scopes.{meaning_of};
+
+use crate::model::Term;
+use indexmap::IndexMap;
+use list_of::ListOf;
+use std::alloc::{AllocError, Global};
+use std::marker::Model;
+
+/// A boolean or an integer, constant or variable.
+#[derive(Debug, Clone, Copy)]
+pub struct Scalar {
+    /// Whether it is a boolean.
+    pub is_bool: bool,
+    /// Its number, or its variable.
+    pub term: Term,
+}
+
+/// What a name or an expression stands for.
+#[derive(Drop)]
+pub enum Meaning {
+    /// A boolean or an integer.
+    One(Scalar),
+    /// An array of these.
+    Row(ListOf<Scalar>),
+    /// A set of integers, as its sorted greatest ranges.
+    Set(ListOf<(i64, i64)>),
+}
+
+/// The declared names, each with what it stands for. Contracts see them in the order of their declarations.
+#[derive(Drop)]
+pub(crate) struct Scope {
+    entries: IndexMap<Vec<u8>, Meaning>,
+}
+
+impl Model for Scope {
+    ghost use Rattle.fzn_model.specs.Scopes.{Scope as Declared, declared_in};
+
+    ghost Value = { Declared };
+
+    ghost view = { λ s. declared_in s.entries.entries };
+}
+
+impl Scope {
+    /// No names. It takes no memory.
+    pub(crate) fn new(alloc: Global) -> Scope
+        ensures { result ≡ [] }
+    {
+        Scope {
+            entries: IndexMap::new(alloc),
+        }
+    }
+
+    /// What `name` stands for, where it was declared.
+    pub(crate) fn meaning(&self, name: &[u8]) -> Option<&Meaning>
+        ensures { option_copied result ≡ meaning_of self.now name.now }
+    {
+        self.entries.get(name)
+    }
+
+    /// Whether `name` was declared.
+    pub(crate) fn contains(&self, name: &[u8]) -> bool
+        ensures { result ≡ is_some (meaning_of self.now name.now) }
+    {
+        self.entries.contains_key(name)
+    }
+
+    /// Adds a name that wasn't declared. Where memory is refused, the names are as before.
+    pub(crate) fn declare(&mut self, name: Vec<u8>, meaning: Meaning) -> Result<(), AllocError>
+        requires { meaning_of self.old name.items ≡ None }
+        ensures added { OnOk result (self.new ≡ self.old ++ (name.items, meaning) ∷ []) }
+        ensures unchanged { OnErr result (self.new ≡ self.old) }
+    {
+        self.entries.insert(name, meaning)?;
+        Ok(())
+    }
+}

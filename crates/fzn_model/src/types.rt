@@ -1,0 +1,177 @@
+//! Declared types, and what fits them.
+
+ghost use Rattle.std.specs.Prelude.{◌≡◌};
+ghost use Rattle.std.specs.List.{list_all};
+ghost use Rattle.fzn_parser.specs.Items.{what_tree};
+ghost use Rattle.fzn_model.specs.Effects as effects;
+ghost use Rattle.fzn_model.specs.Faults as faults;
+ghost use Rattle.fzn_model.specs.Fits as fitting;
+
+use crate::exprs::spelling;
+use crate::model::Term;
+use crate::scope::{Meaning, Scalar};
+use crate::table::ConstraintName;
+use fzn_parser::tree::{Aim, Expr, SetLit, Shape, What};
+
+/// Whether it is a boolean's type.
+pub(crate) fn is_bool_shape(shape: &Shape) -> bool
+    ensures { result ≡ effects.is_bool_shape shape.now }
+{
+    matches!(shape, Shape::Bool | Shape::VarBool)
+}
+
+/// Whether it is the type of a variable, and taken.
+pub(crate) fn declares_variable(shape: &Shape) -> bool
+    ensures { result ≡ effects.declares_variable shape.now }
+{
+    matches!(shape, Shape::VarBool | Shape::VarInt | Shape::VarIn(_))
+}
+
+fn has_braces(shape: &Shape) -> bool
+    ensures { result ≡ faults.has_braces shape.now }
+{
+    matches!(shape, Shape::VarIn(SetLit::Braces(_)))
+}
+
+fn is_var_in(shape: &Shape) -> bool
+    ensures { result ≡ faults.is_var_in shape.now }
+{
+    matches!(shape, Shape::VarIn(_))
+}
+
+fn is_unsupported_type(shape: &Shape) -> bool
+    ensures { result ≡ faults.is_unsupported_type shape.now }
+{
+    match shape {
+        Shape::Float | Shape::VarFloat | Shape::VarFloats(_, _) => true,
+        Shape::VarSet | Shape::VarSetIn(_) => true,
+        Shape::Bool | Shape::Int | Shape::SetOfInt => false,
+        Shape::VarBool | Shape::VarInt | Shape::VarIn(_) => false,
+    }
+}
+
+fn is_set_type(shape: &Shape) -> bool
+    ensures { result ≡ faults.is_set_type shape.now }
+{
+    matches!(shape, Shape::SetOfInt)
+}
+
+/// Whether the declared type or the goal isn't taken.
+pub(crate) fn is_unsupported(what: &What) -> bool
+    ensures { result ≡ faults.is_unsupported (what_tree what.now) }
+{
+    match what {
+        What::Scalar { shape, .. } => is_unsupported_type(shape),
+        What::Array { shape, .. } => is_unsupported_type(shape) || is_set_type(shape),
+        What::Solve { aim, .. } => !matches!(aim, Aim::Satisfy),
+        What::Predicate(_) | What::Constraint { .. } => false,
+    }
+}
+
+// The constraints that are inequalities throughout.
+fn is_run(name: ConstraintName) -> bool
+    ensures { result ≡ faults.is_run name }
+{
+    match name {
+        ConstraintName::IntLe | ConstraintName::IntLt | ConstraintName::IntLinLe => true,
+        ConstraintName::IntLeReif | ConstraintName::IntLtReif => true,
+        ConstraintName::IntLinLeReif | ConstraintName::BoolLe | ConstraintName::BoolLt => true,
+        ConstraintName::BoolLeReif | ConstraintName::BoolLtReif | ConstraintName::BoolLinLe => true,
+        _ => false,
+    }
+}
+
+fn is_unknown(name: &[u8]) -> bool
+    ensures { result ≡ faults.is_unknown name.now }
+{
+    match ConstraintName::named(name) {
+        Some(known) => !is_run(known),
+        None => true,
+    }
+}
+
+pub(crate) fn equality_name(is_bool: bool) -> ConstraintName
+    ensures { result ≡ effects.equality_name is_bool }
+{
+    if is_bool {
+        ConstraintName::BoolEq
+    } else {
+        ConstraintName::IntEq
+    }
+}
+
+fn has_entries(value: &Expr) -> bool
+    ensures { result ≡ faults.has_entries value.now }
+{
+    match value {
+        Expr::One(_) => true,
+        Expr::Row(entries) => !entries.is_empty(),
+    }
+}
+
+/// Whether the item's constraint, or one that its declaration adds, isn't known.
+pub(crate) fn has_unknown_constraint(text: &[u8], what: &What) -> bool
+    ensures { result ≡ faults.has_unknown_constraint text.now (what_tree what.now) }
+{
+    match what {
+        What::Constraint { name, .. } => is_unknown(spelling(text, name)),
+        What::Scalar { shape, value, .. } => {
+            (has_braces(shape) && !is_run(ConstraintName::SetIn))
+                || (declares_variable(shape)
+                    && value.is_some()
+                    && !is_run(equality_name(is_bool_shape(shape))))
+        }
+        What::Array { shape, value, .. } => {
+            is_var_in(shape) && has_entries(value) && !is_run(ConstraintName::SetIn)
+        }
+        What::Predicate(_) | What::Solve { .. } => false,
+    }
+}
+
+/// Whether it is a constant.
+pub(crate) fn is_constant(scalar: Scalar) -> bool
+    ensures { result ≡ fitting.is_constant scalar }
+{
+    matches!(scalar.term, Term::Number(_))
+}
+
+// Whether a scalar is of this type, or may be an entry of an array of this type.
+fn scalar_fits(shape: &Shape, scalar: Scalar) -> bool
+    ensures { result ≡ faults.scalar_fits shape.now scalar }
+{
+    match shape {
+        Shape::Bool => scalar.is_bool && is_constant(scalar),
+        Shape::Int => !scalar.is_bool && is_constant(scalar),
+        Shape::VarBool => scalar.is_bool,
+        Shape::VarInt | Shape::VarIn(_) => !scalar.is_bool,
+        Shape::Float | Shape::SetOfInt | Shape::VarFloat | Shape::VarFloats(_, _) => false,
+        Shape::VarSet | Shape::VarSetIn(_) => false,
+    }
+}
+
+/// Whether a value is of a scalar's declared type.
+pub(crate) fn fits_scalar_type(shape: &Shape, meaning: &Meaning) -> bool
+    ensures { result ≡ faults.fits_scalar_type shape.now meaning.now }
+{
+    match meaning {
+        Meaning::One(scalar) => scalar_fits(shape, *scalar),
+        Meaning::Set(_) => is_set_type(shape),
+        Meaning::Row(_) => false,
+    }
+}
+
+fn all_scalars_fit(shape: &Shape, entries: &[Scalar]) -> bool
+    ensures { result ≡ list_all (faults.scalar_fits shape.now) entries.now }
+{
+    entries.iter().all(|entry| scalar_fits(shape, *entry))
+}
+
+/// Whether a value is an array of such elements.
+pub(crate) fn fits_array_type(shape: &Shape, meaning: &Meaning) -> bool
+    ensures { result ≡ faults.fits_array_type shape.now meaning.now }
+{
+    match meaning {
+        Meaning::Row(entries) => all_scalars_fit(shape, entries.as_slice()),
+        Meaning::One(_) | Meaning::Set(_) => false,
+    }
+}

@@ -1,0 +1,4 @@
+pub mod Examples
+pub mod Kernels
+pub mod Program
+pub mod Rows

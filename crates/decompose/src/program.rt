@@ -1,0 +1,43 @@
+//! The program of a model.
+
+ghost use Rattle.std.specs.Prelude.{◌≡◌, IfOk};
+ghost use Rattle.fzn_model.specs.declared.model.FznModel.{FznModel};
+ghost use Rattle.fzn_model.specs.WellFormed.{IsWellFormed};
+ghost use Rattle.decompose.specs.declared.program.Program.{Program};
+ghost use Rattle.decompose.specs.Program.{IsProgramOf};
+
+use crate::constants::constant_set;
+use crate::kernels::kernels_of;
+use crate::start::start_box;
+use fzn_model::FznModel;
+use guarded_tell::Kernel;
+use interval::{BoxOf, NoMemory};
+use list_of::ListOf;
+use std::alloc::Global;
+
+/// What is solved in place of a model.
+#[derive(Drop)]
+pub struct Program {
+    /// The box in which the solutions lie: variable 0 is the constant 1, then come the declared variables, then the
+    /// other constants.
+    pub start: BoxOf,
+    /// The kernels of the constraints, in the model's order.
+    pub kernels: ListOf<Kernel>,
+}
+
+/// The program of the model.
+pub fn compile(alloc: Global, model: &FznModel) -> Result<Program, NoMemory>
+    requires { IsWellFormed model.now }
+    ensures { IfOk result (λ program. IsProgramOf model.now program) }
+{
+    let constants = constant_set(alloc, model)?;
+    let vars = model.vars.as_slice();
+    let start = start_box(alloc, vars, constants.as_slice())?;
+    let kernels = kernels_of(alloc, vars, &constants, model.constraints.as_slice())?;
+    Ok(Program { start, kernels })
+}
+
+/// A model has at most one program. It does nothing.
+pub fn law_one_program()
+    ensures { (model : FznModel) (p q : Program) → IsProgramOf model p → IsProgramOf model q → p ≡ q }
+{}

@@ -9,3 +9,4 @@ pub mod SmallResolver
 pub mod Program
 pub mod Branching
 pub mod SearchTree
+pub mod Texts

@@ -4,6 +4,7 @@
 mod constants;
 mod model;
 mod printing;
+pub mod reader;
 mod reading;
 mod solving;
 mod status;
@@ -12,5 +13,6 @@ mod tests;
 mod top;
 mod words;
 
+pub use reader::{TextError, line_of, read_model};
 pub use status::Status;
 pub use top::solve_main;

@@ -1,0 +1,111 @@
+//! From the bytes of a text to its model.
+
+ghost use Rattle.std.specs.Prelude.{◌≡◌, ◌≤◌, ◌==◌, count_by, ℕ, List, length, map, MatchResult, IfOk, IfErr};
+ghost use Rattle.fzn_lexer.specs.Lexing.{LexesAs};
+ghost use Rattle.fzn_parser.specs.Parsing.{item_tree};
+ghost use Rattle.fzn_model.specs.declared.model.FznModel.{FznModel};
+ghost use Rattle.solver_top.specs.Texts.{most_bytes, HasItems, IsTextOf, IsFaultOf, IsCause, LacksModel, line_at};
+
+use fzn_lexer::{LexError, Token, lex};
+use fzn_model::{FznModel, ModelError, resolve};
+use fzn_parser::tree::Item;
+use fzn_parser::{ParseError, parse};
+use std::alloc::Global;
+use thiserror::Error;
+
+/// The most bytes of a text.
+pub const MOST_BYTES: usize = 67_108_864;
+
+const NO_TOKEN: u8 = 1;
+
+const NO_ITEM: u8 = 2;
+
+const TOO_LONG: u8 = 12;
+
+/// Why a text has no model.
+#[derive(Debug, Clone, Copy, PartialEq, Eq, Drop, Error)]
+pub enum TextError {
+    /// The text has a fault of this kind at this byte.
+    #[error("fault of kind {kind} at byte {at}")]
+    Refused { kind: u8, at: usize },
+    /// Memory was refused.
+    #[error("out of memory")]
+    NoMemory,
+}
+
+/// The tokens of a text that isn't too long.
+fn tokens_of(alloc: Global, text: &[u8]) -> Result<Vec<Token>, TextError>
+    requires short { length text.now ≤ most_bytes }
+    ensures lexed { IfOk result (λ ts. LexesAs text.now ts.items) }
+    ensures refused { IfErr result (λ e. IsCause text.now e) }
+{
+    match lex(alloc, text) {
+        Ok(tokens) => Ok(tokens),
+        Err(LexError::Lex { at }) => Err(TextError::Refused { kind: NO_TOKEN, at }),
+        Err(LexError::NoMemory) => Err(TextError::NoMemory),
+    }
+}
+
+/// The items of a text that isn't too long.
+fn items_of(alloc: Global, text: &[u8]) -> Result<Vec<Item>, TextError>
+    requires short { length text.now ≤ most_bytes }
+    ensures read { IfOk result (λ is. HasItems text.now (map item_tree is.items)) }
+    ensures refused { IfErr result (λ e. IsCause text.now e) }
+{
+    let tokens = match tokens_of(alloc, text) {
+        Ok(tokens) => tokens,
+        Err(error) => return Err(error),
+    };
+    match parse(alloc, text, tokens.as_slice()) {
+        Ok(items) => Ok(items),
+        Err(ParseError::Syntax { at }) => Err(TextError::Refused { kind: NO_ITEM, at }),
+        Err(ParseError::NoMemory) => Err(TextError::NoMemory),
+    }
+}
+
+/// The model of a text. Errors: `Refused` with the kind and the place of the text's first fault; `NoMemory`.
+pub fn read_model(alloc: Global, text: &[u8]) -> Result<FznModel, TextError>
+    ensures { MatchResult result (λ m. IsTextOf text.now m) (λ e. IsCause text.now e) }
+{
+    if text.len() > MOST_BYTES {
+        return Err(TextError::Refused {
+            kind: TOO_LONG,
+            at: 0,
+        });
+    }
+    let items = match items_of(alloc, text) {
+        Ok(items) => items,
+        Err(error) => return Err(error),
+    };
+    match resolve(alloc, text, items.as_slice()) {
+        Ok(model) => Ok(model),
+        Err(ModelError::Fault { kind, at }) => Err(TextError::Refused { kind, at }),
+        Err(ModelError::NoMemory) => Err(TextError::NoMemory),
+    }
+}
+
+/// How many bytes end a line.
+fn line_ends(bytes: &[u8]) -> u64
+    ensures value { result ≡ count_by (λ b. b == 10) bytes.now }
+    ensures bound { result ≤ length bytes.now }
+{
+    let mut ends = 0;
+    for byte in bytes {
+        if *byte == 10 {
+            ends += 1;
+        }
+    }
+    ends
+}
+
+/// The line of the byte `at` of a text, counted from 1.
+#[tactic(auto, unfolding(crate::specs::Texts::line_at))]
+pub fn line_of(text: &[u8], at: usize) -> u64
+    ensures { result ≡ line_at text.now at }
+{
+    if at <= text.len() {
+        line_ends(&text[..at]) + 1
+    } else {
+        line_ends(text) + 1
+    }
+}

@@ -15,7 +15,7 @@ use Rattle.fzn_model.specs.Fits.{add_once}
 use Rattle.fzn_model.specs.Relations.{value}
 use Rattle.decompose.specs.Program.{with_constants}
 use Rattle.decompose.specs.Kernels.{variable_of}
-use Rattle.decompose.specs.Rows.{IsAmong, HasVariable, size_of}
+use Rattle.decompose.proofs.Means.{IsAmong, HasVariable, size_of}
 
 int_eq-same : (n : ℤ) → int_eq n n ≡ true
 int_eq-same n = (Decides-int_eq n n).1 refl

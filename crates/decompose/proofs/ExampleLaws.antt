@@ -10,7 +10,7 @@ use Rattle.fzn_model.specs.Numbers.{IsInProfile, largest}
 use Rattle.fzn_model.specs.Fits.{row_for, constants_in, kernels_of as kernel_count}
 use Rattle.fzn_model.specs.WellFormed.{IsDeclaration, IsScalarOf, IsMeaningOf, IsConstraintOf, IsWellFormed}
 use Rattle.guarded_tell.specs.declared.kernel.Kernel.TheVariants.{Le}
-use Rattle.decompose.specs.Kernels.{kernels_on, kernels_of}
+use Rattle.decompose.specs.Kernels.{row_of, kernels_of}
 use Rattle.decompose.specs.Examples.{small_x, small_b, small_variables, small_model, small_reified, small_less, small_sum}
 
 small_number : (n : ℤ) → unsigned_abs n ≤ 9 → IsInProfile n
@@ -54,7 +54,6 @@ reified_is = record {
   is_on = refl;
   fits = refl;
   each = three IsMeaning (Meaning.One x_scalar) (Meaning.One (an_integer (pos 4))) (Meaning.One b_scalar) x_is (integer_is (pos 4) (lit≤ tt)) b_is;
-  runs = refl;
 }
 
 less_is : IsConstraintOf small_variables small_less
@@ -64,7 +63,6 @@ less_is = record {
   is_on = refl;
   fits = refl;
   each = two IsMeaning (Meaning.One x_scalar) (Meaning.One (an_integer (pos 1))) x_is (integer_is (pos 1) (lit≤ tt));
-  runs = refl;
 }
 
 sum_is : IsConstraintOf small_variables small_sum
@@ -77,7 +75,6 @@ sum_is = record {
       (lit≤ tt, two IsScalar (an_integer (pos 2)) (an_integer (negsuc 0)) (integer_is (pos 2) (lit≤ tt)) (integer_is (negsuc 0) (lit≤ tt)))
       (lit≤ tt, two IsScalar x_scalar (an_integer (pos 4)) x_is (integer_is (pos 4) (lit≤ tt)))
       (integer_is (pos 7) (lit≤ tt));
-  runs = refl;
 }
 
 small_is_well_formed : IsWellFormed small_model
@@ -102,5 +99,5 @@ small_kernels : kernels_of small_model
     ∷ Le (record { var = 0; positive = true }) (pos 1 ∷ negsuc 0 ∷ []) (1 ∷ 0 ∷ []) (negsuc 0)
     ∷ Le (record { var = 0; positive = true }) (pos 2 ∷ negsuc 0 ∷ []) (1 ∷ 3 ∷ []) (pos 7)
     ∷ []
-unfolding kernels_on constants_in
+unfolding row_of constants_in
 small_kernels = refl

@@ -21,9 +21,9 @@ use Rattle.fzn_model.specs.Effects.{goal_constants}
 use Rattle.fzn_model.specs.Relations.{IsWithin}
 use Rattle.fzn_model.specs.WellFormed.{IsTermOf, IsScalarOf, IsMeaningOf, IsConstraintOf, IsGoalOf, IsDeclaration, IsWellFormed, constants_of}
 use Rattle.decompose.specs.Program.{fixed_box, start_pairs, start_of, extended, Extends}
-use Rattle.decompose.specs.Rows.{IsAmong, HasConstants, size_of}
+use Rattle.decompose.proofs.OneKernel.{profile_number}
+use Rattle.decompose.proofs.Means.{IsAmong, HasConstants, size_of}
 use Rattle.decompose.proofs.ConstantLaws.{among_more, among_after, fold_has, all_fold}
-use Rattle.decompose.proofs.InequalityLaws.{profile_number}
 
 -- ---- the constants
 
@@ -220,3 +220,7 @@ start_points model numbers = (to numbers, λ x. subst (λ (ns : List ℤ). IsIns
     back a w =
         inside_cons (pos 1, pos 1) (pos 1, pos 1) (fixed_box (a ++ constants_of model)) (declared_pairs model.vars ++ fixed_box (constants_of model)) (omega (arith, ints)) (omega (arith, ints))
         (front_inside (constants_of model) model.vars a w)
+
+-- each bound of the start is a number of the profile
+pub start_bounds : (model : FznModel) → IsWellFormed model → (v : ℕ) → v < length (start_of model) → IsNumber (low_of (start_of model) v) × IsNumber (high_of (start_of model) v)
+start_bounds model f v h = start_numbers model f v (pos 0, pos 0) h

@@ -1,72 +1,196 @@
 -- Which kernels a program has: for each constraint those of its row of the table, in the model's order.
-use Rattle.std.specs.Prelude.{◌≡◌, ℕ, suc, ℤ, pos, negsuc, ◌+◌, List, [], ◌∷◌, length, map, flat_map, true, if◌then◌else◌}
+-- (MiniZinc Handbook: FlatZinc builtins.)
+use Rattle.std.specs.Prelude.{ℕ, suc, ℤ, pos, negsuc, ◌+◌, List, [], ◌∷◌, ◌++◌, length, map, flat_map, true, false, not, if◌then◌else◌}
 use Rattle.std.specs.List.{position_or_len}
 use Rattle.std.specs.Ordering.{int_eq}
 use Rattle.guarded_tell.specs.declared.tell.Lit.{Lit}
 use Rattle.guarded_tell.specs.declared.kernel.Kernel.{Kernel}
-use Rattle.guarded_tell.specs.declared.kernel.Kernel.TheVariants.{Le}
 use Rattle.fzn_model.specs.declared.model.Term.{Term}
 use Rattle.fzn_model.specs.declared.model.Operand.{Operand}
-use Rattle.fzn_model.specs.declared.model.Operand.TheVariants.{One, Row}
-use Rattle.fzn_model.specs.declared.model.VarDecl.{VarDecl}
+use Rattle.fzn_model.specs.declared.model.Operand.TheVariants.{One, Row, Set}
 use Rattle.fzn_model.specs.declared.model.Constraint.{Constraint}
 use Rattle.fzn_model.specs.declared.model.FznModel.{FznModel}
 use Rattle.fzn_model.specs.declared.table.ConstraintName.{ConstraintName}
-use Rattle.fzn_model.specs.declared.table.ConstraintName.TheVariants.{IntLe, IntLt, IntLinLe, IntLeReif, IntLtReif, IntLinLeReif}
-use Rattle.fzn_model.specs.declared.table.ConstraintName.TheVariants.{BoolLe, BoolLt, BoolLeReif, BoolLtReif, BoolLinLe}
+use Rattle.fzn_model.specs.Ranges.{Range}
 use Rattle.fzn_model.specs.Relations.{value}
 use Rattle.fzn_model.specs.WellFormed.{constants_of}
+
+-- ---- variables and literals, in a program of so many declared variables and with these constants
 
 -- the variable of a term
 abbrev pub variable_of : ℕ → List ℤ → Term → ℕ
 variable_of count constants (Term.Number n) = if int_eq n (pos 1) then 0 else suc (count + position_or_len (int_eq n) constants)
 variable_of count constants (Term.Var v) = suc v
 
+abbrev pub variables_of : ℕ → List ℤ → List Term → List ℕ
+variables_of count constants terms = map (variable_of count constants) terms
+
 -- the number of a coefficient or a limit
 abbrev pub number_of : Term → ℤ
 number_of t = value [] t
 
--- the literal that is always true: the constant 1 is at least 1
+-- the literal that is always true, since the constant 1 is at least 1, and the one that is always false
 abbrev pub always : Lit
 always = record { var = 0; positive = true }
 
--- the literal that is true where the boolean is
-abbrev pub literal_of : List VarDecl → List ℤ → Term → Lit
-literal_of vars constants r = record { var = variable_of (length vars) constants r; positive = true }
+abbrev pub never : Lit
+never = record { var = 0; positive = false }
 
--- the inequality of these terms
-abbrev pub inequality_of : List VarDecl → List ℤ → Lit → List ℤ → List Term → ℤ → Kernel
-inequality_of vars constants l coefficients terms limit = Le l coefficients (map (variable_of (length vars) constants) terms) limit
+-- the literal that is true where the boolean is, and the one that is true where it isn't
+abbrev pub literal_of : ℕ → List ℤ → Term → Lit
+literal_of count constants r = record { var = variable_of count constants r; positive = true }
 
--- the kernels of a constraint, by its row of the table: x <= y is x - y <= 0, x < y is x - y <= -1, and a sum is at most
--- its limit as it stands; the kernel's literal is always true, or that of the boolean r. A name with no row has no kernels.
-unfoldable pub kernels_on : List VarDecl → List ℤ → Constraint → List Kernel
-kernels_on vars constants constraint = row constraint.name constraint.operands
-  where
-    le : Lit → List ℤ → List Term → ℤ → List Kernel
-    le l coefficients terms limit = inequality_of vars constants l coefficients terms limit ∷ []
+abbrev pub opposite_of : ℕ → List ℤ → Term → Lit
+opposite_of count constants r = record { var = variable_of count constants r; positive = false }
 
-    literal : Term → Lit
-    literal r = literal_of vars constants r
+abbrev pub negated : Lit → Lit
+negated l = record { var = l.var; positive = not l.positive }
 
-    row : ConstraintName → List Operand → List Kernel
-    row IntLe (One x ∷ One y ∷ []) = le always (pos 1 ∷ negsuc 0 ∷ []) (x ∷ y ∷ []) (pos 0)
-    row IntLt (One x ∷ One y ∷ []) = le always (pos 1 ∷ negsuc 0 ∷ []) (x ∷ y ∷ []) (negsuc 0)
-    row IntLinLe (Row cs ∷ Row xs ∷ One c ∷ []) = le always (map number_of cs) xs (number_of c)
-    row IntLeReif (One x ∷ One y ∷ One r ∷ []) = le (literal r) (pos 1 ∷ negsuc 0 ∷ []) (x ∷ y ∷ []) (pos 0)
-    row IntLtReif (One x ∷ One y ∷ One r ∷ []) = le (literal r) (pos 1 ∷ negsuc 0 ∷ []) (x ∷ y ∷ []) (negsuc 0)
-    row IntLinLeReif (Row cs ∷ Row xs ∷ One c ∷ One r ∷ []) = le (literal r) (map number_of cs) xs (number_of c)
-    row BoolLe (One x ∷ One y ∷ []) = le always (pos 1 ∷ negsuc 0 ∷ []) (x ∷ y ∷ []) (pos 0)
-    row BoolLt (One x ∷ One y ∷ []) = le always (pos 1 ∷ negsuc 0 ∷ []) (x ∷ y ∷ []) (negsuc 0)
-    row BoolLeReif (One x ∷ One y ∷ One r ∷ []) = le (literal r) (pos 1 ∷ negsuc 0 ∷ []) (x ∷ y ∷ []) (pos 0)
-    row BoolLtReif (One x ∷ One y ∷ One r ∷ []) = le (literal r) (pos 1 ∷ negsuc 0 ∷ []) (x ∷ y ∷ []) (negsuc 0)
-    row BoolLinLe (Row cs ∷ Row xs ∷ One c ∷ []) = le always (map number_of cs) xs (number_of c)
-    row _ _ = []
+-- ---- kernels of terms
 
--- the row of this name gives this kernel alone
-abbrev pub IsRow : List VarDecl → List ℤ → ConstraintName → List Operand → Kernel → Type 0
-IsRow vars constants name operands k = kernels_on vars constants (record { name = name; operands = operands }) ≡ k ∷ []
+-- the literal is true exactly where the sum of these terms is at most the limit, or is the limit
+abbrev pub inequality : ℕ → List ℤ → Lit → List ℤ → List Term → ℤ → List Kernel
+inequality count constants l coefficients terms limit = Kernel.Le l coefficients (variables_of count constants terms) limit ∷ []
+
+abbrev pub equation : ℕ → List ℤ → Lit → List ℤ → List Term → ℤ → List Kernel
+equation count constants l coefficients terms limit = Kernel.Eq l coefficients (variables_of count constants terms) limit ∷ []
+
+-- the coefficients of x - y, of x + y and of x + y - z
+abbrev pub difference : List ℤ
+difference = pos 1 ∷ negsuc 0 ∷ []
+
+abbrev pub plain_sum : List ℤ
+plain_sum = pos 1 ∷ pos 1 ∷ []
+
+abbrev pub sum_less_third : List ℤ
+sum_less_third = pos 1 ∷ pos 1 ∷ negsuc 0 ∷ []
+
+-- the literal is true exactly where one of the others is: each of them implies it, and it implies that one of them is true
+abbrev pub some_of : Lit → List Lit → List Kernel
+some_of l others = map (λ k. Kernel.Clause (l ∷ negated k ∷ [])) others ++ Kernel.Clause (negated l ∷ others) ∷ []
+
+-- r is true exactly where some of these is; or exactly where all are, so that it isn't exactly where some isn't
+abbrev pub disjunction : ℕ → List ℤ → List Term → Term → List Kernel
+disjunction count constants terms r = some_of (literal_of count constants r) (map (literal_of count constants) terms)
+
+abbrev pub conjunction : ℕ → List ℤ → List Term → Term → List Kernel
+conjunction count constants terms r = some_of (opposite_of count constants r) (map (opposite_of count constants) terms)
+
+-- one of the first is true or one of the second isn't
+abbrev pub clause_literals : ℕ → List ℤ → List Term → List Term → List Lit
+clause_literals count constants positives negatives = map (literal_of count constants) positives ++ map (opposite_of count constants) negatives
+
+-- ---- the arguments that a row takes; other arguments have no kernels
+
+abbrev pub on_two : (Term → Term → List Kernel) → List Operand → List Kernel
+on_two row (One x ∷ One y ∷ []) = row x y
+on_two row _ = []
+
+abbrev pub on_three : (Term → Term → Term → List Kernel) → List Operand → List Kernel
+on_three row (One x ∷ One y ∷ One z ∷ []) = row x y z
+on_three row _ = []
+
+abbrev pub on_sum : (List ℤ → List Term → ℤ → List Kernel) → List Operand → List Kernel
+on_sum row (Row coefficients ∷ Row terms ∷ One limit ∷ []) = row (map number_of coefficients) terms (number_of limit)
+on_sum row _ = []
+
+abbrev pub on_reified_sum : (List ℤ → List Term → ℤ → Term → List Kernel) → List Operand → List Kernel
+on_reified_sum row (Row coefficients ∷ Row terms ∷ One limit ∷ One r ∷ []) = row (map number_of coefficients) terms (number_of limit) r
+on_reified_sum row _ = []
+
+-- a sum and the term that it equals
+abbrev pub on_equal_sum : (List ℤ → List Term → Term → List Kernel) → List Operand → List Kernel
+on_equal_sum row (Row coefficients ∷ Row terms ∷ One total ∷ []) = row (map number_of coefficients) terms total
+on_equal_sum row _ = []
+
+abbrev pub on_one_of_row : (Term → List Term → List Kernel) → List Operand → List Kernel
+on_one_of_row row (One m ∷ Row terms ∷ []) = row m terms
+on_one_of_row row _ = []
+
+abbrev pub on_entry : (Term → List Term → Term → List Kernel) → List Operand → List Kernel
+on_entry row (One place ∷ Row entries ∷ One entry ∷ []) = row place entries entry
+on_entry row _ = []
+
+abbrev pub on_set : (Term → List Range → List Kernel) → List Operand → List Kernel
+on_set row (One x ∷ Set ranges ∷ []) = row x ranges
+on_set row _ = []
+
+abbrev pub on_reified_set : (Term → List Range → Term → List Kernel) → List Operand → List Kernel
+on_reified_set row (One x ∷ Set ranges ∷ One r ∷ []) = row x ranges r
+on_reified_set row _ = []
+
+abbrev pub on_row : (List Term → Term → List Kernel) → List Operand → List Kernel
+on_row row (Row terms ∷ One r ∷ []) = row terms r
+on_row row _ = []
+
+abbrev pub on_rows : (List Term → List Term → List Kernel) → List Operand → List Kernel
+on_rows row (Row first ∷ Row second ∷ []) = row first second
+on_rows row _ = []
+
+abbrev pub on_reified_rows : (List Term → List Term → Term → List Kernel) → List Operand → List Kernel
+on_reified_rows row (Row first ∷ Row second ∷ One r ∷ []) = row first second r
+on_reified_rows row _ = []
+
+-- two terms, or two and a boolean
+abbrev pub on_two_or_three : (Term → Term → List Kernel) → (Term → Term → Term → List Kernel) → List Operand → List Kernel
+on_two_or_three two three (One x ∷ One y ∷ []) = two x y
+on_two_or_three two three (One x ∷ One y ∷ One r ∷ []) = three x y r
+on_two_or_three two three _ = []
+
+-- ---- the table
+
+-- x = y is x - y = 0, x <= y is x - y <= 0, and x < y is x - y <= -1; a relation that must not hold has the literal that is
+-- always false, or the opposite of the boolean
+unfoldable pub row_of : ℕ → List ℤ → ConstraintName → List Operand → List Kernel
+row_of n k ConstraintName.IntEq = on_two (λ x y. equation n k always difference (x ∷ y ∷ []) (pos 0))
+row_of n k ConstraintName.IntNe = on_two (λ x y. equation n k never difference (x ∷ y ∷ []) (pos 0))
+row_of n k ConstraintName.IntLe = on_two (λ x y. inequality n k always difference (x ∷ y ∷ []) (pos 0))
+row_of n k ConstraintName.IntLt = on_two (λ x y. inequality n k always difference (x ∷ y ∷ []) (negsuc 0))
+row_of n k ConstraintName.IntLinEq = on_sum (λ cs xs c. equation n k always cs xs c)
+row_of n k ConstraintName.IntLinNe = on_sum (λ cs xs c. equation n k never cs xs c)
+row_of n k ConstraintName.IntLinLe = on_sum (λ cs xs c. inequality n k always cs xs c)
+row_of n k ConstraintName.IntEqReif = on_three (λ x y r. equation n k (literal_of n k r) difference (x ∷ y ∷ []) (pos 0))
+row_of n k ConstraintName.IntNeReif = on_three (λ x y r. equation n k (opposite_of n k r) difference (x ∷ y ∷ []) (pos 0))
+row_of n k ConstraintName.IntLeReif = on_three (λ x y r. inequality n k (literal_of n k r) difference (x ∷ y ∷ []) (pos 0))
+row_of n k ConstraintName.IntLtReif = on_three (λ x y r. inequality n k (literal_of n k r) difference (x ∷ y ∷ []) (negsuc 0))
+row_of n k ConstraintName.IntLinEqReif = on_reified_sum (λ cs xs c r. equation n k (literal_of n k r) cs xs c)
+row_of n k ConstraintName.IntLinNeReif = on_reified_sum (λ cs xs c r. equation n k (opposite_of n k r) cs xs c)
+row_of n k ConstraintName.IntLinLeReif = on_reified_sum (λ cs xs c r. inequality n k (literal_of n k r) cs xs c)
+row_of n k ConstraintName.IntPlus = on_three (λ x y z. equation n k always sum_less_third (x ∷ y ∷ z ∷ []) (pos 0))
+row_of n k ConstraintName.IntTimes = on_three (λ x y z. Kernel.Times (variable_of n k x) (variable_of n k y) (variable_of n k z) ∷ [])
+row_of n k ConstraintName.IntAbs = on_two (λ x y. Kernel.Abs (variable_of n k x) (variable_of n k y) ∷ [])
+row_of n k ConstraintName.IntMax = on_three (λ x y m. Kernel.Max (variable_of n k m) (variables_of n k (x ∷ y ∷ [])) ∷ [])
+row_of n k ConstraintName.IntMin = on_three (λ x y m. Kernel.Min (variable_of n k m) (variables_of n k (x ∷ y ∷ [])) ∷ [])
+row_of n k ConstraintName.ArrayIntMaximum = on_one_of_row (λ m xs. Kernel.Max (variable_of n k m) (variables_of n k xs) ∷ [])
+row_of n k ConstraintName.ArrayIntMinimum = on_one_of_row (λ m xs. Kernel.Min (variable_of n k m) (variables_of n k xs) ∷ [])
+row_of n k ConstraintName.ArrayIntElement = on_entry (λ x xs c. Kernel.Element (variable_of n k x) (variables_of n k xs) (variable_of n k c) ∷ [])
+row_of n k ConstraintName.ArrayVarIntElement = on_entry (λ x xs c. Kernel.Element (variable_of n k x) (variables_of n k xs) (variable_of n k c) ∷ [])
+row_of n k ConstraintName.ArrayBoolElement = on_entry (λ x xs c. Kernel.Element (variable_of n k x) (variables_of n k xs) (variable_of n k c) ∷ [])
+row_of n k ConstraintName.ArrayVarBoolElement = on_entry (λ x xs c. Kernel.Element (variable_of n k x) (variables_of n k xs) (variable_of n k c) ∷ [])
+row_of n k ConstraintName.SetIn = on_set (λ x s. Kernel.InSet always (variable_of n k x) s ∷ [])
+row_of n k ConstraintName.SetInReif = on_reified_set (λ x s r. Kernel.InSet (literal_of n k r) (variable_of n k x) s ∷ [])
+row_of n k ConstraintName.BoolToInt = on_two (λ x y. equation n k always difference (x ∷ y ∷ []) (pos 0))
+row_of n k ConstraintName.BoolEq = on_two (λ x y. equation n k always difference (x ∷ y ∷ []) (pos 0))
+row_of n k ConstraintName.BoolLe = on_two (λ x y. inequality n k always difference (x ∷ y ∷ []) (pos 0))
+row_of n k ConstraintName.BoolLt = on_two (λ x y. inequality n k always difference (x ∷ y ∷ []) (negsuc 0))
+row_of n k ConstraintName.BoolEqReif = on_three (λ x y r. equation n k (literal_of n k r) difference (x ∷ y ∷ []) (pos 0))
+row_of n k ConstraintName.BoolLeReif = on_three (λ x y r. inequality n k (literal_of n k r) difference (x ∷ y ∷ []) (pos 0))
+row_of n k ConstraintName.BoolLtReif = on_three (λ x y r. inequality n k (literal_of n k r) difference (x ∷ y ∷ []) (negsuc 0))
+row_of n k ConstraintName.BoolNot = on_two (λ x y. equation n k always plain_sum (x ∷ y ∷ []) (pos 1))
+row_of n k ConstraintName.BoolXor = on_two_or_three (λ x y. equation n k always plain_sum (x ∷ y ∷ []) (pos 1)) (λ x y r. equation n k (opposite_of n k r) difference (x ∷ y ∷ []) (pos 0))
+row_of n k ConstraintName.BoolAnd = on_three (λ x y r. conjunction n k (x ∷ y ∷ []) r)
+row_of n k ConstraintName.BoolOr = on_three (λ x y r. disjunction n k (x ∷ y ∷ []) r)
+row_of n k ConstraintName.ArrayBoolAnd = on_row (λ xs r. conjunction n k xs r)
+row_of n k ConstraintName.ArrayBoolOr = on_row (λ xs r. disjunction n k xs r)
+row_of n k ConstraintName.BoolClause = on_rows (λ xs ys. Kernel.Clause (clause_literals n k xs ys) ∷ [])
+row_of n k ConstraintName.BoolClauseReif = on_reified_rows (λ xs ys r. some_of (literal_of n k r) (clause_literals n k xs ys))
+row_of n k ConstraintName.BoolLinLe = on_sum (λ cs xs c. inequality n k always cs xs c)
+row_of n k ConstraintName.BoolLinEq = on_equal_sum (λ cs xs c. equation n k always (cs ++ negsuc 0 ∷ []) (xs ++ c ∷ []) (pos 0))
+
+-- the kernels of a constraint
+abbrev pub kernels_on : ℕ → List ℤ → Constraint → List Kernel
+kernels_on count constants constraint = row_of count constants constraint.name constraint.operands
 
 -- the kernels of the constraints, in the model's order
 abbrev pub kernels_of : FznModel → List Kernel
-kernels_of model = flat_map (kernels_on model.vars (constants_of model)) model.constraints
+kernels_of model = flat_map (kernels_on (length model.vars) (constants_of model)) model.constraints

@@ -1,4 +1,5 @@
 pub mod Examples
 pub mod Kernels
+pub mod Places
 pub mod Program
 pub mod Rows

@@ -2,8 +2,9 @@
 --
 -- The variables of a program are numbered thus: 0 is the constant 1, which is also true; then come the declared variables
 -- in their order; then each other number that stands where a variable may, in the order in which they first stand.
-use Rattle.std.specs.Prelude.{◌≡◌, ◌↔◌, ℤ, pos, List, ◌∷◌, ◌++◌, length, map, sum_by, All}
-use Rattle.interval.specs.Boxes.{Bounds, IsInside}
+use Rattle.std.specs.Prelude.{◌≡◌, ◌↔◌, ℕ, ◌<◌, ℤ, pos, List, ◌∷◌, ◌++◌, length, map, sum_by, All}
+use Rattle.interval.specs.Limits.{IsNumber}
+use Rattle.interval.specs.Boxes.{Bounds, low_of, high_of, IsInRange, IsInside}
 use Rattle.guarded_tell.specs.Kernels.{IsKernel, Holds as KernelHolds}
 use Rattle.fzn_model.specs.declared.model.VarDecl.{VarDecl}
 use Rattle.fzn_model.specs.declared.model.FznModel.{FznModel}
@@ -38,11 +39,14 @@ pub record Extends (model : FznModel) (numbers : List ℤ) : Type 0 where
   pub within : IsWithin assignment model.vars
   pub is_extension : numbers ≡ extended model assignment
 
--- a program means its model: its kernels are those of the constraints, the points of its start are the extended
--- assignments within the declared bounds, and on each of them all kernels hold exactly where all constraints of the model do
+-- a program means its model: its kernels are those of the constraints, its start's bounds are numbers of a model, the points
+-- of its start are the extended assignments within the declared bounds, and on each of them all kernels hold exactly where
+-- all constraints of the model do
 pub record IsProgramOf (model : FznModel) (program : Program) : Type 0 where
   pub start : program.start ≡ start_of model
   pub kernels : program.kernels ≡ kernels_of model
+  pub in_range : IsInRange program.start
+  pub bounds : (v : ℕ) → v < length program.start → IsNumber (low_of program.start v) × IsNumber (high_of program.start v)
   pub points : (numbers : List ℤ) → IsInside (fixed_box numbers) program.start ↔ Extends model numbers
   pub can_run : All (IsKernel (length program.start)) program.kernels
   pub count : length program.kernels ≡ sum_by kernel_count model.constraints

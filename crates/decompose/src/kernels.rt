@@ -1,87 +1,103 @@
 //! The kernels of constraints.
 
-ghost use Rattle.std.specs.Prelude.{◌≡◌, [], ◌∷◌, All, IfOk, OnOk};
-ghost use Rattle.fzn_model.specs.Relations.{Holds};
-ghost use Rattle.fzn_model.specs.WellFormed.{IsConstraintOf};
+ghost use Rattle.std.specs.Prelude.{◌≡◌, ◌++◌, flat_map, All, IfOk, OnOk};
 ghost use Rattle.decompose.specs.Kernels.{kernels_on};
-ghost use Rattle.decompose.specs.Rows.{AreFew, HasShape, HasConstants, IsKernelOf, AddsKernels, AreKernelsOf};
+ghost use Rattle.decompose.specs.Places.{AreFew, HasDeclared};
 
-use crate::rows::{
-    less, less_or_equal, less_or_equal_reified, less_reified, linear_at_most,
-    linear_at_most_reified,
+use crate::booleans::{clause, clause_reified, joined_row, joined_two};
+use crate::comparisons::{AT_MOST, EQUAL, LESS, OPPOSITE, exclusive_or, two, two_reified};
+use crate::places::{ALWAYS, NEVER, Places};
+use crate::sums::{Relation, plus, sum, sum_equal, sum_reified};
+use crate::terms::{
+    Extreme, absolute, element, extreme_of_row, extreme_of_two, member, member_reified, times,
 };
-use fzn_model::table::law_table;
-use fzn_model::{Constraint, ConstraintName, VarDecl};
+use fzn_model::{Constraint, ConstraintName as Name};
 use guarded_tell::Kernel;
-use indexmap::IndexSet;
 use list_of::ListOf;
 use std::alloc::{AllocError, Global};
 
-/// The kernel of a constraint that is run as one.
-fn kernel_of(
-    alloc: Global,
-    vars: &[VarDecl],
-    constants: &IndexSet<i64>,
-    constraint: &Constraint,
-) -> Result<Kernel, AllocError>
-    requires few { AreFew vars.now constants.now.keys }
-    requires shape { HasShape vars.now constants.now.keys constraint.now.name constraint.now.operands }
-    ensures meaning { IfOk result (IsKernelOf vars.now constants.now.keys (Holds constraint.now)) }
-    ensures exact { IfOk result (λ k. kernels_on vars.now constants.now.keys constraint.now ≡ k ∷ []) }
-{
-    let operands = constraint.operands.as_slice();
-    match constraint.name {
-        ConstraintName::IntLe | ConstraintName::BoolLe => {
-            less_or_equal(alloc, vars, constants, operands)
-        }
-        ConstraintName::IntLt | ConstraintName::BoolLt => less(alloc, vars, constants, operands),
-        ConstraintName::IntLinLe | ConstraintName::BoolLinLe => {
-            linear_at_most(alloc, vars, constants, operands)
-        }
-        ConstraintName::IntLeReif | ConstraintName::BoolLeReif => {
-            less_or_equal_reified(alloc, vars, constants, operands)
-        }
-        ConstraintName::IntLtReif | ConstraintName::BoolLtReif => {
-            less_reified(alloc, vars, constants, operands)
-        }
-        ConstraintName::IntLinLeReif => linear_at_most_reified(alloc, vars, constants, operands),
-        _ => unreachable!(),
-    }
-}
-
 /// Adds the kernels of a constraint to those of the constraints before it.
+#[tactic(auto, unfolding(crate::specs::Kernels::row_of))]
 fn add_kernels(
     alloc: Global,
-    vars: &[VarDecl],
-    constants: &IndexSet<i64>,
+    places: &Places,
     constraint: &Constraint,
     kernels: &mut ListOf<Kernel>,
 ) -> Result<(), AllocError>
-    requires few { AreFew vars.now constants.now.keys }
-    requires constraint { IsConstraintOf vars.now constraint.now }
-    requires constants { HasConstants constants.now.keys constraint.now }
-    ensures { OnOk result (AddsKernels vars.now constants.now.keys constraint.now kernels.old kernels.new) }
+    requires few { AreFew places.now.count places.now.constants.keys }
+    requires declared { All (HasDeclared places.now.count) constraint.now.operands }
+    ensures { OnOk result (kernels.new ≡ kernels.old ++ kernels_on places.now.count places.now.constants.keys constraint.now) }
 {
-    law_table();
-    kernels.push(kernel_of(alloc, vars, constants, constraint)?)?;
-    Ok(())
+    let operands = constraint.operands.as_slice();
+    match constraint.name {
+        Name::IntEq | Name::BoolToInt | Name::BoolEq => {
+            two(alloc, places, EQUAL, ALWAYS, operands, kernels)
+        }
+        Name::IntNe => two(alloc, places, EQUAL, NEVER, operands, kernels),
+        Name::IntLe | Name::BoolLe => two(alloc, places, AT_MOST, ALWAYS, operands, kernels),
+        Name::IntLt | Name::BoolLt => two(alloc, places, LESS, ALWAYS, operands, kernels),
+        Name::BoolNot => two(alloc, places, OPPOSITE, ALWAYS, operands, kernels),
+        Name::IntEqReif | Name::BoolEqReif => {
+            two_reified(alloc, places, EQUAL, true, operands, kernels)
+        }
+        Name::IntNeReif => two_reified(alloc, places, EQUAL, false, operands, kernels),
+        Name::IntLeReif | Name::BoolLeReif => {
+            two_reified(alloc, places, AT_MOST, true, operands, kernels)
+        }
+        Name::IntLtReif | Name::BoolLtReif => {
+            two_reified(alloc, places, LESS, true, operands, kernels)
+        }
+        Name::BoolXor => exclusive_or(alloc, places, operands, kernels),
+        Name::IntLinEq => sum(alloc, places, Relation::Equal, ALWAYS, operands, kernels),
+        Name::IntLinNe => sum(alloc, places, Relation::Equal, NEVER, operands, kernels),
+        Name::IntLinLe | Name::BoolLinLe => {
+            sum(alloc, places, Relation::AtMost, ALWAYS, operands, kernels)
+        }
+        Name::IntLinEqReif => sum_reified(alloc, places, Relation::Equal, true, operands, kernels),
+        Name::IntLinNeReif => sum_reified(alloc, places, Relation::Equal, false, operands, kernels),
+        Name::IntLinLeReif => sum_reified(alloc, places, Relation::AtMost, true, operands, kernels),
+        Name::BoolLinEq => sum_equal(alloc, places, operands, kernels),
+        Name::IntPlus => plus(alloc, places, operands, kernels),
+        Name::IntTimes => times(places, operands, kernels),
+        Name::IntAbs => absolute(places, operands, kernels),
+        Name::IntMax => extreme_of_two(alloc, places, Extreme::Greatest, operands, kernels),
+        Name::IntMin => extreme_of_two(alloc, places, Extreme::Least, operands, kernels),
+        Name::ArrayIntMaximum => extreme_of_row(
+            alloc,
+            places,
+            Extreme::Greatest,
+            operands,
+            kernels,
+        ),
+        Name::ArrayIntMinimum => extreme_of_row(alloc, places, Extreme::Least, operands, kernels),
+        Name::ArrayIntElement
+        | Name::ArrayVarIntElement
+        | Name::ArrayBoolElement
+        | Name::ArrayVarBoolElement => element(alloc, places, operands, kernels),
+        Name::SetIn => member(alloc, places, operands, kernels),
+        Name::SetInReif => member_reified(alloc, places, operands, kernels),
+        Name::BoolAnd => joined_two(alloc, places, false, operands, kernels),
+        Name::BoolOr => joined_two(alloc, places, true, operands, kernels),
+        Name::ArrayBoolAnd => joined_row(alloc, places, false, operands, kernels),
+        Name::ArrayBoolOr => joined_row(alloc, places, true, operands, kernels),
+        Name::BoolClause => clause(alloc, places, operands, kernels),
+        Name::BoolClauseReif => clause_reified(alloc, places, operands, kernels),
+    }
 }
 
 /// The kernels of the constraints, in their order.
 pub(crate) fn kernels_of(
     alloc: Global,
-    vars: &[VarDecl],
-    constants: &IndexSet<i64>,
+    places: &Places,
     constraints: &[Constraint],
 ) -> Result<ListOf<Kernel>, AllocError>
-    requires few { AreFew vars.now constants.now.keys }
-    requires constraints { All (IsConstraintOf vars.now) constraints.now }
-    requires constants { All (HasConstants constants.now.keys) constraints.now }
-    ensures { IfOk result (AreKernelsOf vars.now constants.now.keys constraints.now) }
+    requires few { AreFew places.now.count places.now.constants.keys }
+    requires declared { All (λ c. All (HasDeclared places.now.count) c.operands) constraints.now }
+    ensures { IfOk result (λ kernels. kernels ≡ flat_map (kernels_on places.now.count places.now.constants.keys) constraints.now) }
 {
     let mut kernels = ListOf::new(alloc);
     for constraint in constraints {
-        add_kernels(alloc, vars, constants, constraint, &mut kernels)?;
+        add_kernels(alloc, places, constraint, &mut kernels)?;
     }
     Ok(kernels)
 }

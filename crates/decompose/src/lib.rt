@@ -1,13 +1,18 @@
 //! Turns a model into a program: a box to begin with, and kernels that hold exactly where the constraints do.
 #![tactic(auto)]
 
+mod booleans;
+mod comparisons;
 mod constants;
+#[cfg(test)]
+mod kernel_tests;
 mod kernels;
+mod places;
 mod program;
-mod rows;
 mod start;
+mod sums;
+mod terms;
 #[cfg(test)]
 mod tests;
-mod variables;
 
 pub use program::{Program, compile, law_one_program};

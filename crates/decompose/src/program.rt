@@ -8,8 +8,10 @@ ghost use Rattle.decompose.specs.Program.{IsProgramOf};
 
 use crate::constants::constant_set;
 use crate::kernels::kernels_of;
+use crate::places::Places;
 use crate::start::start_box;
 use fzn_model::FznModel;
+use fzn_model::table::law_table;
 use guarded_tell::Kernel;
 use interval::{BoxOf, NoMemory};
 use list_of::ListOf;
@@ -30,10 +32,15 @@ pub fn compile(alloc: Global, model: &FznModel) -> Result<Program, NoMemory>
     requires { IsWellFormed model.now }
     ensures { IfOk result (λ program. IsProgramOf model.now program) }
 {
+    law_table();
     let constants = constant_set(alloc, model)?;
     let vars = model.vars.as_slice();
     let start = start_box(alloc, vars, constants.as_slice())?;
-    let kernels = kernels_of(alloc, vars, &constants, model.constraints.as_slice())?;
+    let places = Places {
+        count: vars.len() as u32,
+        constants,
+    };
+    let kernels = kernels_of(alloc, &places, model.constraints.as_slice())?;
     Ok(Program { start, kernels })
 }
 

@@ -1,3 +1,4 @@
+pub mod AddedLaws
 pub mod ConstantLaws
 pub mod EffectLaws
 pub mod FaultLaws

@@ -76,7 +76,6 @@ constraint_stays vars more c h = record {
   is_on = h.is_on;
   fits = h.fits;
   each = All-weaker (IsMeaningOf vars) (IsMeaningOf (vars ++ more)) (meaning_stays vars more) h.meanings h.each;
-  runs = h.runs;
 }
 
 -- ---- numbers
@@ -153,7 +152,7 @@ unfolding ranges_of
 ranges_length numbers = omega (arith, of_rising_length (rising numbers), rising_length numbers)
 
 -- both ends of a range
-abbrev Ends : (ℤ → Type 0) → Range → Type 0
+abbrev pub Ends : (ℤ → Type 0) → Range → Type 0
 Ends P r = P r.0 × P r.1
 
 insert_each : (P : ℤ → Type 0) (z : ℤ) (xs : List ℤ) → P z → Each P xs → Each P (insert_number z xs)
@@ -181,11 +180,11 @@ unfolding ranges_of_rising
 of_rising_each P [] h = tt
 of_rising_each P (z ∷ zs) h = on_each P z z zs h.0 h.0 h.1
 
-ranges_each : (P : ℤ → Type 0) (numbers : List ℤ) → Each P numbers → Each (Ends P) (ranges_of numbers)
+pub ranges_each : (P : ℤ → Type 0) (numbers : List ℤ) → Each P numbers → Each (Ends P) (ranges_of numbers)
 unfolding ranges_of
 ranges_each P numbers h = of_rising_each P (rising numbers) (rising_each P numbers h)
 
-numbers_each : (text : List ℕ) (values : List Token) → Each IsInProfile (map (number_at text) values)
+pub numbers_each : (text : List ℕ) (values : List Token) → Each IsInProfile (map (number_at text) values)
 numbers_each text [] = tt
 numbers_each text (t ∷ ts) = (number_in_profile text t, numbers_each text ts)
 
@@ -196,7 +195,7 @@ interval_meaning vars low high l h = by (int_le low high) (intervals_hold low hi
     by true a = (omega arith, a, All-from_recursion (Ends IsInProfile) ((low, high) ∷ []) ((l, h), tt))
     by false a = (omega arith, a, All-from_recursion (Ends IsInProfile) [] tt)
 
-set_meaning : (vars : List VarDecl) (text : List ℕ) (s : SetLit) → set_is_long s ≡ false → IsMeaningOf vars (Meaning.Set (set_at text s))
+pub set_meaning : (vars : List VarDecl) (text : List ℕ) (s : SetLit) → set_is_long s ≡ false → IsMeaningOf vars (Meaning.Set (set_at text s))
 set_meaning vars text (SetLit.Range low high) e = interval_meaning vars (number_at text low) (number_at text high) (number_in_profile text low) (number_in_profile text high)
 set_meaning vars text (SetLit.Braces values) e =
     let numbers : List ℤ = map (number_at text) values in

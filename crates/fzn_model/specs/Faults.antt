@@ -13,13 +13,12 @@ use Rattle.fzn_parser.specs.Texts.{spelling}
 use Rattle.fzn_model.specs.declared.scope.Meaning.{Meaning}
 use Rattle.fzn_model.specs.declared.scope.Scalar.{Scalar}
 use Rattle.fzn_model.specs.declared.table.Letter.{Letter}
-use Rattle.fzn_model.specs.declared.table.ConstraintName.{ConstraintName}
 use Rattle.fzn_model.specs.declared.stop.Stop.{Stop}
 use Rattle.fzn_model.specs.declared.effect.Effect.{Effect}
 use Rattle.fzn_model.specs.Numbers.{number_of}
 use Rattle.fzn_model.specs.Scopes.{Scope, meaning_of, expr_meaning}
 use Rattle.fzn_model.specs.Fits.{named, fits, row_for, is_constant}
-use Rattle.fzn_model.specs.Effects.{Reading, joined, effect_of, meanings_of, declares_variable, is_bool_shape, equality_name}
+use Rattle.fzn_model.specs.Effects.{Reading, joined, effect_of, meanings_of}
 
 -- ---- the kinds
 
@@ -93,48 +92,17 @@ uses_unknown text scope what = list_any (expr_uses_unknown text scope) (expressi
 
 -- ---- constraints and types
 
--- The constraints that this solver runs so far: those that are inequalities throughout. This one definition is the cut
--- that the propagators of the others, once they stand, take away.
-abbrev pub is_run : ConstraintName → Bool
-is_run ConstraintName.IntLe = true
-is_run ConstraintName.IntLt = true
-is_run ConstraintName.IntLinLe = true
-is_run ConstraintName.IntLeReif = true
-is_run ConstraintName.IntLtReif = true
-is_run ConstraintName.IntLinLeReif = true
-is_run ConstraintName.BoolLe = true
-is_run ConstraintName.BoolLt = true
-is_run ConstraintName.BoolLeReif = true
-is_run ConstraintName.BoolLtReif = true
-is_run ConstraintName.BoolLinLe = true
-is_run _ = false
-
 abbrev pub if_some : {A : Type 0} → (A → Bool) → Option A → Bool
 if_some test (Some x) = test x
 if_some test None = false
 
+-- no constraint is spelled so
 abbrev pub is_unknown : List ℕ → Bool
-is_unknown name = not (if_some is_run (named name))
+is_unknown name = is_none (named name)
 
-abbrev pub has_braces : Shape → Bool
-has_braces (Shape.VarIn (SetLit.Braces values)) = true
-has_braces _ = false
-
-abbrev pub is_var_in : Shape → Bool
-is_var_in (Shape.VarIn s) = true
-is_var_in _ = false
-
-abbrev pub has_entries : Expr → Bool
-has_entries (Expr.One e) = true
-has_entries (Expr.Row es) = nat_lt 0 (length es)
-
--- the item's constraint, or one that its declaration adds, isn't known
+-- the item's constraint isn't known; those that declarations add are
 abbrev pub has_unknown_constraint : List ℕ → WhatTree → Bool
 has_unknown_constraint text (constraint_item name args notes) = is_unknown (spelling text name)
-has_unknown_constraint text (scalar_item shape name notes value) =
-    (has_braces shape && not (is_run ConstraintName.SetIn))
-    || (declares_variable shape && is_some value && not (is_run (equality_name (is_bool_shape shape))))
-has_unknown_constraint text (array_item low high shape name notes value) = is_var_in shape && has_entries value && not (is_run ConstraintName.SetIn)
 has_unknown_constraint text _ = false
 
 -- a boolean or an integer is of this type, or may stand in an array of such elements

@@ -1,5 +1,5 @@
 -- What holds of the model of every text: declared bounds and numbers are in the profile, terms are declared variables of
--- the right type, each constraint is one that runs with arguments that fit it, and no limit is passed.
+-- the right type, each constraint has arguments that fit it, and no limit is passed.
 use Rattle.std.specs.Prelude.{◌≡◌, ◌⊎◌, ℕ, ◌≤◌, ◌<◌, ℤ, pos, List, [], ◌++◌, length, fold, flat_map, sum_by, slice_index_or, All, Bool, false, IsTrue, IsSome}
 use Rattle.fzn_model.specs.declared.model.Term.{Term}
 use Rattle.fzn_model.specs.declared.model.VarDecl.{VarDecl}
@@ -12,7 +12,7 @@ use Rattle.fzn_model.specs.Numbers.{IsInProfile}
 use Rattle.fzn_model.specs.Ranges.{Range, AreApart}
 use Rattle.fzn_model.specs.Fits.{row_for, constraint_on, constants_in, add_once, kernels_of}
 use Rattle.fzn_model.specs.Effects.{goal_constants}
-use Rattle.fzn_model.specs.Faults.{is_run, most_vars, most_entries, most_kernels, most_constants}
+use Rattle.fzn_model.specs.Faults.{most_vars, most_entries, most_kernels, most_constants}
 
 -- the bounds of a variable are in the profile, those of a boolean are 0 and 1
 pub record IsDeclaration (d : VarDecl) : Type 0 where
@@ -40,13 +40,12 @@ IsMeaningOf vars (Meaning.Row entries) = (length entries ≤ most_entries) × Al
 IsMeaningOf vars (Meaning.Set ranges) =
     (length ranges ≤ most_entries) × AreApart ranges × All (λ (r : Range). IsInProfile r.0 × IsInProfile r.1) ranges
 
--- a constraint that runs, on arguments that fit a way in which it may be called
+-- a constraint on arguments that fit a way in which it may be called
 pub record IsConstraintOf (vars : List VarDecl) (c : Constraint) : Type 0 where
   pub meanings : List Meaning
   pub is_on : c ≡ constraint_on c.name meanings
   pub fits : IsSome (row_for c.name meanings)
   pub each : All (IsMeaningOf vars) meanings
-  pub runs : IsTrue (is_run c.name)
 
 -- an objective is an integer
 abbrev pub IsGoalOf : List VarDecl → Goal → Type 0

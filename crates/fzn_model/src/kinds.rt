@@ -6,7 +6,7 @@ pub const NAME_TWICE: u8 = 3;
 /// The item uses a name that no earlier item declared.
 pub const NAME_UNKNOWN: u8 = 4;
 
-/// The item's constraint, or one that its declaration adds, isn't known.
+/// The item's constraint isn't known.
 pub const UNKNOWN_CONSTRAINT: u8 = 5;
 
 /// Arguments, a value, an index set or an objective don't fit.

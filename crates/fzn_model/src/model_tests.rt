@@ -158,6 +158,53 @@ fn constraints_have_their_arguments(rt: HostRuntime) -> Result<(), Fail> {
     Ok(())
 }
 
+/// The variables and then the constraints of a text, a line each.
+fn shown(alloc: Global, text: &str) -> Result<String, AllocError> {
+    let model = model_of(alloc, text)?;
+    let mut shown = String::new(alloc);
+    show_variables(&mut shown, model.vars.as_slice())?;
+    show_constraints(&mut shown, model.constraints.as_slice())?;
+    Ok(shown)
+}
+
+#[test]
+fn declarations_add_constraints_in_order(rt: HostRuntime) -> Result<(), Fail> {
+    for (text, expected) in [
+        (
+            "var {3,1,2}: x = 2; solve satisfy;",
+            "x false 1 3\nset_in #0 1..3 \nint_eq #0 2 \n",
+        ),
+        (
+            "var {}: e; var {7, -2, 6}: s; solve satisfy;",
+            "e false 1 0\ns false -2 7\nset_in #0 \nset_in #1 -2..-2 6..7 \n",
+        ),
+        (
+            "var bool: b = true; var bool: c = b; solve satisfy;",
+            "b true 0 1\nc true 0 1\nbool_eq #0 1 \nbool_eq #1 #0 \n",
+        ),
+        (
+            "var 1..2: x; var 5..3: y = x; solve satisfy;",
+            "x false 1 2\ny false 5 3\nint_eq #1 #0 \n",
+        ),
+        (
+            "var 0..9: x; var 0..9: y; array [1..2] of var 1..5: a = [x,y]; solve satisfy;",
+            "x false 0 9\ny false 0 9\nset_in #0 1..5 \nset_in #1 1..5 \n",
+        ),
+        (
+            "array [1..2] of var {4, 2}: a = [3, 2]; array [1..1] of var 2..1: b = [0]; solve satisfy;",
+            "set_in 3 2..2 4..4 \nset_in 2 2..2 4..4 \nset_in 0 \n",
+        ),
+        (
+            "array [1..1] of var int: a = [3]; set of int: s = {1}; int: c = 1; solve satisfy;",
+            "",
+        ),
+    ] {
+        let model = shown(rt.alloc(), text)?;
+        assert_eq!(rt; model.as_str(), expected, "at {text}");
+    }
+    Ok(())
+}
+
 #[test]
 fn outputs_stand_in_the_order_of_the_declarations(rt: HostRuntime) -> Result<(), Fail> {
     let text = "var bool: b :: output_var; int: c :: output_var = 3; bool: t :: output_var = true; \

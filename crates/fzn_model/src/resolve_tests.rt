@@ -43,12 +43,16 @@ fn names_and_constraints_have_their_faults(rt: HostRuntime) -> Result<(), Fail> 
         (4, "", "int: a = a; solve satisfy;"),
         (4, "", "array [1..1] of int: a = [q]; solve satisfy;"),
         (4, "predicate q(int: q); ", "solve minimize q;"),
+        (4, "", "var {1}: x = q; solve satisfy;"),
         (5, "", "constraint no_such(1); solve satisfy;"),
-        (5, "", "constraint int_eq(1, 1); solve satisfy;"),
-        (5, "", "var {1}: x; solve satisfy;"),
-        (5, "", "var int: x = 1; solve satisfy;"),
-        (5, "var bool: x; ", "var bool: y = x; solve satisfy;"),
-        (5, "int: c = 1; ", "array [1..1] of var 1..2: a = [c];"),
+        (5, "", "constraint int_div(4, 2, 2); solve satisfy;"),
+        (5, "", "constraint int_mod(4, 2, 0); solve satisfy;"),
+        (5, "", "constraint INT_EQ(1, 1); solve satisfy;"),
+        (
+            5,
+            "predicate p(int: x); ",
+            "constraint p(1); solve satisfy;",
+        ),
     ] {
         let fault = fault_of(rt.alloc(), front, rest)?;
         assert_eq!(rt; fault, Some((kind, front.len())), "at {front}{rest}");
@@ -71,6 +75,14 @@ fn arguments_and_types_have_their_faults(rt: HostRuntime) -> Result<(), Fail> {
         ),
         (6, "", "int: x = 1.5; solve satisfy;"),
         (6, "var int: x; ", "int: y = x; solve satisfy;"),
+        (6, "", "constraint set_in(1, 1); solve satisfy;"),
+        (6, "", "constraint bool_xor(true); solve satisfy;"),
+        (6, "", "constraint array_int_element(1, [true], 1);"),
+        (6, "", "var 1..2: x = true; solve satisfy;"),
+        (6, "", "var {1}: x = {1}; solve satisfy;"),
+        (6, "var int: x; ", "var bool: y = x; solve satisfy;"),
+        (6, "var int: b; ", "array [1..1] of var 1..2: a = b;"),
+        (6, "", "array [1..1] of var {1}: a = [true];"),
         (7, "", "float: f = 1.5; solve satisfy;"),
         (7, "", "var float: f; solve satisfy;"),
         (7, "", "var set of {1}: s = {1}; solve satisfy;"),
@@ -94,6 +106,9 @@ fn numbers_and_ends_have_their_faults(rt: HostRuntime) -> Result<(), Fail> {
         (8, "", "var 0..2147483647: x; solve satisfy;"),
         (8, "", "int: a = -0x7fffffff; solve satisfy;"),
         (8, "", "constraint int_le(0o17777777777, 1); solve satisfy;"),
+        (8, "", "var {1, 2147483647}: x; solve satisfy;"),
+        (8, "", "var int: x = 2147483647; solve satisfy;"),
+        (8, "", "array [1..0] of var {2147483647}: a = [];"),
         (8, "", "set of int: s = {1, 2147483647}; solve satisfy;"),
         (
             8,
@@ -146,9 +161,9 @@ fn of_two_faults_in_an_item_the_least_counts(rt: HostRuntime) -> Result<(), Fail
 #[test]
 fn of_two_greater_faults_in_an_item_the_least_counts(rt: HostRuntime) -> Result<(), Fail> {
     for (kind, front, rest) in [
-        (5, "", "var int: x = true; solve satisfy;"),
-        (5, "", "var {2147483647}: x; solve satisfy;"),
         (5, "solve satisfy; ", "constraint no_such(1);"),
+        (5, "", "constraint no_such(2147483647); solve satisfy;"),
+        (6, "", "var {2147483647}: x = true; solve satisfy;"),
         (
             6,
             "",
@@ -161,6 +176,8 @@ fn of_two_greater_faults_in_an_item_the_least_counts(rt: HostRuntime) -> Result<
         (7, "", "var set of 1..2147483647: s; solve satisfy;"),
         (7, "solve satisfy; ", "solve minimize 1;"),
         (8, "solve satisfy; ", "int: a = 2147483647;"),
+        (8, "solve satisfy; ", "var {2147483647}: x;"),
+        (11, "solve satisfy; ", "var {1}: x = 2;"),
     ] {
         let fault = fault_of(rt.alloc(), front, rest)?;
         assert_eq!(rt; fault, Some((kind, front.len())), "at {front}{rest}");
@@ -176,6 +193,10 @@ fn lawful_texts_have_a_model(rt: HostRuntime) -> Result<(), Fail> {
         "var 5..3: x; var -2147483646..2147483646: y; solve satisfy;",
         "array [1..0] of var 1..2: a = []; solve satisfy;",
         "array [0x1..01] of var int: a = [0]; solve satisfy;",
+        "int: c = 1; array [1..1] of var 1..2: a = [c]; solve satisfy;",
+        "var bool: x; var bool: y = x; var {4, 2}: z; var int: v = 1; solve satisfy;",
+        "constraint int_eq(1, 2); constraint set_in(3, {}); solve satisfy;",
+        "constraint bool_xor(true, true); constraint bool_xor(true, false, true); solve satisfy;",
         "var 1..2: x :: note(2147483647, q, 1.5); solve :: q satisfy;",
         "set of int: s = {3, 1}; set of int: t = s; set of int: u = 2..1; solve satisfy;",
     ] {
@@ -199,6 +220,7 @@ fn lists_have_65536_entries_and_no_more(rt: HostRuntime) -> Result<(), Fail> {
     let alloc = rt.alloc();
     for (front, more, rest) in [
         ("set of int: s = {1", 65_535, "}; solve satisfy;"),
+        ("var {1", 65_535, "}: x; solve satisfy;"),
         (
             "array [1..65536] of int: a = [1",
             65_535,
@@ -217,11 +239,13 @@ fn lists_have_65536_entries_and_no_more(rt: HostRuntime) -> Result<(), Fail> {
         ),
         (3, "int: s = 1; ", "set of int: s = {1", "}; solve satisfy;"),
         (4, "", "constraint int_le(q, {1", "}); solve satisfy;"),
-        (5, "", "var {1", "}: x; solve satisfy;"),
+        (5, "", "constraint int_div(1, {1", "}); solve satisfy;"),
         (6, "", "constraint int_le(1, {1", "}); solve satisfy;"),
         (7, "", "var set of {1", "}: s; solve satisfy;"),
         (8, "", "set of int: s = {2147483647", "}; solve satisfy;"),
         (9, "solve satisfy; ", "set of int: s = {1", "};"),
+        (9, "", "var {1", "}: x; solve satisfy;"),
+        (9, "", "array [1..0] of var {1", "}: a = []; solve satisfy;"),
     ] {
         let text = long(alloc, item, 65_536, rest)?;
         let fault = fault_of(alloc, front, text.as_str())?;
@@ -246,6 +270,54 @@ fn a_text_declares_65536_variables_and_no_more(rt: HostRuntime) -> Result<(), Fa
     let front = declarations(alloc, 65_536)?;
     assert_eq!(rt; fault_of(alloc, front.as_str(), "solve satisfy;")?, None);
     let more = "var 1..1: b; solve satisfy;";
+    let fault = fault_of(alloc, front.as_str(), more)?;
+    assert_eq!(rt; fault, Some((9, front.len())));
+    Ok(())
+}
+
+/// A line with an element constraint that names all numbers from the first to the last.
+fn element_line(alloc: Global, first: usize, last: usize) -> Result<String, AllocError> {
+    let mut text = String::from_str(alloc, "constraint array_int_element(1,[")?;
+    for number in first..last {
+        let entry = format!(in alloc; "{number},")?;
+        text.push_str(entry.as_str())?;
+    }
+    let end = format!(in alloc; "{last}],{last});\n")?;
+    text.push_str(end.as_str())?;
+    Ok(text)
+}
+
+#[test]
+fn a_text_has_131072_constants_and_no_more(rt: HostRuntime) -> Result<(), Fail> {
+    let alloc = rt.alloc();
+    let mut front = element_line(alloc, 2, 65_537)?;
+    front.push_str(element_line(alloc, 65_538, 131_073)?.as_str())?;
+    assert_eq!(rt; fault_of(alloc, front.as_str(), "solve satisfy;")?, None);
+    let more = "constraint int_le(1,131074); solve satisfy;";
+    let fault = fault_of(alloc, front.as_str(), more)?;
+    assert_eq!(rt; fault, Some((9, front.len())));
+    Ok(())
+}
+
+/// An array of 65,535 booleans, and so many lines each of which is run as 65,536 propagators.
+fn conjunctions(alloc: Global, count: usize) -> Result<String, AllocError> {
+    let mut text = String::from_str(alloc, "var bool: b;\narray [1..65535] of var bool: a = [b")?;
+    for _ in 1..65_535 {
+        text.push_str(",b")?;
+    }
+    text.push_str("];\n")?;
+    for _ in 0..count {
+        text.push_str("constraint array_bool_and(a,b);\n")?;
+    }
+    Ok(text)
+}
+
+#[test]
+fn constraints_are_run_as_1048576_propagators_and_no_more(rt: HostRuntime) -> Result<(), Fail> {
+    let alloc = rt.alloc();
+    let front = conjunctions(alloc, 16)?;
+    assert_eq!(rt; fault_of(alloc, front.as_str(), "solve satisfy;")?, None);
+    let more = "constraint array_bool_and(a,b); solve satisfy;";
     let fault = fault_of(alloc, front.as_str(), more)?;
     assert_eq!(rt; fault, Some((9, front.len())));
     Ok(())

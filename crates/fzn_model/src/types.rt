@@ -11,7 +11,7 @@ use crate::exprs::spelling;
 use crate::model::Term;
 use crate::scope::{Meaning, Scalar};
 use crate::table::ConstraintName;
-use fzn_parser::tree::{Aim, Expr, SetLit, Shape, What};
+use fzn_parser::tree::{Aim, Shape, What};
 
 /// Whether it is a boolean's type.
 pub(crate) fn is_bool_shape(shape: &Shape) -> bool
@@ -25,18 +25,6 @@ pub(crate) fn declares_variable(shape: &Shape) -> bool
     ensures { result ≡ effects.declares_variable shape.now }
 {
     matches!(shape, Shape::VarBool | Shape::VarInt | Shape::VarIn(_))
-}
-
-fn has_braces(shape: &Shape) -> bool
-    ensures { result ≡ faults.has_braces shape.now }
-{
-    matches!(shape, Shape::VarIn(SetLit::Braces(_)))
-}
-
-fn is_var_in(shape: &Shape) -> bool
-    ensures { result ≡ faults.is_var_in shape.now }
-{
-    matches!(shape, Shape::VarIn(_))
 }
 
 fn is_unsupported_type(shape: &Shape) -> bool
@@ -68,26 +56,10 @@ pub(crate) fn is_unsupported(what: &What) -> bool
     }
 }
 
-// The constraints that are inequalities throughout.
-fn is_run(name: ConstraintName) -> bool
-    ensures { result ≡ faults.is_run name }
-{
-    match name {
-        ConstraintName::IntLe | ConstraintName::IntLt | ConstraintName::IntLinLe => true,
-        ConstraintName::IntLeReif | ConstraintName::IntLtReif => true,
-        ConstraintName::IntLinLeReif | ConstraintName::BoolLe | ConstraintName::BoolLt => true,
-        ConstraintName::BoolLeReif | ConstraintName::BoolLtReif | ConstraintName::BoolLinLe => true,
-        _ => false,
-    }
-}
-
 fn is_unknown(name: &[u8]) -> bool
     ensures { result ≡ faults.is_unknown name.now }
 {
-    match ConstraintName::named(name) {
-        Some(known) => !is_run(known),
-        None => true,
-    }
+    ConstraintName::named(name).is_none()
 }
 
 pub(crate) fn equality_name(is_bool: bool) -> ConstraintName
@@ -100,31 +72,13 @@ pub(crate) fn equality_name(is_bool: bool) -> ConstraintName
     }
 }
 
-fn has_entries(value: &Expr) -> bool
-    ensures { result ≡ faults.has_entries value.now }
-{
-    match value {
-        Expr::One(_) => true,
-        Expr::Row(entries) => !entries.is_empty(),
-    }
-}
-
-/// Whether the item's constraint, or one that its declaration adds, isn't known.
+/// Whether the item's constraint isn't known.
 pub(crate) fn has_unknown_constraint(text: &[u8], what: &What) -> bool
     ensures { result ≡ faults.has_unknown_constraint text.now (what_tree what.now) }
 {
     match what {
         What::Constraint { name, .. } => is_unknown(spelling(text, name)),
-        What::Scalar { shape, value, .. } => {
-            (has_braces(shape) && !is_run(ConstraintName::SetIn))
-                || (declares_variable(shape)
-                    && value.is_some()
-                    && !is_run(equality_name(is_bool_shape(shape))))
-        }
-        What::Array { shape, value, .. } => {
-            is_var_in(shape) && has_entries(value) && !is_run(ConstraintName::SetIn)
-        }
-        What::Predicate(_) | What::Solve { .. } => false,
+        What::Predicate(_) | What::Scalar { .. } | What::Array { .. } | What::Solve { .. } => false,
     }
 }
 

@@ -1,0 +1,54 @@
+-- The rows of products and absolute values.
+use Rattle.std.proofs.Common.{◌≡◌, ℤ, pos, ◌*ℤ◌, unsigned_abs, false, List, [], ◌∷◌, length, refl, ap}
+use Rattle.guarded_tell.specs.declared.kernel.Kernel.{Kernel}
+use Rattle.guarded_tell.specs.Kernels.{vars_of, HasNumbers, Holds as KernelHolds}
+use Rattle.fzn_model.specs.declared.model.Term.{Term}
+use Rattle.fzn_model.specs.declared.model.VarDecl.{VarDecl}
+use Rattle.fzn_model.specs.declared.table.Letter.{Letter}
+use Rattle.fzn_model.specs.declared.table.ConstraintName.{ConstraintName}
+use Rattle.fzn_model.specs.Fits.{kernels_of}
+use Rattle.fzn_model.specs.Relations.{value, HoldsOn}
+use Rattle.decompose.specs.Kernels.{variable_of, variables_of, row_of}
+use Rattle.decompose.proofs.Means.{HasVariable, MeansOne, size_of}
+use Rattle.decompose.proofs.Served.{Law}
+use Rattle.decompose.proofs.OneKernel.{alone, are_variables, variables_inside, two_have, three_have, value_is, by_two, by_three, ends_same}
+
+products_same : (x y u v : ℤ) → x ≡ u → y ≡ v → x *ℤ y ≡ u *ℤ v
+products_same x y u v e f = cc
+
+module _ (vars : List VarDecl) (constants : List ℤ) where
+  product_is : (x y z : Term) → HasVariable vars constants x → HasVariable vars constants y → HasVariable vars constants z
+      → MeansOne vars constants (λ a. value a x *ℤ value a y ≡ value a z) (Kernel.Times (variable_of (length vars) constants x) (variable_of (length vars) constants y) (variable_of (length vars) constants z))
+  unfolding vars_of HasNumbers KernelHolds
+  product_is x y z hx hy hz = record {
+    can_run = record {
+      variables = are_variables (size_of vars constants) (variables_of (length vars) constants (x ∷ y ∷ z ∷ [])) (variables_inside vars constants (x ∷ y ∷ z ∷ []) (three_have vars constants x y z hx hy hz));
+      numbers = tt;
+    };
+    meaning = λ a w.
+        ends_same _ _ (value a x *ℤ value a y) (value a z)
+        (products_same _ _ (value a x) (value a y) (value_is vars constants a w x hx) (value_is vars constants a w y hy)) (value_is vars constants a w z hz);
+  }
+
+  absolute_is : (x y : Term) → HasVariable vars constants x → HasVariable vars constants y
+      → MeansOne vars constants (λ a. pos (unsigned_abs (value a x)) ≡ value a y) (Kernel.Abs (variable_of (length vars) constants x) (variable_of (length vars) constants y))
+  unfolding vars_of HasNumbers KernelHolds
+  absolute_is x y hx hy = record {
+    can_run = record {
+      variables = are_variables (size_of vars constants) (variables_of (length vars) constants (x ∷ y ∷ [])) (variables_inside vars constants (x ∷ y ∷ []) (two_have vars constants x y hx hy));
+      numbers = tt;
+    };
+    meaning = λ a w. ends_same _ _ (pos (unsigned_abs (value a x))) (value a y) (ap (λ v. pos (unsigned_abs v)) (value_is vars constants a w x hx)) (value_is vars constants a w y hy);
+  }
+
+  pub int_times : Law vars constants ConstraintName.IntTimes (Letter.Integer ∷ Letter.Integer ∷ Letter.Integer ∷ [])
+  unfolding row_of kernels_of HoldsOn
+  int_times =
+      by_three vars constants ConstraintName.IntTimes false false false
+      (λ s t u hs ht hu. alone vars constants refl (product_is s.term t.term u.term hs.has ht.has hu.has))
+
+  pub int_abs : Law vars constants ConstraintName.IntAbs (Letter.Integer ∷ Letter.Integer ∷ [])
+  unfolding row_of kernels_of HoldsOn
+  int_abs =
+      by_two vars constants ConstraintName.IntAbs false false
+      (λ s t hs ht. alone vars constants refl (absolute_is s.term t.term hs.has ht.has))

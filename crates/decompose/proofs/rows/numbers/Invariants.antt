@@ -1,7 +1,0 @@
-use Rattle.std.proofs.Common.{◌≡◌, map, take}
-use Rattle.decompose.specs.Kernels.{number_of}
-use Rattle.decompose.proofs.rows.numbers.Given as goal
-
--- the numbers of the terms so far
-abbrev pub invariant-loop-term : goal.invariant-loop-term
-invariant-loop-term l = l.numbers.items ≡ map number_of (take l.term-index l.terms)

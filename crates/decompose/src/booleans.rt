@@ -1,0 +1,239 @@
+//! The kernels of conjunctions, disjunctions and clauses.
+
+ghost use Rattle.std.specs.Prelude.{◌≡◌, ◌++◌, [], ◌∷◌, map, not, All, IfOk, OnOk};
+ghost use Rattle.fzn_model.specs.declared.table.ConstraintName.{ConstraintName};
+ghost use Rattle.decompose.specs.Kernels.{negated, literal_of, some_of, row_of, on_three, on_row, clause_literals};
+ghost use Rattle.decompose.specs.Places.{AreFew, IsDeclared, HasDeclared};
+ghost use Rattle.decompose.specs.Rows.{literal_at, joined};
+
+use crate::places::Places;
+use fzn_model::{Operand, Term};
+use guarded_tell::{Kernel, Lit};
+use list_of::ListOf;
+use std::alloc::{AllocError, Global};
+
+/// The literal that is true exactly where this one isn't.
+fn negated(lit: Lit) -> Lit
+    ensures { result ≡ negated lit }
+{
+    Lit {
+        var: lit.var,
+        positive: !lit.positive,
+    }
+}
+
+/// The clause of two literals.
+fn clause_of_two(alloc: Global, first: Lit, second: Lit) -> Result<Kernel, AllocError>
+    ensures { IfOk result (λ k. k ≡ Kernel.Clause (first ∷ second ∷ [])) }
+{
+    Ok(Kernel::Clause {
+        lits: ListOf::from_vec(Vec::from_slice(alloc, &[first, second])?),
+    })
+}
+
+/// For each of these booleans, adds that where it is true, or isn't, the literal is true.
+fn add_implications(
+    alloc: Global,
+    places: &Places,
+    lit: Lit,
+    positive: bool,
+    booleans: &[Term],
+    kernels: &mut ListOf<Kernel>,
+) -> Result<(), AllocError>
+    requires few { AreFew places.now.count places.now.constants.keys }
+    requires declared { All (IsDeclared places.now.count) booleans.now }
+    ensures { OnOk result (kernels.new ≡ kernels.old ++ map (λ t. Kernel.Clause (lit ∷ negated (literal_at places.now.count places.now.constants.keys positive t) ∷ [])) booleans.now) }
+{
+    for boolean in booleans {
+        let premise = places.literal(positive, *boolean);
+        kernels.push(clause_of_two(alloc, lit, negated(premise))?)?;
+    }
+    Ok(())
+}
+
+/// Adds that the literal of r is true exactly where one of those of these booleans is: each of them implies it, and it
+/// implies that one of them is true.
+fn add_joined(
+    alloc: Global,
+    places: &Places,
+    positive: bool,
+    booleans: &[Term],
+    r: Term,
+    kernels: &mut ListOf<Kernel>,
+) -> Result<(), AllocError>
+    requires few { AreFew places.now.count places.now.constants.keys }
+    requires declared { All (IsDeclared places.now.count) booleans.now }
+    requires declared_r { IsDeclared places.now.count r }
+    ensures { OnOk result (kernels.new ≡ kernels.old ++ joined places.now.count places.now.constants.keys positive booleans.now r) }
+{
+    let lit = places.literal(positive, r);
+    add_implications(alloc, places, lit, positive, booleans, kernels)?;
+    let mut literals = Vec::with_capacity(alloc, booleans.len() + 1)?;
+    literals.push(negated(lit))?;
+    places.add_literals(positive, booleans, &mut literals)?;
+    kernels.push(Kernel::Clause {
+        lits: ListOf::from_vec(literals),
+    })?;
+    Ok(())
+}
+
+/// Adds the kernels of r where it is true exactly where two booleans are, or where one of them is.
+pub(crate) fn joined_two(
+    alloc: Global,
+    places: &Places,
+    positive: bool,
+    operands: &[Operand],
+    kernels: &mut ListOf<Kernel>,
+) -> Result<(), AllocError>
+    requires few { AreFew places.now.count places.now.constants.keys }
+    requires declared { All (HasDeclared places.now.count) operands.now }
+    ensures { OnOk result (kernels.new ≡ kernels.old ++ on_three (λ x y r. joined places.now.count places.now.constants.keys positive (x ∷ y ∷ []) r) operands.now) }
+{
+    match operands {
+        [Operand::One(x), Operand::One(y), Operand::One(r)] => {
+            add_joined(alloc, places, positive, &[*x, *y], *r, kernels)
+        }
+        _ => Ok(()),
+    }
+}
+
+/// Adds the kernels of r where it is true exactly where all booleans of an array are, or where one of them is.
+pub(crate) fn joined_row(
+    alloc: Global,
+    places: &Places,
+    positive: bool,
+    operands: &[Operand],
+    kernels: &mut ListOf<Kernel>,
+) -> Result<(), AllocError>
+    requires few { AreFew places.now.count places.now.constants.keys }
+    requires declared { All (HasDeclared places.now.count) operands.now }
+    ensures { OnOk result (kernels.new ≡ kernels.old ++ on_row (λ xs r. joined places.now.count places.now.constants.keys positive xs r) operands.now) }
+{
+    match operands {
+        [Operand::Row(terms), Operand::One(r)] => {
+            add_joined(alloc, places, positive, terms.as_slice(), *r, kernels)
+        }
+        _ => Ok(()),
+    }
+}
+
+/// Adds the literals of a clause: one of the first is true or one of the second isn't.
+fn add_clause_literals(
+    places: &Places,
+    positives: &[Term],
+    negatives: &[Term],
+    literals: &mut Vec<Lit>,
+) -> Result<(), AllocError>
+    requires few { AreFew places.now.count places.now.constants.keys }
+    requires declared_positives { All (IsDeclared places.now.count) positives.now }
+    requires declared_negatives { All (IsDeclared places.now.count) negatives.now }
+    ensures { OnOk result (literals.new.items ≡ literals.old.items ++ clause_literals places.now.count places.now.constants.keys positives.now negatives.now) }
+{
+    places.add_literals(true, positives, literals)?;
+    places.add_literals(false, negatives, literals)
+}
+
+/// Adds a clause.
+fn add_clause(
+    alloc: Global,
+    places: &Places,
+    positives: &[Term],
+    negatives: &[Term],
+    kernels: &mut ListOf<Kernel>,
+) -> Result<(), AllocError>
+    requires few { AreFew places.now.count places.now.constants.keys }
+    requires declared_positives { All (IsDeclared places.now.count) positives.now }
+    requires declared_negatives { All (IsDeclared places.now.count) negatives.now }
+    ensures { OnOk result (kernels.new ≡ kernels.old ++ Kernel.Clause (clause_literals places.now.count places.now.constants.keys positives.now negatives.now) ∷ []) }
+{
+    let mut literals = Vec::with_capacity(alloc, positives.len() + negatives.len())?;
+    add_clause_literals(places, positives, negatives, &mut literals)?;
+    kernels.push(Kernel::Clause {
+        lits: ListOf::from_vec(literals),
+    })?;
+    Ok(())
+}
+
+/// Adds the kernel of a clause.
+#[tactic(auto, unfolding(crate::specs::Kernels::row_of))]
+pub(crate) fn clause(
+    alloc: Global,
+    places: &Places,
+    operands: &[Operand],
+    kernels: &mut ListOf<Kernel>,
+) -> Result<(), AllocError>
+    requires few { AreFew places.now.count places.now.constants.keys }
+    requires declared { All (HasDeclared places.now.count) operands.now }
+    ensures { OnOk result (kernels.new ≡ kernels.old ++ row_of places.now.count places.now.constants.keys ConstraintName.BoolClause operands.now) }
+{
+    match operands {
+        [Operand::Row(positives), Operand::Row(negatives)] => {
+            add_clause(
+                alloc,
+                places,
+                positives.as_slice(),
+                negatives.as_slice(),
+                kernels,
+            )
+        }
+        _ => Ok(()),
+    }
+}
+
+/// Adds that r is true exactly where a clause holds.
+fn add_clause_reified(
+    alloc: Global,
+    places: &Places,
+    positives: &[Term],
+    negatives: &[Term],
+    r: Term,
+    kernels: &mut ListOf<Kernel>,
+) -> Result<(), AllocError>
+    requires few { AreFew places.now.count places.now.constants.keys }
+    requires declared_positives { All (IsDeclared places.now.count) positives.now }
+    requires declared_negatives { All (IsDeclared places.now.count) negatives.now }
+    requires declared_r { IsDeclared places.now.count r }
+    ensures { OnOk result (kernels.new ≡ kernels.old ++ some_of (literal_of places.now.count places.now.constants.keys r) (clause_literals places.now.count places.now.constants.keys positives.now negatives.now)) }
+{
+    let lit = places.literal(true, r);
+    add_implications(alloc, places, lit, true, positives, kernels)?;
+    add_implications(alloc, places, lit, false, negatives, kernels)?;
+    let mut literals = Vec::with_capacity(alloc, positives.len() + negatives.len() + 1)?;
+    literals.push(negated(lit))?;
+    add_clause_literals(places, positives, negatives, &mut literals)?;
+    kernels.push(Kernel::Clause {
+        lits: ListOf::from_vec(literals),
+    })?;
+    Ok(())
+}
+
+/// Adds the kernels of a boolean that is true exactly where a clause holds.
+#[tactic(auto, unfolding(crate::specs::Kernels::row_of))]
+pub(crate) fn clause_reified(
+    alloc: Global,
+    places: &Places,
+    operands: &[Operand],
+    kernels: &mut ListOf<Kernel>,
+) -> Result<(), AllocError>
+    requires few { AreFew places.now.count places.now.constants.keys }
+    requires declared { All (HasDeclared places.now.count) operands.now }
+    ensures { OnOk result (kernels.new ≡ kernels.old ++ row_of places.now.count places.now.constants.keys ConstraintName.BoolClauseReif operands.now) }
+{
+    match operands {
+        [
+            Operand::Row(positives),
+            Operand::Row(negatives),
+            Operand::One(r),
+        ] => {
+            add_clause_reified(
+                alloc,
+                places,
+                positives.as_slice(),
+                negatives.as_slice(),
+                *r,
+                kernels,
+            )
+        }
+        _ => Ok(()),
+    }
+}

@@ -1,0 +1,149 @@
+//! The kernels of comparisons of two terms.
+
+ghost use Rattle.std.specs.Prelude.{◌≡◌, ◌++◌, All, OnOk};
+ghost use Rattle.fzn_model.specs.declared.table.ConstraintName.{ConstraintName};
+ghost use Rattle.decompose.specs.Kernels.{on_two, on_three, row_of};
+ghost use Rattle.decompose.specs.Places.{AreFew, IsDeclared, HasDeclared};
+ghost use Rattle.decompose.specs.Rows.{literal_at, compared};
+
+use crate::places::{ALWAYS, Places};
+use crate::sums::{Relation, add_sum};
+use fzn_model::{Operand, Term};
+use guarded_tell::{Kernel, Lit};
+use list_of::ListOf;
+use std::alloc::{AllocError, Global};
+
+/// What is said of two terms x and y: how x + sign * y is to the limit.
+#[derive(Clone, Copy)]
+pub(crate) struct Comparison {
+    /// The relation of the sum to the limit.
+    pub relation: Relation,
+    /// The coefficient of y.
+    pub sign: i64,
+    /// The limit.
+    pub limit: i64,
+}
+
+/// x = y.
+pub(crate) const EQUAL: Comparison = Comparison {
+    relation: Relation::Equal,
+    sign: -1,
+    limit: 0,
+};
+
+/// x <= y.
+pub(crate) const AT_MOST: Comparison = Comparison {
+    relation: Relation::AtMost,
+    sign: -1,
+    limit: 0,
+};
+
+/// x < y.
+pub(crate) const LESS: Comparison = Comparison {
+    relation: Relation::AtMost,
+    sign: -1,
+    limit: -1,
+};
+
+/// x + y = 1.
+pub(crate) const OPPOSITE: Comparison = Comparison {
+    relation: Relation::Equal,
+    sign: 1,
+    limit: 1,
+};
+
+/// Adds the kernel of a comparison of two terms.
+fn add_compared(
+    alloc: Global,
+    places: &Places,
+    comparison: Comparison,
+    lit: Lit,
+    x: Term,
+    y: Term,
+    kernels: &mut ListOf<Kernel>,
+) -> Result<(), AllocError>
+    requires few { AreFew places.now.count places.now.constants.keys }
+    requires declared_x { IsDeclared places.now.count x }
+    requires declared_y { IsDeclared places.now.count y }
+    ensures { OnOk result (kernels.new ≡ kernels.old ++ compared comparison places.now.count places.now.constants.keys lit x y) }
+{
+    let coeffs = ListOf::from_vec(Vec::from_slice(alloc, &[1, comparison.sign])?);
+    add_sum(
+        alloc,
+        places,
+        comparison.relation,
+        lit,
+        coeffs,
+        &[x, y],
+        comparison.limit,
+        kernels,
+    )
+}
+
+/// Adds the kernel of a comparison of two terms that must hold, or not.
+pub(crate) fn two(
+    alloc: Global,
+    places: &Places,
+    comparison: Comparison,
+    lit: Lit,
+    operands: &[Operand],
+    kernels: &mut ListOf<Kernel>,
+) -> Result<(), AllocError>
+    requires few { AreFew places.now.count places.now.constants.keys }
+    requires declared { All (HasDeclared places.now.count) operands.now }
+    ensures { OnOk result (kernels.new ≡ kernels.old ++ on_two (λ x y. compared comparison places.now.count places.now.constants.keys lit x y) operands.now) }
+{
+    match operands {
+        [Operand::One(x), Operand::One(y)] => add_compared(
+            alloc, places, comparison, lit, *x, *y, kernels,
+        ),
+        _ => Ok(()),
+    }
+}
+
+/// Adds the kernel of a comparison of two terms that holds exactly where a boolean is true, or isn't.
+pub(crate) fn two_reified(
+    alloc: Global,
+    places: &Places,
+    comparison: Comparison,
+    positive: bool,
+    operands: &[Operand],
+    kernels: &mut ListOf<Kernel>,
+) -> Result<(), AllocError>
+    requires few { AreFew places.now.count places.now.constants.keys }
+    requires declared { All (HasDeclared places.now.count) operands.now }
+    ensures { OnOk result (kernels.new ≡ kernels.old ++ on_three (λ x y r. compared comparison places.now.count places.now.constants.keys (literal_at places.now.count places.now.constants.keys positive r) x y) operands.now) }
+{
+    match operands {
+        [Operand::One(x), Operand::One(y), Operand::One(r)] => {
+            add_compared(
+                alloc,
+                places,
+                comparison,
+                places.literal(positive, *r),
+                *x,
+                *y,
+                kernels,
+            )
+        }
+        _ => Ok(()),
+    }
+}
+
+/// Adds the kernel of two booleans that differ, or of a third that is true exactly where they do.
+#[tactic(auto, unfolding(crate::specs::Kernels::row_of))]
+pub(crate) fn exclusive_or(
+    alloc: Global,
+    places: &Places,
+    operands: &[Operand],
+    kernels: &mut ListOf<Kernel>,
+) -> Result<(), AllocError>
+    requires few { AreFew places.now.count places.now.constants.keys }
+    requires declared { All (HasDeclared places.now.count) operands.now }
+    ensures { OnOk result (kernels.new ≡ kernels.old ++ row_of places.now.count places.now.constants.keys ConstraintName.BoolXor operands.now) }
+{
+    match operands {
+        [_, _] => two(alloc, places, OPPOSITE, ALWAYS, operands, kernels),
+        _ => two_reified(alloc, places, EQUAL, false, operands, kernels),
+    }
+}

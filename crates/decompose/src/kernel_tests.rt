@@ -1,0 +1,389 @@
+//! The kernels of each row of the table, worked out by hand. The variables x, y, z, a, b and r are declared, so that they
+//! are the variables 1 to 6; the constants 4, 9 and 0 are the variables 7, 8 and 9, and the constant 1 is variable 0.
+
+ghost use Rattle.std.specs.Prelude.{◌≡◌, true};
+ghost use Rattle.decompose.specs.Places.{IsDeclared, HasDeclared};
+
+use crate::kernels::kernels_of;
+use crate::places::{ALWAYS, NEVER, Places};
+use crate::sums::Relation;
+use fzn_model::{Constraint, ConstraintName as Name, Operand, Term};
+use guarded_tell::{Kernel, Lit};
+use indexmap::IndexSet;
+use list_of::ListOf;
+use std::alloc::{AllocError, Global};
+use std::test::Fail;
+
+const X: Term = Term::Var(0);
+
+const Y: Term = Term::Var(1);
+
+const Z: Term = Term::Var(2);
+
+const A: Term = Term::Var(3);
+
+const B: Term = Term::Var(4);
+
+const R: Term = Term::Var(5);
+
+const FOUR: Term = Term::Number(4);
+
+const NINE: Term = Term::Number(9);
+
+const ONE: Term = Term::Number(1);
+
+const ZERO: Term = Term::Number(0);
+
+/// The variables and constants.
+fn places(alloc: Global) -> Result<Places, AllocError> {
+    let mut constants = IndexSet::new(alloc);
+    for number in [4, 9, 0] {
+        let _ = constants.insert(number)?;
+    }
+    Ok(Places {
+        count: 6,
+        constants,
+    })
+}
+
+/// Whether a term is a number or a declared variable.
+fn is_declared(term: Term) -> bool
+    ensures { result ≡ true → IsDeclared 6 term }
+{
+    match term {
+        Term::Number(_) => true,
+        Term::Var(place) => place < 6,
+    }
+}
+
+/// Whether each variable of an argument is declared.
+fn has_declared(operand: &Operand) -> bool
+    ensures { result ≡ true → HasDeclared 6 operand.now }
+{
+    match operand {
+        Operand::One(term) => is_declared(*term),
+        Operand::Row(terms) => terms.as_slice().iter().all(|term| is_declared(*term)),
+        Operand::Set(_) => true,
+    }
+}
+
+/// The kernels of one constraint.
+fn kernels(
+    alloc: Global,
+    name: Name,
+    operands: Vec<Operand>,
+) -> Result<ListOf<Kernel>, AllocError> {
+    let places = places(alloc)?;
+    let constraint = Constraint {
+        name,
+        operands: ListOf::from_vec(operands),
+    };
+    if places.count == 6
+        && places.constants.len() <= 9
+        && constraint
+            .operands
+            .as_slice()
+            .iter()
+            .all(|operand| has_declared(operand))
+    {
+        kernels_of(alloc, &places, &[constraint])
+    } else {
+        Ok(ListOf::new(alloc))
+    }
+}
+
+/// An argument that is an array.
+fn row(alloc: Global, terms: &[Term]) -> Result<Operand, AllocError> {
+    Ok(Operand::Row(ListOf::from_vec(Vec::from_slice(alloc, terms)?)))
+}
+
+/// The literal of a variable.
+fn is(var: u32) -> Lit {
+    Lit {
+        var,
+        positive: true,
+    }
+}
+
+/// The literal that is true where that of a variable isn't.
+fn not(var: u32) -> Lit {
+    Lit {
+        var,
+        positive: false,
+    }
+}
+
+/// Whether the one kernel is that of this sum.
+fn is_sum(
+    found: &ListOf<Kernel>,
+    relation: Relation,
+    literal: Lit,
+    coefficients: &[i64],
+    terms: &[u32],
+    most: i64,
+) -> bool {
+    match (relation, found.as_slice()) {
+        (
+            Relation::AtMost,
+            [
+                Kernel::Le {
+                    lit,
+                    coeffs,
+                    vars,
+                    limit,
+                },
+            ],
+        )
+        | (
+            Relation::Equal,
+            [
+                Kernel::Eq {
+                    lit,
+                    coeffs,
+                    vars,
+                    limit,
+                },
+            ],
+        ) => {
+            *lit == literal
+                && coeffs.as_slice() == coefficients
+                && vars.as_slice() == terms
+                && *limit == most
+        }
+        _ => false,
+    }
+}
+
+/// Whether the one kernel is that of the greatest of these variables.
+fn is_greatest(found: &ListOf<Kernel>, of: u32, among: &[u32]) -> bool {
+    match found.as_slice() {
+        [Kernel::Max { m, xs }] => *m == of && xs.as_slice() == among,
+        _ => false,
+    }
+}
+
+/// Whether the one kernel is that of the least of these variables.
+fn is_least(found: &ListOf<Kernel>, of: u32, among: &[u32]) -> bool {
+    match found.as_slice() {
+        [Kernel::Min { m, xs }] => *m == of && xs.as_slice() == among,
+        _ => false,
+    }
+}
+
+/// Whether the one kernel is that of this entry.
+fn is_entry(found: &ListOf<Kernel>, place: u32, list: &[u32], entry: u32) -> bool {
+    match found.as_slice() {
+        [Kernel::Element { x, entries, c }] => {
+            *x == place && entries.as_slice() == list && *c == entry
+        }
+        _ => false,
+    }
+}
+
+/// Whether the one kernel is that of a variable in this set.
+fn is_member(found: &ListOf<Kernel>, literal: Lit, var: u32, set: &[(i64, i64)]) -> bool {
+    match found.as_slice() {
+        [Kernel::InSet { lit, x, ranges }] => {
+            *lit == literal && *x == var && ranges.as_slice() == set
+        }
+        _ => false,
+    }
+}
+
+/// Whether the kernels are these clauses.
+fn are_clauses(found: &ListOf<Kernel>, clauses: &[&[Lit]]) -> bool {
+    let found = found.as_slice();
+    found.len() == clauses.len()
+        && found.iter().zip(clauses).all(|(kernel, literals)| match kernel {
+            Kernel::Clause { lits } => lits.as_slice() == *literals,
+            _ => false,
+        })
+}
+
+#[test]
+fn two_terms_are_compared(rt: HostRuntime) -> Result<(), Fail> {
+    let alloc = rt.alloc();
+    for (name, relation, lit, sign, limit) in [
+        (Name::IntEq, Relation::Equal, ALWAYS, -1, 0),
+        (Name::IntNe, Relation::Equal, NEVER, -1, 0),
+        (Name::IntLe, Relation::AtMost, ALWAYS, -1, 0),
+        (Name::IntLt, Relation::AtMost, ALWAYS, -1, -1),
+        (Name::BoolToInt, Relation::Equal, ALWAYS, -1, 0),
+        (Name::BoolEq, Relation::Equal, ALWAYS, -1, 0),
+        (Name::BoolLe, Relation::AtMost, ALWAYS, -1, 0),
+        (Name::BoolLt, Relation::AtMost, ALWAYS, -1, -1),
+        (Name::BoolNot, Relation::Equal, ALWAYS, 1, 1),
+        (Name::BoolXor, Relation::Equal, ALWAYS, 1, 1),
+    ] {
+        let operands = vec![in alloc; Operand::One(A), Operand::One(B)]?;
+        let found = kernels(alloc, name, operands)?;
+        assert!(rt; is_sum(&found, relation, lit, &[1, sign], &[4, 5], limit));
+    }
+    Ok(())
+}
+
+#[test]
+fn comparisons_are_reified(rt: HostRuntime) -> Result<(), Fail> {
+    let alloc = rt.alloc();
+    for (name, relation, lit, limit) in [
+        (Name::IntEqReif, Relation::Equal, is(6), 0),
+        (Name::IntNeReif, Relation::Equal, not(6), 0),
+        (Name::IntLeReif, Relation::AtMost, is(6), 0),
+        (Name::IntLtReif, Relation::AtMost, is(6), -1),
+        (Name::BoolEqReif, Relation::Equal, is(6), 0),
+        (Name::BoolLeReif, Relation::AtMost, is(6), 0),
+        (Name::BoolLtReif, Relation::AtMost, is(6), -1),
+        (Name::BoolXor, Relation::Equal, not(6), 0),
+    ] {
+        let operands = vec![in alloc; Operand::One(ONE), Operand::One(B), Operand::One(R)]?;
+        let found = kernels(alloc, name, operands)?;
+        assert!(rt; is_sum(&found, relation, lit, &[1, -1], &[0, 5], limit));
+    }
+    Ok(())
+}
+
+#[test]
+fn sums_are_compared(rt: HostRuntime) -> Result<(), Fail> {
+    let alloc = rt.alloc();
+    for (name, relation, lit) in [
+        (Name::IntLinEq, Relation::Equal, ALWAYS),
+        (Name::IntLinNe, Relation::Equal, NEVER),
+        (Name::IntLinLe, Relation::AtMost, ALWAYS),
+        (Name::BoolLinLe, Relation::AtMost, ALWAYS),
+        (Name::IntLinEqReif, Relation::Equal, is(6)),
+        (Name::IntLinNeReif, Relation::Equal, not(6)),
+        (Name::IntLinLeReif, Relation::AtMost, is(6)),
+    ] {
+        let mut operands = vec![in alloc;
+            row(alloc, &[Term::Number(2), Term::Number(-3)])?,
+            row(alloc, &[X, FOUR])?,
+            Operand::One(Term::Number(7)),
+        ]?;
+        if lit != ALWAYS && lit != NEVER {
+            operands.push(Operand::One(R))?;
+        }
+        let found = kernels(alloc, name, operands)?;
+        assert!(rt; is_sum(&found, relation, lit, &[2, -3], &[1, 7], 7));
+    }
+    Ok(())
+}
+
+#[test]
+fn sums_equal_a_term(rt: HostRuntime) -> Result<(), Fail> {
+    let alloc = rt.alloc();
+    let three = vec![in alloc; Operand::One(X), Operand::One(Y), Operand::One(FOUR)]?;
+    let found = kernels(alloc, Name::IntPlus, three)?;
+    assert!(rt; is_sum(&found, Relation::Equal, ALWAYS, &[1, 1, -1], &[1, 2, 7], 0));
+    let sum = vec![in alloc;
+        row(alloc, &[Term::Number(2), Term::Number(3)])?,
+        row(alloc, &[A, B])?,
+        Operand::One(X),
+    ]?;
+    let found = kernels(alloc, Name::BoolLinEq, sum)?;
+    assert!(rt; is_sum(&found, Relation::Equal, ALWAYS, &[2, 3, -1], &[4, 5, 1], 0));
+    Ok(())
+}
+
+#[test]
+fn products_and_extremes(rt: HostRuntime) -> Result<(), Fail> {
+    let alloc = rt.alloc();
+    let three = vec![in alloc; Operand::One(X), Operand::One(Y), Operand::One(NINE)]?;
+    let found = kernels(alloc, Name::IntTimes, three)?;
+    assert!(rt; matches!(found.as_slice(), [Kernel::Times { x: 1, y: 2, z: 8 }]));
+    let two = vec![in alloc; Operand::One(X), Operand::One(FOUR)]?;
+    let found = kernels(alloc, Name::IntAbs, two)?;
+    assert!(rt; matches!(found.as_slice(), [Kernel::Abs { x: 1, y: 7 }]));
+    let three = vec![in alloc; Operand::One(X), Operand::One(Y), Operand::One(Z)]?;
+    let found = kernels(alloc, Name::IntMax, three)?;
+    assert!(rt; is_greatest(&found, 3, &[1, 2]));
+    let three = vec![in alloc; Operand::One(X), Operand::One(Y), Operand::One(Z)]?;
+    let found = kernels(alloc, Name::IntMin, three)?;
+    assert!(rt; is_least(&found, 3, &[1, 2]));
+    let array = vec![in alloc; Operand::One(Z), row(alloc, &[X, Y, FOUR])?]?;
+    let found = kernels(alloc, Name::ArrayIntMaximum, array)?;
+    assert!(rt; is_greatest(&found, 3, &[1, 2, 7]));
+    let array = vec![in alloc; Operand::One(Z), row(alloc, &[X, Y, FOUR])?]?;
+    let found = kernels(alloc, Name::ArrayIntMinimum, array)?;
+    assert!(rt; is_least(&found, 3, &[1, 2, 7]));
+    Ok(())
+}
+
+#[test]
+fn entries_and_sets(rt: HostRuntime) -> Result<(), Fail> {
+    let alloc = rt.alloc();
+    for name in [
+        Name::ArrayIntElement,
+        Name::ArrayVarIntElement,
+        Name::ArrayBoolElement,
+        Name::ArrayVarBoolElement,
+    ] {
+        let operands = vec![in alloc;
+            Operand::One(X),
+            row(alloc, &[FOUR, Y, ONE])?,
+            Operand::One(Z),
+        ]?;
+        let found = kernels(alloc, name, operands)?;
+        assert!(rt; is_entry(&found, 1, &[7, 2, 0], 3));
+    }
+    let set = Operand::Set(ListOf::from_vec(vec![in alloc; (1, 3), (5, 5)]?));
+    let found = kernels(alloc, Name::SetIn, vec![in alloc; Operand::One(X), set]?)?;
+    assert!(rt; is_member(&found, ALWAYS, 1, &[(1, 3), (5, 5)]));
+    let set = Operand::Set(ListOf::from_vec(vec![in alloc; (1, 3), (5, 5)]?));
+    let found = kernels(
+        alloc,
+        Name::SetInReif,
+        vec![in alloc; Operand::One(X), set, Operand::One(R)]?,
+    )?;
+    assert!(rt; is_member(&found, is(6), 1, &[(1, 3), (5, 5)]));
+    Ok(())
+}
+
+#[test]
+fn booleans_are_joined(rt: HostRuntime) -> Result<(), Fail> {
+    let alloc = rt.alloc();
+    let three = vec![in alloc; Operand::One(A), Operand::One(B), Operand::One(R)]?;
+    let found = kernels(alloc, Name::BoolAnd, three)?;
+    assert!(rt;
+        are_clauses(
+            &found,
+            &[&[not(6), is(4)], &[not(6), is(5)], &[is(6), not(4), not(5)]]
+        )
+    );
+    let three = vec![in alloc; Operand::One(A), Operand::One(B), Operand::One(R)]?;
+    let found = kernels(alloc, Name::BoolOr, three)?;
+    assert!(rt;
+        are_clauses(
+            &found,
+            &[&[is(6), not(4)], &[is(6), not(5)], &[not(6), is(4), is(5)]]
+        )
+    );
+    let array = vec![in alloc; row(alloc, &[A, ONE])?, Operand::One(R)]?;
+    let found = kernels(alloc, Name::ArrayBoolAnd, array)?;
+    assert!(rt;
+        are_clauses(
+            &found,
+            &[&[not(6), is(4)], &[not(6), is(0)], &[is(6), not(4), not(0)]]
+        )
+    );
+    let array = vec![in alloc; row(alloc, &[A])?, Operand::One(ZERO)]?;
+    let found = kernels(alloc, Name::ArrayBoolOr, array)?;
+    assert!(rt; are_clauses(&found, &[&[is(9), not(4)], &[not(9), is(4)]]));
+    Ok(())
+}
+
+#[test]
+fn clauses_have_two_lists(rt: HostRuntime) -> Result<(), Fail> {
+    let alloc = rt.alloc();
+    let lists = vec![in alloc; row(alloc, &[A])?, row(alloc, &[B, ZERO])?]?;
+    let found = kernels(alloc, Name::BoolClause, lists)?;
+    assert!(rt; are_clauses(&found, &[&[is(4), not(5), not(9)]]));
+    let lists = vec![in alloc; row(alloc, &[A])?, row(alloc, &[B])?, Operand::One(R)]?;
+    let found = kernels(alloc, Name::BoolClauseReif, lists)?;
+    assert!(rt;
+        are_clauses(
+            &found,
+            &[&[is(6), not(4)], &[is(6), is(5)], &[not(6), is(4), not(5)]]
+        )
+    );
+    Ok(())
+}

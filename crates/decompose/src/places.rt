@@ -1,0 +1,130 @@
+//! The variables and literals of a program.
+
+ghost use Rattle.std.specs.Prelude.{◌≡◌, ◌≤◌, ◌++◌, map, length, All, IfOk, OnOk};
+ghost use Rattle.std.specs.List.{position_or_len};
+ghost use Rattle.std.specs.Ordering.{int_eq};
+ghost use Rattle.fzn_model.specs.Faults.{most_constants};
+ghost use Rattle.decompose.specs.Kernels.{variable_of, variables_of};
+ghost use Rattle.decompose.specs.Places.{AreFew, IsDeclared};
+ghost use Rattle.decompose.specs.Rows.{literal_at};
+
+use fzn_model::Term;
+use guarded_tell::Lit;
+use indexmap::IndexSet;
+use list_of::ListOf;
+use std::alloc::{AllocError, Global};
+
+/// The literal that is always true, since the constant 1 is at least 1.
+pub(crate) const ALWAYS: Lit = Lit {
+    var: 0,
+    positive: true,
+};
+
+/// The literal that is always false.
+pub(crate) const NEVER: Lit = Lit {
+    var: 0,
+    positive: false,
+};
+
+/// For what the variables of a program stand: the constant 1, the declared variables, the other constants.
+#[derive(Drop)]
+pub(crate) struct Places {
+    /// How many variables are declared.
+    pub count: u32,
+    /// The constants other than 1, in the order of their variables.
+    pub constants: IndexSet<i64>,
+}
+
+/// The place of a constant.
+fn place(number: i64, constants: &IndexSet<i64>) -> u32
+    requires { length constants.now.keys ≤ most_constants }
+    ensures value { result ≡ position_or_len (int_eq number) constants.now.keys }
+    ensures small { result ≤ most_constants }
+{
+    match constants.get_index_of(&number) {
+        Some(place) => place as u32,
+        None => constants.len() as u32,
+    }
+}
+
+impl Places {
+    /// The variable of a number.
+    fn constant_variable(&self, number: i64) -> u32
+        requires { AreFew self.now.count self.now.constants.keys }
+        ensures { result ≡ variable_of self.now.count self.now.constants.keys (Term.Number number) }
+    {
+        if number == 1 {
+            0
+        } else {
+            self.count + place(number, &self.constants) + 1
+        }
+    }
+
+    /// The variable of a term.
+    pub(crate) fn variable(&self, term: Term) -> u32
+        requires few { AreFew self.now.count self.now.constants.keys }
+        requires declared { IsDeclared self.now.count term }
+        ensures { result ≡ variable_of self.now.count self.now.constants.keys term }
+    {
+        match term {
+            Term::Number(number) => self.constant_variable(number),
+            Term::Var(place) => place + 1,
+        }
+    }
+
+    /// Adds the variables of terms.
+    pub(crate) fn add_variables(
+        &self,
+        terms: &[Term],
+        variables: &mut Vec<u32>,
+    ) -> Result<(), AllocError>
+        requires few { AreFew self.now.count self.now.constants.keys }
+        requires declared { All (IsDeclared self.now.count) terms.now }
+        ensures { OnOk result (variables.new.items ≡ variables.old.items ++ variables_of self.now.count self.now.constants.keys terms.now) }
+    {
+        for term in terms {
+            variables.push(self.variable(*term))?;
+        }
+        Ok(())
+    }
+
+    /// The variables of terms.
+    pub(crate) fn variables(&self, alloc: Global, terms: &[Term]) -> Result<ListOf<u32>, AllocError>
+        requires few { AreFew self.now.count self.now.constants.keys }
+        requires declared { All (IsDeclared self.now.count) terms.now }
+        ensures { IfOk result (λ places. places ≡ variables_of self.now.count self.now.constants.keys terms.now) }
+    {
+        let mut variables = Vec::with_capacity(alloc, terms.len())?;
+        self.add_variables(terms, &mut variables)?;
+        Ok(ListOf::from_vec(variables))
+    }
+
+    /// The literal that is true where the boolean is, or where it isn't.
+    pub(crate) fn literal(&self, positive: bool, boolean: Term) -> Lit
+        requires few { AreFew self.now.count self.now.constants.keys }
+        requires declared { IsDeclared self.now.count boolean }
+        ensures { result ≡ literal_at self.now.count self.now.constants.keys positive boolean }
+    {
+        Lit {
+            var: self.variable(boolean),
+            positive,
+        }
+    }
+
+    /// Adds such literals of booleans.
+    pub(crate) fn add_literals(
+        &self,
+        positive: bool,
+        booleans: &[Term],
+        literals: &mut Vec<Lit>,
+    ) -> Result<(), AllocError>
+        requires few { AreFew self.now.count self.now.constants.keys }
+        requires declared { All (IsDeclared self.now.count) booleans.now }
+        ensures { OnOk result (literals.new.items ≡ literals.old.items ++ map (literal_at self.now.count self.now.constants.keys positive) booleans.now) }
+    {
+        for boolean in booleans {
+            literals.push(self.literal(positive, *boolean))?;
+        }
+        Ok(())
+    }
+}

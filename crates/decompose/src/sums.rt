@@ -1,0 +1,247 @@
+//! The kernels of sums.
+
+ghost use Rattle.std.specs.Prelude.{◌≡◌, ◌++◌, [], ◌∷◌, map, negsuc, All, IfOk, OnOk};
+ghost use Rattle.fzn_model.specs.declared.table.ConstraintName.{ConstraintName};
+ghost use Rattle.decompose.specs.Kernels.{number_of, variables_of, on_sum, on_reified_sum, row_of};
+ghost use Rattle.decompose.specs.Places.{AreFew, IsDeclared, HasDeclared};
+ghost use Rattle.decompose.specs.Rows.{literal_at, sum_kernel};
+
+use crate::places::{ALWAYS, Places};
+use fzn_model::{Operand, Term};
+use guarded_tell::{Kernel, Lit};
+use list_of::ListOf;
+use std::alloc::{AllocError, Global};
+
+/// What is said of a sum and a limit.
+#[derive(Clone, Copy)]
+pub(crate) enum Relation {
+    /// The sum is at most the limit.
+    AtMost,
+    /// The sum is the limit.
+    Equal,
+}
+
+/// Adds the kernel of a sum.
+pub(crate) fn add_sum(
+    alloc: Global,
+    places: &Places,
+    relation: Relation,
+    lit: Lit,
+    coeffs: ListOf<i64>,
+    terms: &[Term],
+    limit: i64,
+    kernels: &mut ListOf<Kernel>,
+) -> Result<(), AllocError>
+    requires few { AreFew places.now.count places.now.constants.keys }
+    requires declared { All (IsDeclared places.now.count) terms.now }
+    ensures { OnOk result (kernels.new ≡ kernels.old ++ sum_kernel relation places.now.count places.now.constants.keys lit coeffs terms.now limit) }
+{
+    let vars = places.variables(alloc, terms)?;
+    let kernel = match relation {
+        Relation::AtMost => Kernel::Le {
+            lit,
+            coeffs,
+            vars,
+            limit,
+        },
+        Relation::Equal => Kernel::Eq {
+            lit,
+            coeffs,
+            vars,
+            limit,
+        },
+    };
+    kernels.push(kernel)?;
+    Ok(())
+}
+
+/// The number of a coefficient or a limit.
+fn number(term: Term) -> i64
+    ensures { result ≡ number_of term }
+{
+    match term {
+        Term::Number(number) => number,
+        Term::Var(_) => 0,
+    }
+}
+
+/// Adds the numbers of coefficients.
+fn add_numbers(terms: &[Term], numbers: &mut Vec<i64>) -> Result<(), AllocError>
+    ensures { OnOk result (numbers.new.items ≡ numbers.old.items ++ map number_of terms.now) }
+{
+    for term in terms {
+        numbers.push(number(*term))?;
+    }
+    Ok(())
+}
+
+/// The numbers of coefficients.
+fn numbers(alloc: Global, terms: &[Term]) -> Result<ListOf<i64>, AllocError>
+    ensures { IfOk result (λ numbers. numbers ≡ map number_of terms.now) }
+{
+    let mut numbers = Vec::with_capacity(alloc, terms.len())?;
+    add_numbers(terms, &mut numbers)?;
+    Ok(ListOf::from_vec(numbers))
+}
+
+/// Adds the kernel of a sum that must be so to a limit, or not.
+pub(crate) fn sum(
+    alloc: Global,
+    places: &Places,
+    relation: Relation,
+    lit: Lit,
+    operands: &[Operand],
+    kernels: &mut ListOf<Kernel>,
+) -> Result<(), AllocError>
+    requires few { AreFew places.now.count places.now.constants.keys }
+    requires declared { All (HasDeclared places.now.count) operands.now }
+    ensures { OnOk result (kernels.new ≡ kernels.old ++ on_sum (λ cs xs c. sum_kernel relation places.now.count places.now.constants.keys lit cs xs c) operands.now) }
+{
+    match operands {
+        [
+            Operand::Row(coefficients),
+            Operand::Row(terms),
+            Operand::One(limit),
+        ] => {
+            let coeffs = numbers(alloc, coefficients.as_slice())?;
+            add_sum(
+                alloc,
+                places,
+                relation,
+                lit,
+                coeffs,
+                terms.as_slice(),
+                number(*limit),
+                kernels,
+            )
+        }
+        _ => Ok(()),
+    }
+}
+
+/// Adds the kernel of a sum that is so to a limit exactly where a boolean is true, or isn't.
+pub(crate) fn sum_reified(
+    alloc: Global,
+    places: &Places,
+    relation: Relation,
+    positive: bool,
+    operands: &[Operand],
+    kernels: &mut ListOf<Kernel>,
+) -> Result<(), AllocError>
+    requires few { AreFew places.now.count places.now.constants.keys }
+    requires declared { All (HasDeclared places.now.count) operands.now }
+    ensures { OnOk result (kernels.new ≡ kernels.old ++ on_reified_sum (λ cs xs c r. sum_kernel relation places.now.count places.now.constants.keys (literal_at places.now.count places.now.constants.keys positive r) cs xs c) operands.now) }
+{
+    match operands {
+        [
+            Operand::Row(coefficients),
+            Operand::Row(terms),
+            Operand::One(limit),
+            Operand::One(r),
+        ] => {
+            let coeffs = numbers(alloc, coefficients.as_slice())?;
+            let lit = places.literal(positive, *r);
+            add_sum(
+                alloc,
+                places,
+                relation,
+                lit,
+                coeffs,
+                terms.as_slice(),
+                number(*limit),
+                kernels,
+            )
+        }
+        _ => Ok(()),
+    }
+}
+
+/// Adds the kernel of x + y - z = 0.
+#[tactic(auto, unfolding(crate::specs::Kernels::row_of))]
+pub(crate) fn plus(
+    alloc: Global,
+    places: &Places,
+    operands: &[Operand],
+    kernels: &mut ListOf<Kernel>,
+) -> Result<(), AllocError>
+    requires few { AreFew places.now.count places.now.constants.keys }
+    requires declared { All (HasDeclared places.now.count) operands.now }
+    ensures { OnOk result (kernels.new ≡ kernels.old ++ row_of places.now.count places.now.constants.keys ConstraintName.IntPlus operands.now) }
+{
+    match operands {
+        [Operand::One(x), Operand::One(y), Operand::One(z)] => {
+            let coeffs = ListOf::from_vec(Vec::from_slice(alloc, &[1, 1, -1])?);
+            add_sum(
+                alloc,
+                places,
+                Relation::Equal,
+                ALWAYS,
+                coeffs,
+                &[*x, *y, *z],
+                0,
+                kernels,
+            )
+        }
+        _ => Ok(()),
+    }
+}
+
+/// The numbers of coefficients, and then -1.
+fn numbers_and_minus_one(alloc: Global, terms: &[Term]) -> Result<ListOf<i64>, AllocError>
+    ensures { IfOk result (λ numbers. numbers ≡ map number_of terms.now ++ negsuc 0 ∷ []) }
+{
+    let mut numbers = Vec::with_capacity(alloc, terms.len() + 1)?;
+    add_numbers(terms, &mut numbers)?;
+    numbers.push(-1)?;
+    Ok(ListOf::from_vec(numbers))
+}
+
+/// The variables of terms, and then that of one more.
+fn variables_and_one(
+    alloc: Global,
+    places: &Places,
+    terms: &[Term],
+    last: Term,
+) -> Result<ListOf<u32>, AllocError>
+    requires few { AreFew places.now.count places.now.constants.keys }
+    requires declared { All (IsDeclared places.now.count) terms.now }
+    requires declared_last { IsDeclared places.now.count last }
+    ensures { IfOk result (λ vars. vars ≡ variables_of places.now.count places.now.constants.keys (terms.now ++ last ∷ [])) }
+{
+    let mut variables = Vec::with_capacity(alloc, terms.len() + 1)?;
+    places.add_variables(terms, &mut variables)?;
+    variables.push(places.variable(last))?;
+    Ok(ListOf::from_vec(variables))
+}
+
+/// Adds the kernel of a sum that equals a term: the sum less the term is 0.
+#[tactic(auto, unfolding(crate::specs::Kernels::row_of))]
+pub(crate) fn sum_equal(
+    alloc: Global,
+    places: &Places,
+    operands: &[Operand],
+    kernels: &mut ListOf<Kernel>,
+) -> Result<(), AllocError>
+    requires few { AreFew places.now.count places.now.constants.keys }
+    requires declared { All (HasDeclared places.now.count) operands.now }
+    ensures { OnOk result (kernels.new ≡ kernels.old ++ row_of places.now.count places.now.constants.keys ConstraintName.BoolLinEq operands.now) }
+{
+    match operands {
+        [
+            Operand::Row(coefficients),
+            Operand::Row(terms),
+            Operand::One(total),
+        ] => {
+            let coeffs = numbers_and_minus_one(alloc, coefficients.as_slice())?;
+            let vars = variables_and_one(alloc, places, terms.as_slice(), *total)?;
+            kernels.push(Kernel::Eq {
+                lit: ALWAYS,
+                coeffs,
+                vars,
+                limit: 0,
+            })?;
+            Ok(())
+        }
+        _ => Ok(()),
+    }
+}

@@ -1,0 +1,212 @@
+//! The kernels of products, absolute values, extremes, entries and sets.
+
+ghost use Rattle.std.specs.Prelude.{◌≡◌, ◌++◌, [], ◌∷◌, All, OnOk};
+ghost use Rattle.fzn_model.specs.declared.table.ConstraintName.{ConstraintName};
+ghost use Rattle.decompose.specs.Kernels.{row_of, on_three, on_one_of_row, on_entry, variable_of, variables_of};
+ghost use Rattle.decompose.specs.Places.{AreFew, IsDeclared, HasDeclared};
+ghost use Rattle.decompose.specs.Rows.{extreme_kernel};
+
+use crate::places::{ALWAYS, Places};
+use fzn_model::{Operand, Term};
+use guarded_tell::Kernel;
+use list_of::ListOf;
+use std::alloc::{AllocError, Global};
+
+/// Which of some numbers is meant.
+#[derive(Clone, Copy)]
+pub(crate) enum Extreme {
+    /// The greatest.
+    Greatest,
+    /// The least.
+    Least,
+}
+
+/// Adds the kernel of a product.
+#[tactic(auto, unfolding(crate::specs::Kernels::row_of))]
+pub(crate) fn times(
+    places: &Places,
+    operands: &[Operand],
+    kernels: &mut ListOf<Kernel>,
+) -> Result<(), AllocError>
+    requires few { AreFew places.now.count places.now.constants.keys }
+    requires declared { All (HasDeclared places.now.count) operands.now }
+    ensures { OnOk result (kernels.new ≡ kernels.old ++ row_of places.now.count places.now.constants.keys ConstraintName.IntTimes operands.now) }
+{
+    match operands {
+        [Operand::One(x), Operand::One(y), Operand::One(z)] => {
+            kernels.push(Kernel::Times {
+                x: places.variable(*x),
+                y: places.variable(*y),
+                z: places.variable(*z),
+            })?;
+            Ok(())
+        }
+        _ => Ok(()),
+    }
+}
+
+/// Adds the kernel of an absolute value.
+#[tactic(auto, unfolding(crate::specs::Kernels::row_of))]
+pub(crate) fn absolute(
+    places: &Places,
+    operands: &[Operand],
+    kernels: &mut ListOf<Kernel>,
+) -> Result<(), AllocError>
+    requires few { AreFew places.now.count places.now.constants.keys }
+    requires declared { All (HasDeclared places.now.count) operands.now }
+    ensures { OnOk result (kernels.new ≡ kernels.old ++ row_of places.now.count places.now.constants.keys ConstraintName.IntAbs operands.now) }
+{
+    match operands {
+        [Operand::One(x), Operand::One(y)] => {
+            kernels.push(Kernel::Abs {
+                x: places.variable(*x),
+                y: places.variable(*y),
+            })?;
+            Ok(())
+        }
+        _ => Ok(()),
+    }
+}
+
+/// Adds that a term is the greatest or the least of some.
+fn add_extreme(
+    alloc: Global,
+    places: &Places,
+    extreme: Extreme,
+    of: Term,
+    terms: &[Term],
+    kernels: &mut ListOf<Kernel>,
+) -> Result<(), AllocError>
+    requires few { AreFew places.now.count places.now.constants.keys }
+    requires declared_of { IsDeclared places.now.count of }
+    requires declared { All (IsDeclared places.now.count) terms.now }
+    ensures { OnOk result (kernels.new ≡ kernels.old ++ extreme_kernel extreme places.now.count places.now.constants.keys of terms.now) }
+{
+    let m = places.variable(of);
+    let xs = places.variables(alloc, terms)?;
+    let kernel = match extreme {
+        Extreme::Greatest => Kernel::Max { m, xs },
+        Extreme::Least => Kernel::Min { m, xs },
+    };
+    kernels.push(kernel)?;
+    Ok(())
+}
+
+/// Adds the kernel of the greatest or the least of two terms.
+pub(crate) fn extreme_of_two(
+    alloc: Global,
+    places: &Places,
+    extreme: Extreme,
+    operands: &[Operand],
+    kernels: &mut ListOf<Kernel>,
+) -> Result<(), AllocError>
+    requires few { AreFew places.now.count places.now.constants.keys }
+    requires declared { All (HasDeclared places.now.count) operands.now }
+    ensures { OnOk result (kernels.new ≡ kernels.old ++ on_three (λ x y m. extreme_kernel extreme places.now.count places.now.constants.keys m (x ∷ y ∷ [])) operands.now) }
+{
+    match operands {
+        [Operand::One(x), Operand::One(y), Operand::One(m)] => {
+            add_extreme(alloc, places, extreme, *m, &[*x, *y], kernels)
+        }
+        _ => Ok(()),
+    }
+}
+
+/// Adds the kernel of the greatest or the least of an array.
+pub(crate) fn extreme_of_row(
+    alloc: Global,
+    places: &Places,
+    extreme: Extreme,
+    operands: &[Operand],
+    kernels: &mut ListOf<Kernel>,
+) -> Result<(), AllocError>
+    requires few { AreFew places.now.count places.now.constants.keys }
+    requires declared { All (HasDeclared places.now.count) operands.now }
+    ensures { OnOk result (kernels.new ≡ kernels.old ++ on_one_of_row (λ m xs. extreme_kernel extreme places.now.count places.now.constants.keys m xs) operands.now) }
+{
+    match operands {
+        [Operand::One(m), Operand::Row(terms)] => {
+            add_extreme(alloc, places, extreme, *m, terms.as_slice(), kernels)
+        }
+        _ => Ok(()),
+    }
+}
+
+/// Adds the kernel of the entry at a place of an array.
+pub(crate) fn element(
+    alloc: Global,
+    places: &Places,
+    operands: &[Operand],
+    kernels: &mut ListOf<Kernel>,
+) -> Result<(), AllocError>
+    requires few { AreFew places.now.count places.now.constants.keys }
+    requires declared { All (HasDeclared places.now.count) operands.now }
+    ensures { OnOk result (kernels.new ≡ kernels.old ++ on_entry (λ x xs c. Kernel.Element (variable_of places.now.count places.now.constants.keys x) (variables_of places.now.count places.now.constants.keys xs) (variable_of places.now.count places.now.constants.keys c) ∷ []) operands.now) }
+{
+    match operands {
+        [
+            Operand::One(place),
+            Operand::Row(entries),
+            Operand::One(entry),
+        ] => {
+            let entries = places.variables(alloc, entries.as_slice())?;
+            kernels.push(Kernel::Element {
+                x: places.variable(*place),
+                entries,
+                c: places.variable(*entry),
+            })?;
+            Ok(())
+        }
+        _ => Ok(()),
+    }
+}
+
+/// Adds the kernel of a term that is in a set.
+#[tactic(auto, unfolding(crate::specs::Kernels::row_of))]
+pub(crate) fn member(
+    alloc: Global,
+    places: &Places,
+    operands: &[Operand],
+    kernels: &mut ListOf<Kernel>,
+) -> Result<(), AllocError>
+    requires few { AreFew places.now.count places.now.constants.keys }
+    requires declared { All (HasDeclared places.now.count) operands.now }
+    ensures { OnOk result (kernels.new ≡ kernels.old ++ row_of places.now.count places.now.constants.keys ConstraintName.SetIn operands.now) }
+{
+    match operands {
+        [Operand::One(x), Operand::Set(ranges)] => {
+            kernels.push(Kernel::InSet {
+                lit: ALWAYS,
+                x: places.variable(*x),
+                ranges: ListOf::from_vec(Vec::from_slice(alloc, ranges.as_slice())?),
+            })?;
+            Ok(())
+        }
+        _ => Ok(()),
+    }
+}
+
+/// Adds the kernel of a boolean that is true exactly where a term is in a set.
+#[tactic(auto, unfolding(crate::specs::Kernels::row_of))]
+pub(crate) fn member_reified(
+    alloc: Global,
+    places: &Places,
+    operands: &[Operand],
+    kernels: &mut ListOf<Kernel>,
+) -> Result<(), AllocError>
+    requires few { AreFew places.now.count places.now.constants.keys }
+    requires declared { All (HasDeclared places.now.count) operands.now }
+    ensures { OnOk result (kernels.new ≡ kernels.old ++ row_of places.now.count places.now.constants.keys ConstraintName.SetInReif operands.now) }
+{
+    match operands {
+        [Operand::One(x), Operand::Set(ranges), Operand::One(r)] => {
+            kernels.push(Kernel::InSet {
+                lit: places.literal(true, *r),
+                x: places.variable(*x),
+                ranges: ListOf::from_vec(Vec::from_slice(alloc, ranges.as_slice())?),
+            })?;
+            Ok(())
+        }
+        _ => Ok(()),
+    }
+}

@@ -1,13 +1,7 @@
-pub mod ItemLaws
-pub mod NumberLaws
-pub mod NameLaws
-pub mod ResolveLaws
-pub mod EndLaws
-pub mod SeenLaws
-pub mod LawfulLaws
-pub mod ModelLaws
-pub mod ProgramLaws
-pub mod SearchLaws
+pub mod AnswerLaws
 pub mod NodeLaws
 pub mod OutcomeLaws
+pub mod ProgramLaws
+pub mod SearchLaws
+pub mod TextLaws
 pub mod TreeLaws

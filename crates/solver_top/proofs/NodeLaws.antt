@@ -12,12 +12,14 @@ use Rattle.guarded_tell.specs.declared.kernel.Kernel.{Kernel}
 use Rattle.guarded_tell.specs.Words.{value_of, point_of}
 use Rattle.guarded_tell.specs.Kernels.{Holds, IsKernel, IsClosedUnder}
 use Rattle.fixpoint_laws.specs.Fixpoints.{IsClosed, IsGreatest, Fails}
-use Rattle.solver_top.specs.declared.model.SmallModel.{SmallModel}
-use Rattle.solver_top.specs.SmallModel.{constants_of, IsWellFormed}
-use Rattle.solver_top.specs.Solutions.{Assignment, value_at, IsSolution, IsLeastSolution, HasNoSolution}
-use Rattle.solver_top.specs.Program.{fixed_box, start_of, kernels_of, extended, LiesIn}
+use Rattle.fzn_model.specs.declared.model.FznModel.{FznModel}
+use Rattle.solver_top.specs.Solutions.{Assignment, value_at, IsLeastSolution, HasNoSolution}
+use Rattle.fzn_model.specs.Relations.{IsSolution}
+use Rattle.fzn_model.specs.WellFormed.{constants_of}
+use Rattle.decompose.specs.Kernels.{kernels_of}
+use Rattle.decompose.specs.Program.{fixed_box, start_of, extended}
 use Rattle.solver_top.specs.Branching.{IsFirstUnfixed, AreFixed, left_of, right_of, assignment_of}
-use Rattle.solver_top.proofs.ProgramLaws.{low_fixed, high_fixed, start_numbers, start_length, start_in_range, kernels_fit, program_meaning, declared_value, constant_start, constant_value, extended_length, lies_length}
+use Rattle.solver_top.proofs.ProgramLaws.{LiesIn, IsCompiled, low_fixed, high_fixed, start_numbers, start_length, start_in_range, kernels_fit, program_meaning, declared_value, constant_start, constant_value, extended_length, lies_length}
 use Rattle.solver_top.proofs.SearchLaws.{PointLaw, low_put, high_put, low_other, high_other, put_length, put_holds, IsPart, less_of, left_part, right_part, Ahead, StackRule, ordered_push, ordered_front, all_last, all_but_last, ordered_last, some_cases, some_more, some_last, behind}
 
 pub fixed_point : (xs : List ℤ) → IsPoint (fixed_box xs)
@@ -42,7 +44,7 @@ number_between : (low z high : ℤ) → IsNumber low → IsNumber high → low �
 number_between low z high l h a b = omega (arith, ints)
 
 -- the values of an assignment that lies in a box
-pub lies_bounds : (model : SmallModel) (a : Assignment) (b : Bounds) → length b ≡ length (start_of model) → LiesIn model a b → (w : ℕ) → w < length model.vars →
+pub lies_bounds : (model : FznModel) (a : Assignment) (b : Bounds) → length b ≡ length (start_of model) → LiesIn model a b → (w : ℕ) → w < length model.vars →
     (low_of b (suc w) ≤ℤ value_at a w) × (value_at a w ≤ℤ high_of b (suc w))
 lies_bounds model a b e h w l =
     let n = lies_length model a b e h in
@@ -57,7 +59,7 @@ between z low high e a b = omega (arith, ints)
 
 -- ---- the two parts of a box
 
-module _ (model : SmallModel) (g : Bounds) (p : ℕ) (len : length g ≡ length (start_of model)) (first : IsFirstUnfixed (length model.vars) g (suc p)) where
+module _ (model : FznModel) (g : Bounds) (p : ℕ) (len : length g ≡ length (start_of model)) (first : IsFirstUnfixed (length model.vars) g (suc p)) where
   -- a value before the variable is the box's one number
   value_before : (c : Bounds) (x : Assignment) (low high : ℤ) → c ≡ put_of g (suc p) low high → LiesIn model x c → (w : ℕ) → w < p → value_at x w ≡ low_of g (suc w)
   value_before c x low high e h w l =
@@ -122,7 +124,7 @@ two_powers x y (suc z) a b = omega (arith, power_le x z (omega arith), power_le 
 
 -- ---- the rule of the stack, node by node
 
-module _ (order : InsideOrder) (model : SmallModel) (f : IsWellFormed model) where
+module _ (order : InsideOrder) (model : FznModel) (f : IsCompiled model) where
   -- what propagation asks of a box inside the start
   pub fits_inside : (b : Bounds) → length b ≡ length (start_of model) → All (IsKernel (length b)) (kernels_of model)
   fits_inside b e = subst (λ (n : ℕ). All (IsKernel n) (kernels_of model)) (sym e) (kernels_fit model f)
@@ -157,7 +159,7 @@ module _ (order : InsideOrder) (model : SmallModel) (f : IsWellFormed model) whe
         let range = order.in_range box (start_of model) (fixed_proper (extended model a)) (start_in_range model f) h in
         let numbers : (v : ℕ) → v < length box → IsNumber (low_of box v) = λ v l.
         let m : v < length (start_of model) = let e = h.same_length in omega arith in
-        let n = start_numbers model f v (pos 0, pos 0) m in
+        let n = start_numbers model f v m in
         let e = fixed_point (extended model a) v l in
         let u = h.highs v m in
         number_between (low_of (start_of model) v) (low_of box v) (high_of (start_of model) v) n.0 n.1 (h.lows v m) (omega (arith, ints)) in
@@ -183,7 +185,7 @@ module _ (order : InsideOrder) (model : SmallModel) (f : IsWellFormed model) whe
 
     -- a closed box inside the start in which each declared variable is fixed: its values are a solution, the only one in it
     module _ (g : Bounds) (closed : IsClosed g (kernels_of model)) (g_in : IsInside g (start_of model)) (fixed : AreFixed (length model.vars) g) where
-      g_length : length g ≡ suc (length model.vars + length (constants_of model.constraints))
+      g_length : length g ≡ suc (length model.vars + length (constants_of model))
       g_length = g_in.same_length ∙ start_length model
 
       values_length : length (assignment_of (length model.vars) g) ≡ length model.vars
@@ -297,7 +299,7 @@ pub part_less : (xs ys bs : List Bounds) (b c d : Bounds) → xs ≡ bs ++ b ∷
 part_less xs ys bs b c d e k h =
     omega (arith, ap (sum_by weight) e, ap (sum_by weight) k, sum_by_push weight bs b, sum_by_push weight (bs ++ c ∷ []) d, sum_by_push weight bs c)
 
-module _ (order : InsideOrder) (model : SmallModel) (f : IsWellFormed model) (bs : List Bounds) (b g : Bounds) (kernels : List Kernel) (same : kernels ≡ kernels_of model)
+module _ (order : InsideOrder) (model : FznModel) (f : IsCompiled model) (bs : List Bounds) (b g : Bounds) (kernels : List Kernel) (same : kernels ≡ kernels_of model)
     (r : StackRule model (bs ++ b ∷ [])) (gr : IsGreatest g b kernels) (count : ℕ) (is_count : count ≡ length model.vars) where
   greatest_is : IsGreatest g b (kernels_of model)
   greatest_is = subst (λ (ks : List Kernel). IsGreatest g b ks) same gr

@@ -11,10 +11,12 @@ use Rattle.interval.specs.Boxes.{Bounds, low_of, high_of, put_of, IsInRange, IsP
 use Rattle.guarded_tell.specs.declared.kernel.Kernel.{Kernel}
 use Rattle.guarded_tell.specs.Words.{point_of}
 use Rattle.guarded_tell.specs.Kernels.{Holds, IsKernel, IsClosedUnder}
-use Rattle.solver_top.specs.declared.model.SmallModel.{SmallModel}
-use Rattle.solver_top.specs.Solutions.{Assignment, IsSolution, IsBefore}
-use Rattle.solver_top.specs.Program.{start_of, LiesIn}
+use Rattle.fzn_model.specs.declared.model.FznModel.{FznModel}
+use Rattle.solver_top.specs.Solutions.{Assignment, IsBefore}
+use Rattle.fzn_model.specs.Relations.{IsSolution}
+use Rattle.decompose.specs.Program.{start_of}
 use Rattle.solver_top.specs.Branching.{left_of, right_of}
+use Rattle.solver_top.proofs.ProgramLaws.{LiesIn}
 
 -- a point within the range is closed under a kernel exactly where the kernel holds on it
 abbrev pub PointLaw : Type 0
@@ -102,33 +104,33 @@ right_part b v h p n =
 -- ---- the order of boxes
 
 -- every assignment in the one box comes before every one in the other
-abbrev pub Ahead : SmallModel → Bounds → Bounds → Type 0
+abbrev pub Ahead : FznModel → Bounds → Bounds → Type 0
 Ahead model b c = (x y : Assignment) → LiesIn model x b → LiesIn model y c → IsBefore x y
 
 -- each box of the list is behind those after it
-abbrev pub Ordered : SmallModel → List Bounds → Type 0
+abbrev pub Ordered : FznModel → List Bounds → Type 0
 Ordered model [] = Unit {0}
 Ordered model (b ∷ bs) = All (λ c. Ahead model c b) bs × Ordered model bs
 
 -- the assignment lies in some box of the list
-abbrev pub InSome : SmallModel → Assignment → List Bounds → Type 0
+abbrev pub InSome : FznModel → Assignment → List Bounds → Type 0
 InSome model a [] = ⊥
 InSome model a (b ∷ bs) = LiesIn model a b ⊎ InSome model a bs
 
 -- what the search keeps true of its stack, whose top is at the end
-pub record StackRule (model : SmallModel) (stack : List Bounds) : Type 0 where
+pub record StackRule (model : FznModel) (stack : List Bounds) : Type 0 where
   pub inside : All (λ b. IsInside b (start_of model)) stack
   pub ordered : Ordered model stack
   pub covers : (a : Assignment) → IsSolution model a → InSome model a stack
 
-pub ordered_push : (model : SmallModel) (bs : List Bounds) (b : Bounds) → Ordered model bs → All (λ c. Ahead model b c) bs → Ordered model (bs ++ b ∷ [])
+pub ordered_push : (model : FznModel) (bs : List Bounds) (b : Bounds) → Ordered model bs → All (λ c. Ahead model b c) bs → Ordered model (bs ++ b ∷ [])
 ordered_push model [] b o h = (All-nil (λ (c : Bounds). Ahead model c b), tt)
 ordered_push model (c ∷ bs) b o h = (
   All-push (λ (d : Bounds). Ahead model d c) bs b o.0 (All-head (λ (d : Bounds). Ahead model b d) c bs h),
   ordered_push model bs b o.1 (All-tail (λ (d : Bounds). Ahead model b d) c bs h),
 )
 
-pub ordered_front : (model : SmallModel) (bs : List Bounds) (b : Bounds) → Ordered model (bs ++ b ∷ []) → Ordered model bs
+pub ordered_front : (model : FznModel) (bs : List Bounds) (b : Bounds) → Ordered model (bs ++ b ∷ []) → Ordered model bs
 ordered_front model [] b o = tt
 ordered_front model (c ∷ bs) b o = (all_front (λ (d : Bounds). Ahead model d c) bs b o.0, ordered_front model bs b o.1)
   where
@@ -144,28 +146,28 @@ pub all_but_last : (P : Bounds → Type 0) (ds : List Bounds) (d : Bounds) → A
 all_but_last P [] d h = All-nil P
 all_but_last P (e ∷ ds) d h = All-cons P e ds (All-head P e (ds ++ d ∷ []) h) (all_but_last P ds d (All-tail P e (ds ++ d ∷ []) h))
 
-pub ordered_last : (model : SmallModel) (bs : List Bounds) (b : Bounds) → Ordered model (bs ++ b ∷ []) → All (λ c. Ahead model b c) bs
+pub ordered_last : (model : FznModel) (bs : List Bounds) (b : Bounds) → Ordered model (bs ++ b ∷ []) → All (λ c. Ahead model b c) bs
 ordered_last model [] b o = All-nil (λ (c : Bounds). Ahead model b c)
 ordered_last model (c ∷ bs) b o =
     All-cons (λ (d : Bounds). Ahead model b d) c bs (all_last (λ (d : Bounds). Ahead model d c) bs b o.0) (ordered_last model bs b o.1)
 
-pub some_cases : (model : SmallModel) (a : Assignment) (bs : List Bounds) (b : Bounds) → InSome model a (bs ++ b ∷ []) → InSome model a bs ⊎ LiesIn model a b
+pub some_cases : (model : FznModel) (a : Assignment) (bs : List Bounds) (b : Bounds) → InSome model a (bs ++ b ∷ []) → InSome model a bs ⊎ LiesIn model a b
 some_cases model a [] b (inl h) = inr h
 some_cases model a [] b (inr h) = absurd h
 some_cases model a (c ∷ bs) b (inl h) = inl (inl h)
 some_cases model a (c ∷ bs) b (inr h) = elim (some_cases model a bs b h) [ inl g ↦ inl (inr g) | inr g ↦ inr g ]
 
-pub some_more : (model : SmallModel) (a : Assignment) (bs : List Bounds) (b : Bounds) → InSome model a bs → InSome model a (bs ++ b ∷ [])
+pub some_more : (model : FznModel) (a : Assignment) (bs : List Bounds) (b : Bounds) → InSome model a bs → InSome model a (bs ++ b ∷ [])
 some_more model a [] b h = absurd h
 some_more model a (c ∷ bs) b (inl h) = inl h
 some_more model a (c ∷ bs) b (inr h) = inr (some_more model a bs b h)
 
-pub some_last : (model : SmallModel) (a : Assignment) (bs : List Bounds) (b : Bounds) → LiesIn model a b → InSome model a (bs ++ b ∷ [])
+pub some_last : (model : FznModel) (a : Assignment) (bs : List Bounds) (b : Bounds) → LiesIn model a b → InSome model a (bs ++ b ∷ [])
 some_last model a [] b h = inl h
 some_last model a (c ∷ bs) b h = inr (some_last model a bs b h)
 
 -- a box of a list that an assignment before all of them doesn't lie in
-pub behind : (model : SmallModel) (a : Assignment) (b : Bounds) (bs : List Bounds) → LiesIn model a b → All (λ c. Ahead model b c) bs → (y : Assignment) → InSome model y bs → IsBefore a y
+pub behind : (model : FznModel) (a : Assignment) (b : Bounds) (bs : List Bounds) → LiesIn model a b → All (λ c. Ahead model b c) bs → (y : Assignment) → InSome model y bs → IsBefore a y
 behind model a b [] h o y s = absurd s
 behind model a b (c ∷ bs) h o y (inl s) = All-head (λ (d : Bounds). Ahead model b d) c bs o a y h s
 behind model a b (c ∷ bs) h o y (inr s) = behind model a b bs h (All-tail (λ (d : Bounds). Ahead model b d) c bs o) y s

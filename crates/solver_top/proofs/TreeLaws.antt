@@ -1,20 +1,18 @@
 -- The list of solutions in the order of the search tree: it exists for every box inside the start, and its head is the
 -- least solution there.
-use Rattle.std.proofs.Common.{◌≡◌, ◌≢◌, ℕ, zero, suc, ℤ, pos, ◌+◌, ◌+ℤ◌, ◌<◌, ◌≤◌, ◌≤ℤ◌, ◌<ℤ◌, List, [], ◌∷◌, ◌++◌, length, refl, sym, ap, subst, ◌∙◌, ◌⊎◌, inl, inr, arith, Option, None, Some, Result, Ok, Err, IfOk}
-use Rattle.std.specs.List.{All}
+use Rattle.std.proofs.Common.{◌≡◌, ◌≢◌, ℕ, zero, suc, ℤ, ◌<◌, ◌≤◌, ◌<ℤ◌, List, [], ◌∷◌, ◌++◌, length, refl, sym, ap, subst, ◌⊎◌, inl, inr, arith, Option, None, Some, Result, Ok, Err, IfOk}
 use Rattle.std.proofs.lemmas.Int.{ints, by_lt_z}
 use Rattle.std.proofs.lemmas.Bool.{cases_lt, cases_eq}
-use Rattle.interval.specs.Boxes.{Bounds, low_of, high_of, IsInRange, IsProper, IsInside, InsideOrder, width_sum_of}
-use Rattle.guarded_tell.specs.declared.kernel.Kernel.{Kernel}
-use Rattle.guarded_tell.specs.Kernels.{IsKernel}
-use Rattle.fixpoint_laws.specs.Fixpoints.{IsClosed, IsGreatest, Fails, OneFixpoint}
-use Rattle.solver_top.specs.declared.model.SmallModel.{SmallModel}
-use Rattle.solver_top.specs.SmallModel.{IsWellFormed}
-use Rattle.solver_top.specs.Solutions.{Assignment, value_at, IsSolution, IsBefore, IsLeastSolution, HasNoSolution, IsAnswer}
-use Rattle.solver_top.specs.Program.{fixed_box, start_of, kernels_of, extended, LiesIn}
+use Rattle.interval.specs.Boxes.{Bounds, low_of, high_of, IsInRange, IsInside, InsideOrder, width_sum_of}
+use Rattle.fixpoint_laws.specs.Fixpoints.{IsGreatest, OneFixpoint}
+use Rattle.fzn_model.specs.declared.model.FznModel.{FznModel}
+use Rattle.solver_top.specs.Solutions.{Assignment, value_at, IsBefore, IsAnswer}
+use Rattle.fzn_model.specs.Relations.{IsSolution}
+use Rattle.decompose.specs.Kernels.{kernels_of}
+use Rattle.decompose.specs.Program.{fixed_box, start_of, extended}
 use Rattle.solver_top.specs.Branching.{IsFixed, IsFirstUnfixed, AreFixed, left_of, right_of, assignment_of}
 use Rattle.solver_top.specs.SearchTree.{SolutionsIn, failed, fixed, parted, head_of, IsHeadOfSolutions}
-use Rattle.solver_top.proofs.ProgramLaws.{start_length, start_in_range, kernels_fit, program_meaning}
+use Rattle.solver_top.proofs.ProgramLaws.{LiesIn, IsCompiled, start_length, start_in_range, program_meaning}
 use Rattle.solver_top.proofs.SearchLaws.{PointLaw, IsPart, left_part, right_part}
 use Rattle.solver_top.proofs.NodeLaws.{fixed_point, left_ahead, part_holds, fits_inside, solution_closed, greatest_holds, in_g, is_solution, same_solution}
 
@@ -38,7 +36,7 @@ choice (suc n) g = elim (choice n g) [
 
 -- ---- the order of assignments
 
-never_both : (a b : Assignment) → IsBefore a b → IsBefore b a → ⊥
+pub never_both : (a b : Assignment) → IsBefore a b → IsBefore b a → ⊥
 never_both a b p q = elim (cases_lt p.place q.place) [
   | inl less ↦ let e = q.same_before p.place less in let l = p.lesser in omega (arith, ints)
   | inr more ↦ elim (cases_eq p.place q.place) [
@@ -53,11 +51,11 @@ never_both a b p q = elim (cases_lt p.place q.place) [
 -- ---- what the head of the list is
 
 -- no solution lies in the box where the list is empty; else its head is the first of those that do
-abbrev IsFirstIn : SmallModel → Bounds → List Assignment → Type 0
+abbrev IsFirstIn : FznModel → Bounds → List Assignment → Type 0
 IsFirstIn model b [] = (y : Assignment) → IsSolution model y → LiesIn model y b → ⊥
 IsFirstIn model b (a ∷ others) = IsSolution model a × LiesIn model a b × ((y : Assignment) → IsSolution model y → LiesIn model y b → (a ≡ y) ⊎ IsBefore a y)
 
-module _ (order : InsideOrder) (model : SmallModel) (f : IsWellFormed model) (point : PointLaw) where
+module _ (order : InsideOrder) (model : FznModel) (f : IsCompiled model) (point : PointLaw) where
   lies_wider : (a : Assignment) (b c : Bounds) → LiesIn model a b → IsInside b c → LiesIn model a c
   lies_wider a b c h i = order.through (fixed_box (extended model a)) b c h i
 

@@ -1,12 +1,7 @@
-pub mod SmallModel
-pub mod SmallText
-pub mod Solutions
-pub mod AnswerText
 pub mod Words
-pub mod Outcome
-pub mod SmallReader
-pub mod SmallResolver
-pub mod Program
+pub mod Texts
+pub mod Solutions
 pub mod Branching
 pub mod SearchTree
-pub mod Texts
+pub mod AnswerText
+pub mod Outcome

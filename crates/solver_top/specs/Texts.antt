@@ -1,6 +1,6 @@
 -- What a text means: its model, or its first fault. Reading takes the whole text's tokens first, then its items, then
 -- what they mean: a fault of an earlier step comes before one of a later step, wherever the two stand in the text.
-use Rattle.std.specs.Prelude.{◌≡◌, ◌⊎◌, ◌≤◌, ◌<◌, ◌+◌, ◌==◌, ℕ, List, length, take, count_by}
+use Rattle.std.specs.Prelude.{◌≡◌, ◌⊎◌, ◌≤◌, ◌<◌, ◌+◌, ◌==◌, ℕ, nat_eq, if◌then◌else◌, List, length, take, count_by}
 use Rattle.fzn_lexer.specs.declared.Token.{Token}
 use Rattle.fzn_lexer.specs.Lexing.{LexesAs, FaultsAt as IsNoToken}
 use Rattle.fzn_parser.specs.Parsing.{ItemTree, ReadsAs, FaultsAt as IsNoItem}
@@ -74,3 +74,13 @@ IsCause text TextError.NoMemory = Unit {0}
 -- the line of a byte, counted from 1: each line ends with byte 10
 unfoldable pub line_at : List ℕ → ℕ → ℕ
 line_at text at = count_by (λ b. b == 10) (take at text) + 1
+
+-- the line that is told of a fault: that of its byte, and 0 where the text is too long
+abbrev pub fault_line : List ℕ → ℕ → ℕ → ℕ
+fault_line text kind at = if nat_eq kind too_long then 0 else line_at text at
+
+-- the text has a fault of this kind on this line
+pub record HasFaultOn (text : List ℕ) (kind line : ℕ) : Type 0 where
+  pub at : ℕ
+  pub fault : IsFaultOf text kind at
+  pub is_line : line ≡ fault_line text kind at

@@ -20,7 +20,8 @@ const NO_TOKEN: u8 = 1;
 
 const NO_ITEM: u8 = 2;
 
-const TOO_LONG: u8 = 12;
+/// The kind of fault of a text that is too long.
+pub(crate) const TOO_LONG: u8 = 12;
 
 /// Why a text has no model.
 #[derive(Debug, Clone, Copy, PartialEq, Eq, Drop, Error)]

@@ -1,7 +1,14 @@
-//! The statuses of the top call.
+//! The statuses of the top call, and the line of each.
 
-ghost use Rattle.std.specs.Prelude.{◌≡◌};
-ghost use Rattle.solver_top.specs.Outcome.{status_code, status_line};
+ghost use Rattle.std.specs.Prelude.{◌≡◌, ◌⊎◌, ℕ, IfOk};
+ghost use Rattle.fzn_io.specs.Faults.{CountRose};
+ghost use Rattle.fzn_io.specs.Streams.{Adds, AddsFront};
+ghost use Rattle.solver_top.specs.declared.status.Status.{Status};
+ghost use Rattle.solver_top.specs.Outcome.{IsRefused, kind_name, status_code, status_line};
+
+use fzn_io::{Sink, write_all};
+use itoa::Buffer;
+use std::alloc::{AllocError, Global};
 
 /// How a call of `solve_main` ended.
 #[derive(Clone, Copy, Debug, PartialEq, Eq)]
@@ -10,8 +17,8 @@ pub enum Status {
     Answered,
     /// The words are not the program's name and a file.
     Usage,
-    /// The text has no model.
-    Refused,
+    /// The text has a fault of this kind, from 1 to 12, on this line, counted from 1; line 0 where the text is too long.
+    Refused { kind: u8, line: u64 },
     /// The file could not be opened or read.
     ReadFault,
     /// The answer could not be written whole; a front of it is.
@@ -28,27 +35,87 @@ impl Status {
         match self {
             Status::Answered => 0,
             Status::Usage => 1,
-            Status::Refused => 2,
+            Status::Refused { .. } => 2,
             Status::ReadFault => 3,
             Status::WriteFault => 4,
             Status::NoMemory => 5,
-        }
-    }
-
-    /// The line that goes to standard error, with its end; none for `Answered`.
-    pub fn line(self) -> &'static [u8]
-        ensures { result.now ≡ status_line self }
-    {
-        match self {
-            Status::Answered => b"",
-            Status::Usage => USAGE,
-            Status::Refused => b"refused 2 Syntax line 1\n",
-            Status::ReadFault => b"read fault\n",
-            Status::WriteFault => b"write fault\n",
-            Status::NoMemory => b"out of memory\n",
         }
     }
 }
 
 const USAGE: &[u8] =
     b"usage: turbofzn [-a] [-p N] [--lanes N] [--depth D] [--node-limit N] (FILE or --make N)\n";
+
+/// What is written where memory is refused.
+const OUT_OF_MEMORY: &[u8] = b"out of memory\n";
+
+/// The name of a kind of fault.
+fn name_of_kind(kind: u8) -> &'static [u8]
+    ensures { result.now ≡ kind_name kind }
+{
+    match kind {
+        1 => b"Lex",
+        2 => b"Syntax",
+        3 => b"NameTwice",
+        4 => b"NameUnknown",
+        5 => b"UnknownConstraint",
+        6 => b"WrongArgument",
+        7 => b"Unsupported",
+        8 => b"OutOfRange",
+        9 => b"TooMany",
+        10 => b"NoSolve",
+        11 => b"AfterSolve",
+        12 => b"TooLong",
+        _ => b"",
+    }
+}
+
+/// The line of a refused text.
+fn refusal(alloc: Global, kind: u8, line: u64) -> Result<Vec<u8>, AllocError>
+    ensures { IfOk result (λ bytes. bytes.items ≡ status_line (Status.Refused kind line)) }
+{
+    let mut number = Buffer::new();
+    let mut bytes = Vec::from_slice(alloc, b"refused ")?;
+    bytes.extend_from_slice(number.format(kind).as_bytes())?;
+    bytes.extend_from_slice(b" ")?;
+    bytes.extend_from_slice(name_of_kind(kind))?;
+    bytes.extend_from_slice(b" line ")?;
+    bytes.extend_from_slice(number.format(line).as_bytes())?;
+    bytes.extend_from_slice(b"\n")?;
+    Ok(bytes)
+}
+
+/// The line of a status other than `Refused`.
+fn plain_line(status: Status) -> &'static [u8]
+    requires { IsRefused status → ⊥ }
+    ensures { result.now ≡ status_line status }
+{
+    match status {
+        Status::Answered => b"",
+        Status::Usage => USAGE,
+        Status::ReadFault => b"read fault\n",
+        Status::WriteFault => b"write fault\n",
+        Status::NoMemory => OUT_OF_MEMORY,
+        Status::Refused { .. } => unreachable!(),
+    }
+}
+
+/// Writes the line of a status, nothing for `Answered`. The answer is that status, or `NoMemory` where memory for the line
+/// of a refused text was refused; the line is that of the answer.
+pub fn report<E: Sink>(alloc: Global, err: &mut E, status: Status) -> Status
+    ensures ends { (result ≡ status) ⊎ (IsRefused status × (result ≡ Status.NoMemory)) }
+    ensures line { (CountRose (E.faults err.old) (E.faults err.new) → ⊥)
+        → Adds (E.written err.old) (E.written err.new) (status_line result) }
+    ensures front { AddsFront (E.written err.old) (E.written err.new) (status_line result) }
+{
+    let Status::Refused { kind, line } = status else {
+        let _ = write_all(err, plain_line(status));
+        return status;
+    };
+    let Ok(bytes) = refusal(alloc, kind, line) else {
+        let _ = write_all(err, OUT_OF_MEMORY);
+        return Status::NoMemory;
+    };
+    let _ = write_all(err, &bytes);
+    status
+}

@@ -1,8 +1,10 @@
-//! Whole texts through the top call, in tables: what is written, the status, and the line on standard error.
+//! The top call on files and streams that are lists of bytes: its words, and faults of the file and of the streams. Tables of
+//! texts stand in the other files of tests.
 
 use crate::{Status, solve_main};
 use fzn_io::{HonestSource, MemSink, MemSource, Named};
 use std::alloc::{AllocError, Global};
+use std::process::Abort;
 use std::test::Fail;
 
 /// The text whose least solution is `x = 2`.
@@ -10,15 +12,15 @@ const BOUNDS: &str = "var 1..3: x :: output_var; constraint int_le(2,x); solve s
 
 /// What a call did.
 #[derive(Drop)]
-struct Outcome {
-    status: Status,
-    out: Vec<u8>,
-    err: Vec<u8>,
+pub(crate) struct Outcome {
+    pub(crate) status: Status,
+    pub(crate) out: Vec<u8>,
+    pub(crate) err: Vec<u8>,
 }
 
 /// Runs the program on a file that holds `text`, or that isn't there. Of the calls on the file and of those on standard
 /// output, each of at most `chunk` bytes, the ones with these numbers fail; 0 is none.
-fn run(
+pub(crate) fn run(
     alloc: Global,
     text: Option<Vec<u8>>,
     chunk: usize,
@@ -47,32 +49,19 @@ fn run(
     })
 }
 
-#[test]
-fn texts_have_their_answers(rt: HostRuntime) -> Result<(), Fail> {
-    for (text, answer) in [
-        (BOUNDS, "x = 2;\n----------\n"),
-        ("solve satisfy;", "----------\n"),
-        ("var 5..3: x; solve satisfy;", "=====UNSATISFIABLE=====\n"),
-        (
-            "constraint int_le(4,3);solve satisfy;",
-            "=====UNSATISFIABLE=====\n",
-        ),
-        (
-            "constraint int_le(1,1); constraint int_le(-7,3); solve satisfy;",
-            "----------\n",
-        ),
-        (
-            "var -3..007: a :: output_var;\nvar 0..9: b;\nvar -2147483646..2147483646: c :: output_var;\n\
-             constraint int_le(b, a);\nconstraint int_le(c, -4);\nsolve satisfy;\n",
-            "a = 0;\nc = -2147483646;\n----------\n",
-        ),
-        (
-            "var 0..4: early :: output_var; var 6..9: late; constraint int_le(late,early); solve satisfy;",
-            "=====UNSATISFIABLE=====\n",
-        ),
-    ] {
-        let bytes = Vec::from_slice(rt.alloc(), text.as_bytes())?;
-        let outcome = run(rt.alloc(), Some(bytes), 1024, 0, 0)?;
+/// Runs the program on a file that holds these bytes.
+pub(crate) fn run_text(alloc: Global, text: &[u8]) -> Result<Outcome, AllocError> {
+    run(alloc, Some(Vec::from_slice(alloc, text)?), 1024, 0, 0)
+}
+
+/// Each text has its answer, and nothing goes to standard error.
+pub(crate) fn assert_answers(
+    rt: &impl Abort,
+    alloc: Global,
+    table: &[(&str, &str)],
+) -> Result<(), Fail> {
+    for (text, answer) in table {
+        let outcome = run_text(alloc, text.as_bytes())?;
         assert_eq!(rt; outcome.status, Status::Answered, "at {text}");
         assert_eq!(rt; outcome.out.as_slice(), answer.as_bytes(), "at {text}");
         assert!(rt; outcome.err.is_empty(), "at {text}");
@@ -80,29 +69,18 @@ fn texts_have_their_answers(rt: HostRuntime) -> Result<(), Fail> {
     Ok(())
 }
 
-#[test]
-fn texts_with_no_model_are_refused(rt: HostRuntime) -> Result<(), Fail> {
-    for text in [
-        "",
-        "var 1..3: x; constraint int_le(2,x);",
-        "constraint int_le(q,1); solve satisfy;",
-        "var 1..3: x solve satisfy;",
-        "var 1..3: x; var 1..3: x; solve satisfy;",
-        "solve satisfy; var 1..3: x;",
-        "var 0x1..3: x; solve satisfy;",
-        "var 1..2147483647: x; solve satisfy;",
-        "solve satisfy; % a comment",
-        "solve satisfy; $",
-    ] {
-        let bytes = Vec::from_slice(rt.alloc(), text.as_bytes())?;
-        let outcome = run(rt.alloc(), Some(bytes), 1024, 0, 0)?;
-        assert_eq!(rt; outcome.status, Status::Refused, "at {text}");
+/// Each text is refused with its kind, its line and what goes to standard error, and nothing goes to standard output.
+pub(crate) fn assert_refusals(
+    rt: &impl Abort,
+    alloc: Global,
+    table: &[(&str, u8, u64, &str)],
+) -> Result<(), Fail> {
+    for (text, kind, line, told) in table {
+        let outcome = run_text(alloc, text.as_bytes())?;
+        let (kind, line) = (*kind, *line);
+        assert_eq!(rt; outcome.status, Status::Refused { kind, line }, "at {text}");
         assert!(rt; outcome.out.is_empty(), "at {text}");
-        assert_eq!(rt;
-            outcome.err.as_slice(),
-            b"refused 2 Syntax line 1\n".as_slice(),
-            "at {text}"
-        );
+        assert_eq!(rt; outcome.err.as_slice(), told.as_bytes(), "at {text}");
     }
     Ok(())
 }

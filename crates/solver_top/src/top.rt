@@ -2,20 +2,20 @@
 
 ghost use Rattle.std.specs.Prelude.{◌≡◌, ◌⊎◌, ◌≤◌, ◌↔◌, ℕ, List, Option, Some, None, IfOk, IfErr, length};
 ghost use Rattle.fzn_io.specs.Faults.{CountRose};
-ghost use Rattle.fzn_io.specs.Streams.{Adds, AddsFront};
+ghost use Rattle.fzn_io.specs.Streams.{Adds, AddsFront, IsHeld};
 ghost use Rattle.solver_top.specs.Words.{file_of};
-ghost use Rattle.solver_top.specs.Outcome.{IsAnswerOf, IsAnswerOfFile, WroteAnswer, WroteFront, HeldHasNoModel, HeldHasModel, held_under, Tells, IsFileAlone, CanOpen, IsTextCause, IsFileCause, status_line};
+ghost use Rattle.solver_top.specs.Texts.{IsCause, fault_line};
+ghost use Rattle.solver_top.specs.Outcome.{IsAnswerOf, IsAnswerOfFile, WroteAnswer, WroteFront, IsFaultOfFile, ToldHasFault, ToldHasModel, held_under, IsFileAlone, CanOpen, IsTextCause, IsFileCause, status_line};
 
+use crate::laws::law_one_text;
 use crate::printing::print_answer;
-use crate::reading::{ReadError, read_model};
+use crate::reader::{MOST_BYTES, TOO_LONG, TextError, line_of, read_model};
 use crate::solving::solve;
-use crate::status::Status;
+use crate::status::{Status, report};
 use crate::words;
-use fzn_io::{ReadError as FileError, Sink, Source, read_all, write_all};
+use fzn_io::{ReadError as FileError, Sink, Source, read_named, write_all};
+use fzn_model::law_well_formed;
 use std::alloc::Global;
-
-/// Most bytes of a text.
-const MOST_TEXT_BYTES: usize = 67_108_864;
 
 /// Reads the file that the words name, and writes the answer of its text to `out`; with any other status a line goes to
 /// `err`. Nothing is written to `out` unless the status is `Answered` or `WriteFault`.
@@ -30,16 +30,19 @@ pub fn solve_main<S: Source, K: Sink, E: Sink>(
     ensures usage { (result ≡ Status.Usage) ↔ (file_of words.now ≡ None) }
     ensures answered { result ≡ Status.Answered
         → WroteAnswer (held_under (S.held files.old) (file_of words.now)) (K.written out.old) (K.written out.new) }
-    ensures refused { result ≡ Status.Refused → HeldHasNoModel (held_under (S.held files.old) (file_of words.now)) }
+    ensures refused { (kind line : ℕ) → result ≡ Status.Refused kind line → IsFaultOfFile (held_under (S.held files.old) (file_of words.now)) kind line }
     ensures read_fault { result ≡ Status.ReadFault → CountRose (S.faults files.old) (S.faults files.new) }
     ensures write_fault { result ≡ Status.WriteFault → CountRose (K.faults out.old) (K.faults out.new) }
     ensures front { result ≡ Status.WriteFault
         → WroteFront (held_under (S.held files.old) (file_of words.now)) (K.written out.old) (K.written out.new) }
     ensures silent { (result ≡ Status.Answered → ⊥) → (result ≡ Status.WriteFault → ⊥) → out.new ≡ out.old }
-    ensures complete { HeldHasModel (held_under (S.held files.old) (file_of words.now))
+    ensures complete { ToldHasModel (held_under (S.held files.old) (file_of words.now))
         → (CountRose (S.faults files.old) (S.faults files.new) → ⊥)
         → (CountRose (K.faults out.old) (K.faults out.new) → ⊥)
         → (result ≡ Status.Answered) ⊎ (result ≡ Status.NoMemory) }
+    ensures every_fault { (kind line : ℕ) → ToldHasFault (held_under (S.held files.old) (file_of words.now)) kind line
+        → (CountRose (S.faults files.old) (S.faults files.new) → ⊥)
+        → (result ≡ Status.Refused kind line) ⊎ (result ≡ Status.NoMemory) }
     ensures err_line { (CountRose (E.faults err.old) (E.faults err.new) → ⊥)
         → Adds (E.written err.old) (E.written err.new) (status_line result) }
     ensures err_front { AddsFront (E.written err.old) (E.written err.new) (status_line result) }
@@ -48,8 +51,8 @@ pub fn solve_main<S: Source, K: Sink, E: Sink>(
         Ok(answer) => write_answer(out, &answer),
         Err(status) => status,
     };
-    let _ = write_all(err, status.line());
-    status
+    law_one_text();
+    report(alloc, err, status)
 }
 
 /// Writes the answer.
@@ -95,16 +98,16 @@ fn answer_of_file<S: Source>(alloc: Global, file: &str, files: &mut S) -> Result
 /// The text of a file.
 fn text_of_file<S: Source>(alloc: Global, file: &str, files: &mut S) -> Result<Vec<u8>, Status>
     requires { IsFileAlone (S.names files.old) file.now }
-    ensures ok { IfOk result (λ text. Tells (S.held files.old file.now) text.items) }
+    ensures ok { IfOk result (λ text. IsHeld (S.held files.old file.now) text.items) }
     ensures cause { IfErr result (λ status. IsFileCause (S.held files.old file.now) (S.faults files.old) (S.faults files.new) status) }
 {
-    if files.open_named(file).is_err() {
-        return Err(Status::ReadFault);
-    }
-    match read_all(alloc, files, MOST_TEXT_BYTES) {
+    match read_named(alloc, files, file, MOST_BYTES) {
         Ok(text) => Ok(text),
         Err(FileError::ReadFault) => Err(Status::ReadFault),
-        Err(FileError::TooLong) => Err(Status::Refused),
+        Err(FileError::TooLong) => Err(Status::Refused {
+            kind: TOO_LONG,
+            line: 0,
+        }),
         Err(FileError::NoMemory) => Err(Status::NoMemory),
     }
 }
@@ -116,14 +119,39 @@ fn answer_of_text(alloc: Global, text: &[u8]) -> Result<Vec<u8>, Status>
 {
     let model = match read_model(alloc, text) {
         Ok(model) => model,
-        Err(ReadError::Refused) => return Err(Status::Refused),
-        Err(ReadError::NoMemory) => return Err(Status::NoMemory),
+        Err(error) => return Err(status_of(text, error)),
     };
+    law_well_formed();
     let Ok(answer) = solve(alloc, &model) else {
         return Err(Status::NoMemory);
     };
     match print_answer(alloc, &model, &answer) {
         Ok(bytes) => Ok(bytes),
         Err(_) => Err(Status::NoMemory),
+    }
+}
+
+/// The status where a text has no model.
+fn status_of(text: &[u8], error: TextError) -> Status
+    requires { IsCause text.now error }
+    ensures { IsTextCause text.now result }
+{
+    match error {
+        TextError::Refused { kind, at } => Status::Refused {
+            kind,
+            line: told_line(text, kind, at),
+        },
+        TextError::NoMemory => Status::NoMemory,
+    }
+}
+
+/// The line that is told of a fault; 0 where the text is too long.
+fn told_line(text: &[u8], kind: u8, at: usize) -> u64
+    ensures { result ≡ fault_line text.now kind at }
+{
+    if kind == TOO_LONG {
+        0
+    } else {
+        line_of(text, at)
     }
 }

@@ -1,8 +1,8 @@
 //! `turbofzn`: solves the FlatZinc file that its words name, and ends with the status of the call.
 #![tactic(auto)]
 
-use fzn_io::{FileSource, StdSink, write_all};
-use solver_top::{Status, solve_main};
+use fzn_io::{FileSource, StdSink};
+use solver_top::{Status, report, solve_main};
 use std::process::ExitCode;
 use std::{env, io};
 
@@ -35,7 +35,5 @@ fn solve(rt: &HostRuntime, words: &[String]) -> Status {
 
 /// What is said where there is no memory for the words.
 fn refuse_memory(rt: &HostRuntime) -> Status {
-    let status = Status::NoMemory;
-    let _ = write_all(&mut StdSink::new(rt.stderr()), status.line());
-    status
+    report(rt.alloc(), &mut StdSink::new(rt.stderr()), Status::NoMemory)
 }

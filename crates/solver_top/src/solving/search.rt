@@ -1,15 +1,15 @@
 //! Search: boxes are settled and parted until a point is left.
 
-ghost use Rattle.std.specs.Prelude.{◌≡◌, ◌+◌, ◌<◌, ◌<ℤ◌, [], ◌∷◌, ◌++◌, length, IfOk, OnOk};
+ghost use Rattle.std.specs.Prelude.{◌≡◌, ◌+◌, ◌<◌, ◌<ℤ◌, ◌≤◌, [], ◌∷◌, ◌++◌, length, IfOk, OnOk};
 ghost use Rattle.interval.specs.Boxes.{low_of, high_of};
-ghost use Rattle.solver_top.specs.SmallModel.{IsWellFormed};
+ghost use Rattle.fzn_model.specs.Faults.{most_vars};
 ghost use Rattle.solver_top.specs.Solutions.{IsAnswer};
-ghost use Rattle.solver_top.specs.Program.{start_of, kernels_of};
+ghost use Rattle.decompose.specs.Program.{IsProgramOf};
 ghost use Rattle.solver_top.specs.Branching.{IsChoice, left_of, right_of, assignment_of};
 
-use super::program::Program;
-use crate::model::SmallModel;
+use decompose::Program;
 use fixpoint_laws::{Settled, settle_alone};
+use fzn_model::FznModel;
 use guarded_tell::law_point;
 use interval::{BoxOf, NoMemory, law_inside_order};
 use list_of::ListOf;
@@ -18,12 +18,11 @@ use std::alloc::{AllocError, Global};
 /// The least solution of the model of this program, or none where it has none.
 pub(super) fn search(
     alloc: Global,
-    model: &SmallModel,
+    model: &FznModel,
     program: Program,
 ) -> Result<Option<ListOf<i64>>, AllocError>
-    requires formed { IsWellFormed model.now }
-    requires start { program.start ≡ start_of model.now }
-    requires kernels { program.kernels ≡ kernels_of model.now }
+    requires few { length model.now.vars ≤ most_vars }
+    requires program { IsProgramOf model.now program }
     ensures { IfOk result (λ answer. IsAnswer model.now answer) }
 {
     law_inside_order();

@@ -1,6 +1,8 @@
-use Rattle.std.proofs.Common.{◌≡◌, ◌++◌, drop}
-use Rattle.solver_top.specs.AnswerText.{var_lines}
+use Rattle.std.proofs.Common.{◌≡◌, ◌++◌, take}
+use Rattle.std.specs.Prelude.{flat_map}
+use Rattle.solver_top.specs.AnswerText.{output_line}
 use Rattle.solver_top.proofs.printing.push_lines.Given as goal
 
-abbrev pub invariant-loop-index : goal.invariant-loop-index
-invariant-loop-index l = l.text.items ++ var_lines (drop l.index l.vars) (drop l.index l.values) ≡ l.initial.text.items ++ var_lines l.vars l.values
+-- the lines of the outputs so far
+abbrev pub invariant-loop-output : goal.invariant-loop-output
+invariant-loop-output l = l.text.items ≡ l.initial.text.items ++ flat_map (output_line l.values) (take l.output-index l.outputs)

@@ -1,6 +1,6 @@
 use Rattle.std.proofs.Common.{◌≡◌, length}
 use Rattle.std.specs.List.{sum_by}
-use Rattle.solver_top.specs.Program.{start_of}
+use Rattle.decompose.specs.Program.{start_of}
 use Rattle.solver_top.proofs.SearchLaws.{StackRule}
 use Rattle.solver_top.proofs.NodeLaws.{weight}
 use Rattle.solver_top.proofs.solving.search.search.Given as goal

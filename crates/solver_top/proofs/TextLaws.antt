@@ -1,0 +1,68 @@
+-- A text has at most one model or one fault, and never both.
+use Rattle.std.proofs.Common.{◌≡◌, ℕ, List, inl, inr, sym, subst, ◌∙◌, arith}
+use Rattle.fzn_lexer.specs.declared.Token.{Token}
+use Rattle.fzn_lexer.specs.Lexing.{LexesAs, FaultsAt as IsNoToken}
+use Rattle.fzn_parser.specs.Parsing.{ItemTree, ReadsAs, FaultsAt as IsNoItem}
+use Rattle.fzn_model.specs.declared.model.FznModel.{FznModel}
+use Rattle.fzn_model.specs.Resolving.{IsModelOf, HasFault}
+use Rattle.solver_top.specs.Texts.{HasItems, IsTextOf, LacksItem, IsFaultOf}
+
+-- what each step says by itself
+pub record StepsAreOne : Type 0 where
+  pub lexing : (text : List ℕ) (ts us : List Token) → LexesAs text ts → LexesAs text us → ts ≡ us
+  pub lex_fault : (text : List ℕ) (at place : ℕ) → IsNoToken text at → IsNoToken text place → at ≡ place
+  pub lex_never : (text : List ℕ) (ts : List Token) (at : ℕ) → LexesAs text ts → IsNoToken text at → ⊥
+  pub parsing : (text : List ℕ) (items others : List ItemTree) (tokens : List Token) → ReadsAs text tokens items → ReadsAs text tokens others → items ≡ others
+  pub parse_fault : (text : List ℕ) (tokens : List Token) (at place : ℕ) → IsNoItem text tokens at → IsNoItem text tokens place → at ≡ place
+  pub parse_never : (text : List ℕ) (tokens : List Token) (items : List ItemTree) (at : ℕ) → ReadsAs text tokens items → IsNoItem text tokens at → ⊥
+  pub model : (text : List ℕ) (items : List ItemTree) (m n : FznModel) → IsModelOf text items m → IsModelOf text items n → m ≡ n
+  pub fault : (text : List ℕ) (items : List ItemTree) (k l at place : ℕ) → HasFault text items k at → HasFault text items l place → (k ≡ l) × (at ≡ place)
+  pub never : (text : List ℕ) (items : List ItemTree) (m : FznModel) (k at : ℕ) → IsModelOf text items m → HasFault text items k at → ⊥
+
+module _ (s : StepsAreOne) (text : List ℕ) where
+  -- one list of items
+  one_items : (items others : List ItemTree) → HasItems text items → HasItems text others → items ≡ others
+  one_items items others h g =
+      let same = s.lexing text g.tokens h.tokens g.lexed h.lexed in
+      s.parsing text items others h.tokens h.parsed (subst (λ ts. ReadsAs text ts others) same g.parsed)
+
+  no_token : (items : List ItemTree) (at : ℕ) → HasItems text items → IsNoToken text at → ⊥
+  no_token items at h f = s.lex_never text h.tokens at h.lexed f
+
+  no_item : (items : List ItemTree) (kind at : ℕ) → HasItems text items → LacksItem text kind at → ⊥
+  no_item items kind at h f =
+      let same = s.lexing text h.tokens f.tokens h.lexed f.lexed in
+      s.parse_never text f.tokens items at (subst (λ ts. ReadsAs text ts items) same h.parsed) f.fault
+
+  pub one_model : (m n : FznModel) → IsTextOf text m → IsTextOf text n → m ≡ n
+  one_model m n h g =
+      let same = one_items g.items h.items g.read h.read in
+      s.model text h.items m n h.resolved (subst (λ is. IsModelOf text is n) same g.resolved)
+
+  pub never_both : (m : FznModel) (k at : ℕ) → IsTextOf text m → IsFaultOf text k at → ⊥
+  never_both m k at h (inl f) = let a = h.short in let b = f.long in absurd (omega arith)
+  never_both m k at h (inr (inl f)) = no_token h.items at h.read f.fault
+  never_both m k at h (inr (inr (inl f))) = no_item h.items k at h.read f
+  never_both m k at h (inr (inr (inr f))) =
+      s.never text h.items m k at h.resolved (subst (λ is. HasFault text is k at) (one_items f.items h.items f.read h.read) f.fault)
+
+  pub one_fault : (k l at place : ℕ) → IsFaultOf text k at → IsFaultOf text l place → (k ≡ l) × (at ≡ place)
+  one_fault k l at place (inl f) (inl g) = (f.is_kind ∙ sym g.is_kind, f.first ∙ sym g.first)
+  one_fault k l at place (inl f) (inr (inl g)) = let a = g.short in let b = f.long in absurd (omega arith)
+  one_fault k l at place (inl f) (inr (inr (inl g))) = let a = g.short in let b = f.long in absurd (omega arith)
+  one_fault k l at place (inl f) (inr (inr (inr g))) = let a = g.short in let b = f.long in absurd (omega arith)
+  one_fault k l at place (inr (inl f)) (inl g) = let a = f.short in let b = g.long in absurd (omega arith)
+  one_fault k l at place (inr (inl f)) (inr (inl g)) = (f.is_kind ∙ sym g.is_kind, s.lex_fault text at place f.fault g.fault)
+  one_fault k l at place (inr (inl f)) (inr (inr (inl g))) = absurd (s.lex_never text g.tokens at g.lexed f.fault)
+  one_fault k l at place (inr (inl f)) (inr (inr (inr g))) = absurd (no_token g.items at g.read f.fault)
+  one_fault k l at place (inr (inr (inl f))) (inl g) = let a = f.short in let b = g.long in absurd (omega arith)
+  one_fault k l at place (inr (inr (inl f))) (inr (inl g)) = absurd (s.lex_never text f.tokens place f.lexed g.fault)
+  one_fault k l at place (inr (inr (inl f))) (inr (inr (inl g))) =
+      let same = s.lexing text g.tokens f.tokens g.lexed f.lexed in
+      (f.is_kind ∙ sym g.is_kind, s.parse_fault text f.tokens at place f.fault (subst (λ ts. IsNoItem text ts place) same g.fault))
+  one_fault k l at place (inr (inr (inl f))) (inr (inr (inr g))) = absurd (no_item g.items k at g.read f)
+  one_fault k l at place (inr (inr (inr f))) (inl g) = let a = f.short in let b = g.long in absurd (omega arith)
+  one_fault k l at place (inr (inr (inr f))) (inr (inl g)) = absurd (no_token f.items place f.read g.fault)
+  one_fault k l at place (inr (inr (inr f))) (inr (inr (inl g))) = absurd (no_item f.items l place f.read g)
+  one_fault k l at place (inr (inr (inr f))) (inr (inr (inr g))) =
+      s.fault text f.items k l at place f.fault (subst (λ is. HasFault text is l place) (one_items g.items f.items g.read f.read) g.fault)

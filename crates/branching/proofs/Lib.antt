@@ -1,0 +1,5 @@
+pub mod PickLaws
+pub mod PartLaws
+pub mod Examples
+pub mod TreeLaws
+pub mod ListLaws

@@ -1,0 +1,4 @@
+pub mod Selection
+pub mod Picks
+pub mod Parts
+pub mod Tree

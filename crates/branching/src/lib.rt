@@ -1,0 +1,12 @@
+//! How a box is parted: the variable that the search takes, and the two boxes that come of it.
+#![tactic(auto)]
+
+mod branch;
+mod laws;
+mod select;
+#[cfg(test)]
+mod tests;
+
+pub use branch::choose;
+pub use laws::{law_branches, law_each_once, law_every_list, law_one_list};
+pub use select::are_fixed;

@@ -1,0 +1,4 @@
+pub mod Machine
+pub mod Nodes
+pub mod Ends
+pub mod Closings

@@ -1,0 +1,221 @@
+//! Models of two variables, searched by hand.
+
+ghost use Rattle.std.specs.Prelude.{◌≡◌, ◌<◌, length, All, IfOk};
+ghost use Rattle.guarded_tell.specs.Kernels.{IsKernel};
+ghost use Rattle.fzn_model.specs.Searches.{last_phase};
+ghost use Rattle.branching.specs.Selection.{IsSearchOf};
+
+use crate::runs::{all_in, first_in};
+use crate::{AllEnd, FirstEnd};
+use fzn_model::{FznModel, Goal, Phase, ValSel, VarDecl, VarSel};
+use guarded_tell::{Kernel, Lit};
+use interval::{BoxOf, NoMemory, clamp_bound};
+use list_of::ListOf;
+use std::alloc::{AllocError, Global};
+use std::test::Fail;
+
+/// A variable; its declaration says nothing here.
+fn declared(alloc: Global) -> VarDecl {
+    VarDecl {
+        name: ListOf::new(alloc),
+        is_bool: false,
+        low: 0,
+        high: 0,
+    }
+}
+
+/// Two variables.
+fn two_declared(alloc: Global) -> Result<ListOf<VarDecl>, AllocError>
+    ensures { IfOk result (λ vars. length vars ≡ 2) }
+{
+    let mut vars = ListOf::new(alloc);
+    vars.push(declared(alloc))?;
+    vars.push(declared(alloc))?;
+    Ok(vars)
+}
+
+/// The phase of both variables.
+fn both_of_them(alloc: Global) -> Result<Phase, AllocError>
+    ensures { IfOk result (λ phase. phase ≡ last_phase 2) }
+{
+    let mut vars = ListOf::new(alloc);
+    vars.push(0)?;
+    vars.push(1)?;
+    Ok(Phase {
+        vars,
+        var_sel: VarSel::InputOrder,
+        val_sel: ValSel::Min,
+    })
+}
+
+/// Two variables x and y that are searched in this order, the least value first.
+fn two_variables(alloc: Global) -> Result<FznModel, AllocError>
+    ensures vars { IfOk result (λ model. length model.vars ≡ 2) }
+    ensures phases { IfOk result (λ model. IsSearchOf model) }
+{
+    let declarations = two_declared(alloc)?;
+    let mut phases = ListOf::new(alloc);
+    phases.push(both_of_them(alloc)?)?;
+    Ok(FznModel {
+        vars: declarations,
+        constraints: ListOf::new(alloc),
+        search: phases,
+        goal: Goal::Satisfy,
+        output: ListOf::new(alloc),
+    })
+}
+
+/// Variable 0, which is true in each box here.
+const TRUE: Lit = Lit {
+    var: 0,
+    positive: true,
+};
+
+/// The kernel of x < y, for two variables of a box.
+fn below(alloc: Global, x: u32, y: u32) -> Result<Kernel, AllocError>
+    requires x_in_box { x < 3 }
+    requires y_in_box { y < 3 }
+    ensures { IfOk result (IsKernel 3) }
+{
+    Ok(Kernel::Le {
+        lit: TRUE,
+        coeffs: ListOf::from_vec(vec![in alloc; 1, -1]?),
+        vars: ListOf::from_vec(vec![in alloc; x, y]?),
+        limit: -1,
+    })
+}
+
+/// A box of the constant 1 and these bounds.
+fn box_of(alloc: Global, bounds: [(i64, i64); 2]) -> Result<BoxOf, NoMemory>
+    ensures { IfOk result (λ b. length b ≡ 3) }
+{
+    let mut b = BoxOf::from_pairs(alloc, &[(1, 1), (0, 0), (0, 0)])?;
+    put(&mut b, 1, bounds[0]);
+    put(&mut b, 2, bounds[1]);
+    Ok(b)
+}
+
+/// Sets the bounds of a pair.
+fn put(b: &mut BoxOf, pair: u32, bounds: (i64, i64))
+    requires { pair < length b.old }
+    ensures { length b.new ≡ length b.old }
+{
+    b.put(
+        pair,
+        clamp_bound(bounds.0 as i128),
+        clamp_bound(bounds.1 as i128),
+    );
+}
+
+/// Searches for the first solution.
+fn first(
+    alloc: Global,
+    bounds: [(i64, i64); 2],
+    kernels: &[Kernel],
+    limit: u64,
+) -> Result<FirstEnd, NoMemory>
+    requires { All (IsKernel 3) kernels.now }
+{
+    let model = two_variables(alloc)?;
+    let b = box_of(alloc, bounds)?;
+    first_in(alloc, &model, kernels, limit, &b)
+}
+
+/// Searches for all solutions.
+fn all(
+    alloc: Global,
+    bounds: [(i64, i64); 2],
+    kernels: &[Kernel],
+    limit: u64,
+) -> Result<AllEnd, NoMemory>
+    requires { All (IsKernel 3) kernels.now }
+{
+    let model = two_variables(alloc)?;
+    let b = box_of(alloc, bounds)?;
+    all_in(alloc, &model, kernels, limit, &b)
+}
+
+/// Whether a search ended with this solution, or with none.
+fn is_first(end: &FirstEnd, expected: Option<[i64; 2]>) -> bool {
+    match (end, expected) {
+        (FirstEnd::Done(Some(values)), Some(numbers)) => values.as_slice() == numbers.as_slice(),
+        (FirstEnd::Done(None), None) => true,
+        _ => false,
+    }
+}
+
+/// Whether the limit stopped a search after so many nodes.
+fn is_stopped(end: &FirstEnd, expected: u64) -> bool {
+    match end {
+        FirstEnd::Spent { nodes } => *nodes == expected,
+        FirstEnd::Done(_) => false,
+    }
+}
+
+/// Whether these are the solutions.
+fn are(solutions: &ListOf<ListOf<i64>>, expected: &[[i64; 2]]) -> bool {
+    let lists = solutions.as_slice();
+    if lists.len() != expected.len() {
+        return false;
+    }
+    for place in 0..lists.len() {
+        if lists[place].as_slice() != expected[place].as_slice() {
+            return false;
+        }
+    }
+    true
+}
+
+/// Whether a search ended with these solutions.
+fn is_all(end: &AllEnd, expected: &[[i64; 2]]) -> bool {
+    match end {
+        AllEnd::Done(solutions) => are(solutions, expected),
+        AllEnd::Spent { .. } => false,
+    }
+}
+
+/// Whether the limit stopped a search after so many nodes, with these solutions.
+fn is_stopped_with(end: &AllEnd, expected: u64, found: &[[i64; 2]]) -> bool {
+    match end {
+        AllEnd::Spent { nodes, solutions } => *nodes == expected && are(solutions, found),
+        AllEnd::Done(_) => false,
+    }
+}
+
+#[test]
+fn two_values_take_three_nodes(rt: HostRuntime) -> Result<(), Fail> {
+    let bounds = [(1, 2), (0, 0)];
+    let alloc = rt.alloc();
+    assert!(rt; is_all(&all(alloc, bounds, &[], 0)?, &[[1, 0], [2, 0]]));
+    assert!(rt; is_stopped_with(&all(alloc, bounds, &[], 1)?, 1, &[]));
+    assert!(rt; is_stopped_with(&all(alloc, bounds, &[], 2)?, 2, &[[1, 0]]));
+    assert!(rt; is_all(&all(alloc, bounds, &[], 3)?, &[[1, 0], [2, 0]]));
+    assert!(rt; is_first(&first(alloc, bounds, &[], 0)?, Some([1, 0])));
+    assert!(rt; is_stopped(&first(alloc, bounds, &[], 1)?, 1));
+    assert!(rt; is_first(&first(alloc, bounds, &[], 2)?, Some([1, 0])));
+    Ok(())
+}
+
+#[test]
+fn an_order_leaves_three_solutions(rt: HostRuntime) -> Result<(), Fail> {
+    let alloc = rt.alloc();
+    let kernels = [below(alloc, 1, 2)?];
+    let bounds = [(0, 2), (0, 2)];
+    assert!(rt; is_all(&all(alloc, bounds, &kernels, 0)?, &[[0, 1], [0, 2], [1, 2]]));
+    assert!(rt; is_all(&all(alloc, bounds, &kernels, 5)?, &[[0, 1], [0, 2], [1, 2]]));
+    assert!(rt; is_stopped_with(&all(alloc, bounds, &kernels, 4)?, 4, &[[0, 1], [0, 2]]));
+    assert!(rt; is_first(&first(alloc, bounds, &kernels, 3)?, Some([0, 1])));
+    assert!(rt; is_stopped(&first(alloc, bounds, &kernels, 2)?, 2));
+    Ok(())
+}
+
+#[test]
+fn nothing_is_found_in_one_node(rt: HostRuntime) -> Result<(), Fail> {
+    let alloc = rt.alloc();
+    let kernels = [below(alloc, 1, 2)?, below(alloc, 2, 1)?];
+    assert!(rt; is_all(&all(alloc, [(0, 3), (0, 3)], &kernels, 1)?, &[]));
+    assert!(rt; is_first(&first(alloc, [(0, 3), (0, 3)], &kernels, 1)?, None));
+    assert!(rt; is_all(&all(alloc, [(2, 1), (0, 3)], &[], 1)?, &[]));
+    assert!(rt; is_first(&first(alloc, [(2, 1), (0, 3)], &[], 0)?, None));
+    Ok(())
+}

@@ -1,0 +1,4 @@
+pub mod ListLaws
+pub mod Moves
+pub mod Steps
+pub mod Showing

@@ -18,8 +18,11 @@ pub struct FileSource<'a, R: Files> {
 }
 
 impl<'a, R: Files> FileSource<'a, R> {
-    /// A source of the files that `files` opens.
-    pub fn new(files: &'a R) -> FileSource<'a, R> {
+    /// A source of the files that `files` opens. No file is open yet.
+    pub fn new(files: &'a R) -> FileSource<'a, R>
+        ensures faults { ⟦<FileSource<'a, R> as Source>⟧.faults result ≡ 0 }
+        ensures closed { ⟦<FileSource<'a, R> as Source>⟧.is_open result ≡ false }
+    {
         FileSource {
             files,
             file: None,
@@ -74,7 +77,9 @@ pub struct StdSink<W> {
 
 impl<W: Write> StdSink<W> {
     /// A sink that writes to `stream`.
-    pub fn new(stream: W) -> StdSink<W> {
+    pub fn new(stream: W) -> StdSink<W>
+        ensures { ⟦<StdSink<W> as Sink>⟧.faults result ≡ 0 }
+    {
         StdSink {
             stream,
             faults: Faults::new(),

@@ -9,17 +9,17 @@ use Rattle.guarded_tell.specs.declared.tell.Lit.{Lit}
 use Rattle.guarded_tell.specs.declared.kernel.Kernel.TheVariants.{Le}
 use Rattle.guarded_tell.specs.Linear.{IsLinear, term_limit}
 use Rattle.guarded_tell.specs.Kernels.{vars_of, HasNumbers, IsKernel}
-use Rattle.fzn_model.specs.declared.model.Term.{Term}
-use Rattle.fzn_model.specs.declared.model.VarDecl.{VarDecl}
-use Rattle.fzn_model.specs.declared.model.Phase.{Phase}
-use Rattle.fzn_model.specs.declared.scope.Scalar.{Scalar}
-use Rattle.fzn_model.specs.declared.scope.Meaning.{Meaning}
-use Rattle.fzn_model.specs.Numbers.{IsInProfile, largest}
-use Rattle.fzn_model.specs.Fits.{row_for, constants_in, kernels_of as kernel_count}
-use Rattle.fzn_model.specs.WellFormed.{IsDeclaration, IsScalarOf, IsMeaningOf, IsConstraintOf, IsWellFormed}
-use Rattle.fzn_model.specs.declared.model.FznModel.{FznModel}
-use Rattle.fzn_model.specs.Searches.{last_phase}
-use Rattle.branching.specs.Selection.{IsSearchOf}
+use Rattle.constraint_model.specs.declared.model.Term.{Term}
+use Rattle.constraint_model.specs.declared.model.VarDecl.{VarDecl}
+use Rattle.constraint_model.specs.declared.model.Phase.{Phase}
+use Rattle.constraint_model.specs.declared.meanings.Scalar.{Scalar}
+use Rattle.constraint_model.specs.declared.meanings.Meaning.{Meaning}
+use Rattle.constraint_model.specs.Numbers.{IsInProfile, largest}
+use Rattle.constraint_model.specs.Fits.{row_for, constants_in, kernels_of as kernel_count}
+use Rattle.constraint_model.specs.WellFormed.{IsDeclaration, IsScalarOf, IsMeaningOf, IsConstraintOf, IsWellFormed}
+use Rattle.constraint_model.specs.declared.model.FznModel.{FznModel}
+use Rattle.constraint_model.specs.Searches.{last_phase}
+use Rattle.constraint_model.specs.Searches.{IsSearchOf}
 use Rattle.search.specs.Examples.{small_variable, small_order, small_model}
 
 two : {A : Type 0} (P : A → Type 0) (y z : A) → P y → P z → All P (y ∷ z ∷ [])

@@ -1,13 +1,13 @@
 -- A small model that is searched by hand.
 use Rattle.std.specs.Prelude.{pos, false, List, [], ◌∷◌}
-use Rattle.fzn_model.specs.declared.model.Term.{Term}
-use Rattle.fzn_model.specs.declared.model.Operand.{Operand}
-use Rattle.fzn_model.specs.declared.model.VarDecl.{VarDecl}
-use Rattle.fzn_model.specs.declared.model.Constraint.{Constraint}
-use Rattle.fzn_model.specs.declared.model.Goal.{Goal}
-use Rattle.fzn_model.specs.declared.model.FznModel.{FznModel}
-use Rattle.fzn_model.specs.declared.table.ConstraintName.{ConstraintName}
-use Rattle.fzn_model.specs.Searches.{last_phase}
+use Rattle.constraint_model.specs.declared.model.Term.{Term}
+use Rattle.constraint_model.specs.declared.model.Operand.{Operand}
+use Rattle.constraint_model.specs.declared.model.VarDecl.{VarDecl}
+use Rattle.constraint_model.specs.declared.model.Constraint.{Constraint}
+use Rattle.constraint_model.specs.declared.model.Goal.{Goal}
+use Rattle.constraint_model.specs.declared.model.FznModel.{FznModel}
+use Rattle.constraint_model.specs.declared.table.ConstraintName.{ConstraintName}
+use Rattle.constraint_model.specs.Searches.{last_phase}
 
 -- each of x and y is 0..2
 abbrev pub small_variable : VarDecl

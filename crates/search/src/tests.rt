@@ -3,12 +3,12 @@
 ghost use Rattle.std.specs.Prelude.{◌≡◌, ◌<◌, length, All, IfOk};
 ghost use Rattle.search.specs.Examples.{small_variable, small_order, small_model};
 ghost use Rattle.guarded_tell.specs.Kernels.{IsKernel};
-ghost use Rattle.fzn_model.specs.Searches.{last_phase};
+ghost use Rattle.constraint_model.specs.Searches.{last_phase};
 
 use crate::runs::{all_in, first_in};
 use crate::{AllEnd, FirstEnd, Run, run_all, run_first};
 use decompose::compile;
-use fzn_model::{
+use constraint_model::{
     Constraint, ConstraintName, FznModel, Goal, Operand, Phase, Term, ValSel, VarDecl, VarSel,
 };
 use guarded_tell::{Kernel, Lit};

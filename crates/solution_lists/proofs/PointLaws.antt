@@ -9,13 +9,13 @@ use Rattle.guarded_tell.specs.declared.kernel.Kernel.{Kernel}
 use Rattle.guarded_tell.specs.Words.{value_of, point_of}
 use Rattle.guarded_tell.specs.Kernels.{Holds, IsKernel, IsClosedUnder}
 use Rattle.fixpoint_laws.specs.Fixpoints.{IsClosed}
-use Rattle.fzn_model.specs.declared.model.VarDecl.{VarDecl}
-use Rattle.fzn_model.specs.declared.model.FznModel.{FznModel}
-use Rattle.fzn_model.specs.Relations.{IsWithin, IsSolution}
-use Rattle.fzn_model.specs.WellFormed.{constants_of}
+use Rattle.constraint_model.specs.declared.model.VarDecl.{VarDecl}
+use Rattle.constraint_model.specs.declared.model.FznModel.{FznModel}
+use Rattle.constraint_model.specs.Relations.{IsWithin, IsSolution}
+use Rattle.constraint_model.specs.WellFormed.{constants_of}
 use Rattle.decompose.specs.declared.program.Program.{Program}
 use Rattle.decompose.specs.Program.{fixed_box, extended, Extends, IsProgramOf}
-use Rattle.branching.specs.Selection.{IsSearchOf}
+use Rattle.constraint_model.specs.Searches.{IsSearchOf}
 use Rattle.branching.specs.Tree.{values_of, SolutionsIn, IsSolutionIn, ListsSolutions, EachOnce}
 use Rattle.solution_lists.specs.Solutions.{LiesIn, SolvesInside, ListsSolutionsInside, PointSolves, SolutionsAreListed}
 use Rattle.solution_lists.proofs.StartLaws.{low_fixed, high_fixed, long_inside, constants_inside}

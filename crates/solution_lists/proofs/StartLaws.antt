@@ -5,9 +5,9 @@ use Rattle.std.proofs.lemmas.Bool.{cases_lt}
 use Rattle.std.proofs.lemmas.List.{length-map, get_or-append_right}
 use Rattle.interval.specs.Boxes.{Bounds, low_of, high_of, IsInside, IsPoint, IsProper}
 use Rattle.guarded_tell.specs.Words.{value_of, point_of}
-use Rattle.fzn_model.specs.declared.model.VarDecl.{VarDecl}
-use Rattle.fzn_model.specs.declared.model.FznModel.{FznModel}
-use Rattle.fzn_model.specs.WellFormed.{constants_of}
+use Rattle.constraint_model.specs.declared.model.VarDecl.{VarDecl}
+use Rattle.constraint_model.specs.declared.model.FznModel.{FznModel}
+use Rattle.constraint_model.specs.WellFormed.{constants_of}
 use Rattle.decompose.specs.declared.program.Program.{Program}
 use Rattle.decompose.specs.Program.{fixed_box, start_of, IsProgramOf}
 use Rattle.branching.specs.Tree.{AreFixed, AreConstantsFixed}

@@ -1,11 +1,11 @@
 -- What the solutions in a box are to a model, where the box is inside the start of the model's program.
 use Rattle.std.specs.Prelude.{◌↔◌, ℤ, List, Contains}
 use Rattle.interval.specs.Boxes.{Bounds, IsInRange, IsInside, IsPoint, IsProper}
-use Rattle.fzn_model.specs.declared.model.FznModel.{FznModel}
-use Rattle.fzn_model.specs.Relations.{IsSolution}
+use Rattle.constraint_model.specs.declared.model.FznModel.{FznModel}
+use Rattle.constraint_model.specs.Relations.{IsSolution}
 use Rattle.decompose.specs.Program.{fixed_box, extended, IsProgramOf}
 use Rattle.decompose.specs.declared.program.Program.{Program}
-use Rattle.branching.specs.Selection.{IsSearchOf}
+use Rattle.constraint_model.specs.Searches.{IsSearchOf}
 use Rattle.branching.specs.Tree.{AreFixed, SolutionsIn, IsSolutionIn, AreDistinct}
 
 -- the assignment's numbers, with those of the constants, lie in the box

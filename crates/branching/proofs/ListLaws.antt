@@ -11,8 +11,8 @@ use Rattle.guarded_tell.specs.declared.kernel.Kernel.{Kernel}
 use Rattle.guarded_tell.specs.Words.{value_of, point_of}
 use Rattle.fixpoint_laws.specs.Changes.{TightensOne}
 use Rattle.fixpoint_laws.specs.Fixpoints.{IsClosed, IsGreatest}
-use Rattle.fzn_model.specs.declared.model.FznModel.{FznModel}
-use Rattle.branching.specs.Selection.{IsSearchOf}
+use Rattle.constraint_model.specs.declared.model.FznModel.{FznModel}
+use Rattle.constraint_model.specs.Searches.{IsSearchOf}
 use Rattle.branching.specs.Parts.{AreParts}
 use Rattle.branching.specs.Tree.{AreFixed, values_of, SolutionsIn, failed, fixed, parted, AreConstantsFixed, IsSolutionIn, AreDistinct, ListsSolutions, EachOnce}
 use Rattle.branching.proofs.TreeLaws.{parts_fit}

@@ -2,13 +2,13 @@
 use Rattle.std.proofs.Common.{◌≡◌, ℤ, pos, negsuc, ◌≤◌, unsigned_abs, true, false, [], ◌∷◌, refl, sym, subst, lit≤, lit<, arith}
 use Rattle.std.specs.List.{All}
 use Rattle.std.proofs.lemmas.List.Elements.{All-nil, All-cons}
-use Rattle.fzn_model.specs.declared.model.Term.{Term}
-use Rattle.fzn_model.specs.declared.model.FznModel.{FznModel}
-use Rattle.fzn_model.specs.declared.scope.Scalar.{Scalar}
-use Rattle.fzn_model.specs.declared.scope.Meaning.{Meaning}
-use Rattle.fzn_model.specs.Numbers.{IsInProfile, largest}
-use Rattle.fzn_model.specs.Fits.{row_for, constants_in, kernels_of as kernel_count}
-use Rattle.fzn_model.specs.WellFormed.{IsDeclaration, IsScalarOf, IsMeaningOf, IsConstraintOf, IsWellFormed}
+use Rattle.constraint_model.specs.declared.model.Term.{Term}
+use Rattle.constraint_model.specs.declared.model.FznModel.{FznModel}
+use Rattle.constraint_model.specs.declared.meanings.Scalar.{Scalar}
+use Rattle.constraint_model.specs.declared.meanings.Meaning.{Meaning}
+use Rattle.constraint_model.specs.Numbers.{IsInProfile, largest}
+use Rattle.constraint_model.specs.Fits.{row_for, constants_in, kernels_of as kernel_count}
+use Rattle.constraint_model.specs.WellFormed.{IsDeclaration, IsScalarOf, IsMeaningOf, IsConstraintOf, IsWellFormed}
 use Rattle.guarded_tell.specs.declared.kernel.Kernel.TheVariants.{Le}
 use Rattle.decompose.specs.Kernels.{row_of, kernels_of}
 use Rattle.decompose.specs.Examples.{small_x, small_b, small_variables, small_model, small_reified, small_less, small_sum}

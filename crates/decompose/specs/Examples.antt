@@ -1,12 +1,12 @@
 -- A small model that is worked out by hand.
 use Rattle.std.specs.Prelude.{pos, negsuc, true, false, List, [], ◌∷◌}
-use Rattle.fzn_model.specs.declared.model.Term.{Term}
-use Rattle.fzn_model.specs.declared.model.Operand.{Operand}
-use Rattle.fzn_model.specs.declared.model.VarDecl.{VarDecl}
-use Rattle.fzn_model.specs.declared.model.Constraint.{Constraint}
-use Rattle.fzn_model.specs.declared.model.Goal.{Goal}
-use Rattle.fzn_model.specs.declared.model.FznModel.{FznModel}
-use Rattle.fzn_model.specs.declared.table.ConstraintName.{ConstraintName}
+use Rattle.constraint_model.specs.declared.model.Term.{Term}
+use Rattle.constraint_model.specs.declared.model.Operand.{Operand}
+use Rattle.constraint_model.specs.declared.model.VarDecl.{VarDecl}
+use Rattle.constraint_model.specs.declared.model.Constraint.{Constraint}
+use Rattle.constraint_model.specs.declared.model.Goal.{Goal}
+use Rattle.constraint_model.specs.declared.model.FznModel.{FznModel}
+use Rattle.constraint_model.specs.declared.table.ConstraintName.{ConstraintName}
 
 -- x is -3..5, b is a boolean
 abbrev pub small_x : Term

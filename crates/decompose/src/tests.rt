@@ -4,7 +4,7 @@ ghost use Rattle.std.specs.Prelude.{◌≡◌, IfOk};
 ghost use Rattle.decompose.specs.Examples.{small_variables, small_constraints, small_model};
 
 use crate::{Program, compile};
-use fzn_model::{Constraint, ConstraintName, FznModel, Goal, Operand, Term, VarDecl};
+use constraint_model::{Constraint, ConstraintName, FznModel, Goal, Operand, Term, VarDecl};
 use guarded_tell::{Kernel, Lit};
 use list_of::ListOf;
 use std::alloc::{AllocError, Global};

@@ -6,10 +6,10 @@ use Rattle.fzn_parser.specs.Notes.{AnnTree}
 use Rattle.fzn_parser.specs.Items.{WhatTree, predicate_item, scalar_item, array_item, constraint_item, solve_item}
 use Rattle.fzn_parser.specs.Texts.{spelling}
 use Rattle.fzn_model.specs.declared.stop.Stop.{Stop}
-use Rattle.fzn_model.specs.declared.scope.Meaning.{Meaning}
-use Rattle.fzn_model.specs.declared.table.ConstraintName.{ConstraintName}
+use Rattle.constraint_model.specs.declared.meanings.Meaning.{Meaning}
+use Rattle.constraint_model.specs.declared.table.ConstraintName.{ConstraintName}
 use Rattle.fzn_model.specs.Scopes.{Scope, meaning_of, expr_meaning}
-use Rattle.fzn_model.specs.Fits.{named, constraint_on}
+use Rattle.constraint_model.specs.Fits.{named, constraint_on}
 use Rattle.fzn_model.specs.Effects.{effect_of, no_effect, scalar_effect, variable_effect, parameter_effect, constraint_alone, meanings_of, value_of, declares_variable}
 use Rattle.fzn_model.specs.Faults.{first_kind, Refuses, declares_again}
 use Rattle.fzn_model.specs.Drafts.{IsNew}

@@ -1,15 +1,9 @@
 pub mod AddedLaws
-pub mod ConstantLaws
 pub mod EffectLaws
 pub mod FaultLaws
-pub mod Finds
-pub mod FitLaws
 pub mod MeaningLaws
-pub mod NameLaws
 pub mod NoteLaws
 pub mod NumberLaws
-pub mod RangeLaws
-pub mod RowLaws
 pub mod ScopeLaws
 pub mod Standing
 pub mod Turns

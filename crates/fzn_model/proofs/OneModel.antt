@@ -4,7 +4,7 @@ use Rattle.std.proofs.lemmas.List.{take-take, get_or-take, length-take-le}
 use Rattle.std.proofs.lemmas.Bool.{cases_order}
 use Rattle.fzn_parser.specs.Items.{predicate_item}
 use Rattle.fzn_parser.specs.Parsing.{ItemTree}
-use Rattle.fzn_model.specs.declared.model.FznModel.{FznModel}
+use Rattle.constraint_model.specs.declared.model.FznModel.{FznModel}
 use Rattle.fzn_model.specs.Effects.{reading_of}
 use Rattle.fzn_model.specs.Faults.{fault_of}
 use Rattle.fzn_model.specs.Resolving.{AreLawful, IsModelOf, IsFirstFault, HasFault, model_with}

@@ -5,10 +5,11 @@ use Rattle.std.proofs.lemmas.List.Sums.{fold-append}
 use Rattle.fzn_parser.specs.declared.tree.Item.{Item}
 use Rattle.fzn_parser.specs.Parsing.{ItemTree, item_tree}
 use Rattle.fzn_model.specs.declared.stop.Stop.{Stop}
-use Rattle.fzn_model.specs.declared.model.FznModel.{FznModel}
+use Rattle.constraint_model.specs.declared.model.FznModel.{FznModel}
 use Rattle.fzn_model.specs.declared.resolving.ModelError.{ModelError}
 use Rattle.fzn_model.specs.Effects.{Reading, nothing, with_item, reading_of}
-use Rattle.fzn_model.specs.Faults.{fault_of, Refuses, no_solve, is_too_large, most_vars, most_kernels, most_constants}
+use Rattle.fzn_model.specs.Faults.{fault_of, Refuses, no_solve, is_too_large}
+use Rattle.constraint_model.specs.Limits.{most_vars, most_kernels, most_constants}
 use Rattle.fzn_model.specs.Resolving.{AreLawful, IsModelOf, IsModelWith, IsCause, stopped_at}
 
 -- the first i items have no fault and leave this reading, which passes no limit

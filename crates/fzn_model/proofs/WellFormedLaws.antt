@@ -11,19 +11,20 @@ use Rattle.std.proofs.lemmas.List.Sums.{fold-append, sum_by-append}
 use Rattle.std.proofs.lemmas.List.Elements.{All-from_recursion}
 use Rattle.fzn_parser.specs.Items.{predicate_item}
 use Rattle.fzn_parser.specs.Parsing.{ItemTree}
-use Rattle.fzn_model.specs.declared.model.VarDecl.{VarDecl}
-use Rattle.fzn_model.specs.declared.model.Constraint.{Constraint}
-use Rattle.fzn_model.specs.declared.model.Goal.{Goal}
-use Rattle.fzn_model.specs.declared.model.Phase.{Phase}
-use Rattle.fzn_model.specs.declared.model.FznModel.{FznModel}
-use Rattle.fzn_model.specs.declared.scope.Meaning.{Meaning}
+use Rattle.constraint_model.specs.declared.model.VarDecl.{VarDecl}
+use Rattle.constraint_model.specs.declared.model.Constraint.{Constraint}
+use Rattle.constraint_model.specs.declared.model.Goal.{Goal}
+use Rattle.constraint_model.specs.declared.model.Phase.{Phase}
+use Rattle.constraint_model.specs.declared.model.FznModel.{FznModel}
+use Rattle.constraint_model.specs.declared.meanings.Meaning.{Meaning}
 use Rattle.fzn_model.specs.declared.effect.Effect.{Effect}
-use Rattle.fzn_model.specs.Fits.{constants_in, add_once, kernels_of}
-use Rattle.fzn_model.specs.Effects.{Reading, nothing, joined, effect_of, with_item, reading_of, solved_constants, goal_constants}
-use Rattle.fzn_model.specs.Faults.{fault_of, has_long_list, is_too_large, most_vars, most_kernels, most_constants}
+use Rattle.constraint_model.specs.Fits.{constants_in, goal_constants, add_once, kernels_of}
+use Rattle.fzn_model.specs.Effects.{Reading, nothing, joined, effect_of, with_item, reading_of, solved_constants}
+use Rattle.fzn_model.specs.Faults.{fault_of, has_long_list, is_too_large}
+use Rattle.constraint_model.specs.Limits.{most_vars, most_kernels, most_constants}
 use Rattle.fzn_model.specs.Resolving.{AreLawful, IsModelOf, model_with}
-use Rattle.fzn_model.specs.WellFormed.{IsDeclaration, IsMeaningOf, IsConstraintOf, IsGoalOf, IsWellFormed}
-use Rattle.fzn_model.proofs.MeaningLaws.{each_append, each_weaker, each_option, meaning_stays, constraint_stays, AreNames}
+use Rattle.constraint_model.specs.WellFormed.{IsDeclaration, IsMeaningOf, IsConstraintOf, IsGoalOf, IsWellFormed}
+use Rattle.fzn_model.proofs.MeaningLaws.{SetLaws, each_append, each_weaker, each_option, meaning_stays, constraint_stays, AreNames}
 use Rattle.fzn_model.proofs.EffectLaws.{Adds, passes, adds}
 use Rattle.fzn_model.proofs.Standing.{few_vars, few_kernels}
 
@@ -75,28 +76,28 @@ keeps_more r more h e f a =
       fits = f;
     }
 
-keeps_item : (text : List ℕ) (r : Reading) (item : ItemTree) → Keeps r → fault_of text r item.what ≡ None → Keeps (with_item text r item)
-keeps_item text r item h e =
+keeps_item : (laws : SetLaws) (text : List ℕ) (r : Reading) (item : ItemTree) → Keeps r → fault_of text r item.what ≡ None → Keeps (with_item text r item)
+keeps_item laws text r item h e =
     let more : Effect = effect_of text r.scope (length r.vars) item.what in
     let p = passes text r item.what e in
-    keeps_more r more h p.open_yet (or_parts (has_long_list item.what) (is_too_large (joined r more)) p.limit).1 (adds text r item.what h.scope p)
+    keeps_more r more h p.open_yet (or_parts (has_long_list item.what) (is_too_large (joined r more)) p.limit).1 (adds laws text r item.what h.scope p)
 
 -- ---- all items
 
 some_item : ItemTree
 some_item = record { from = 0; what = predicate_item [] }
 
-keeps_front : (text : List ℕ) (items : List ItemTree) → AreLawful text items → (k : ℕ) → k ≤ length items → Keeps (reading_of text (take k items))
-keeps_front text items h zero l = keeps_none
-keeps_front text items h (suc k) l =
+keeps_front : (laws : SetLaws) (text : List ℕ) (items : List ItemTree) → AreLawful text items → (k : ℕ) → k ≤ length items → Keeps (reading_of text (take k items))
+keeps_front laws text items h zero l = keeps_none
+keeps_front laws text items h (suc k) l =
     let m : k < length items = omega arith in
     let item : ItemTree = get_or items k some_item in
     let one : reading_of text (take (suc k) items) ≡ with_item text (reading_of text (take k items)) item =
     ap (reading_of text) (take-suc items k some_item m) ∙ fold-append (with_item text) nothing (take k items) (item ∷ []) in
-    subst Keeps (sym one) (keeps_item text (reading_of text (take k items)) item (keeps_front text items h k (omega arith)) (h k some_item m))
+    subst Keeps (sym one) (keeps_item laws text (reading_of text (take k items)) item (keeps_front laws text items h k (omega arith)) (h k some_item m))
 
-keeps_all : (text : List ℕ) (items : List ItemTree) → AreLawful text items → Keeps (reading_of text items)
-keeps_all text items h = subst (λ xs. Keeps (reading_of text xs)) (take_all (length items) items (omega arith)) (keeps_front text items h (length items) (omega arith))
+keeps_all : (laws : SetLaws) (text : List ℕ) (items : List ItemTree) → AreLawful text items → Keeps (reading_of text items)
+keeps_all laws text items h = subst (λ xs. Keeps (reading_of text xs)) (take_all (length items) items (omega arith)) (keeps_front laws text items h (length items) (omega arith))
 
 -- ---- the model
 
@@ -120,8 +121,8 @@ model_is_well_formed r asked e h =
       kernels_fit = subst (λ (n : ℕ). n ≤ most_kernels) h.kernels (few_kernels r h.fits);
     }
 
-pub well_formed : (text : List ℕ) (items : List ItemTree) (m : FznModel) → IsModelOf text items m → IsWellFormed m
-well_formed text items m h =
+pub well_formed : (laws : SetLaws) (text : List ℕ) (items : List ItemTree) (m : FznModel) → IsModelOf text items m → IsWellFormed m
+well_formed laws text items m h =
     let r : Reading = reading_of text items in
     let model = h.is_model in
-    subst IsWellFormed (sym model.is_model) (model_is_well_formed r model.asked model.solved (keeps_all text items h.lawful))
+    subst IsWellFormed (sym model.is_model) (model_is_well_formed r model.asked model.solved (keeps_all laws text items h.lawful))

@@ -10,14 +10,15 @@ use Rattle.fzn_parser.specs.declared.tree.Shape.{Shape}
 use Rattle.fzn_parser.specs.declared.tree.Aim.{Aim}
 use Rattle.fzn_parser.specs.Items.{WhatTree, predicate_item, scalar_item, array_item, constraint_item, solve_item}
 use Rattle.fzn_parser.specs.Texts.{spelling}
-use Rattle.fzn_model.specs.declared.scope.Meaning.{Meaning}
-use Rattle.fzn_model.specs.declared.scope.Scalar.{Scalar}
-use Rattle.fzn_model.specs.declared.table.Letter.{Letter}
+use Rattle.constraint_model.specs.declared.meanings.Meaning.{Meaning}
+use Rattle.constraint_model.specs.declared.meanings.Scalar.{Scalar}
+use Rattle.constraint_model.specs.declared.table.Letter.{Letter}
 use Rattle.fzn_model.specs.declared.stop.Stop.{Stop}
 use Rattle.fzn_model.specs.declared.effect.Effect.{Effect}
-use Rattle.fzn_model.specs.Numbers.{number_of}
+use Rattle.fzn_model.specs.Literals.{number_of}
 use Rattle.fzn_model.specs.Scopes.{Scope, meaning_of, expr_meaning}
-use Rattle.fzn_model.specs.Fits.{named, fits, row_for, is_constant}
+use Rattle.constraint_model.specs.Limits.{most_vars, most_entries, most_kernels, most_constants}
+use Rattle.constraint_model.specs.Fits.{named, fits, row_for, is_constant}
 use Rattle.fzn_model.specs.Effects.{Reading, joined, effect_of, meanings_of}
 
 -- ---- the kinds
@@ -229,18 +230,6 @@ abbrev pub has_wide_literal : List ℕ → WhatTree → Bool
 has_wide_literal text what = type_is_wide text what || list_any (expr_is_wide text) (expressions what)
 
 -- ---- limits
-
-abbrev pub most_vars : ℕ
-most_vars = 65536
-
-abbrev pub most_entries : ℕ
-most_entries = 65536
-
-abbrev pub most_kernels : ℕ
-most_kernels = 1048576
-
-abbrev pub most_constants : ℕ
-most_constants = 131072
 
 abbrev pub set_is_long : SetLit → Bool
 set_is_long (SetLit.Range low high) = false

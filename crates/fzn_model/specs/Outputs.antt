@@ -7,8 +7,8 @@ use Rattle.fzn_lexer.specs.declared.Token.{Token}
 use Rattle.fzn_parser.specs.declared.tree.SetLit.{SetLit}
 use Rattle.fzn_parser.specs.Notes.{ArgTree, set_arg, row_arg, AnnTree, bare, called, ArgTrees, no_args, more_args}
 use Rattle.fzn_parser.specs.Texts.{spelling}
-use Rattle.fzn_model.specs.Numbers.{number_of}
-use Rattle.fzn_model.specs.Ranges.{Range}
+use Rattle.fzn_model.specs.Literals.{number_of}
+use Rattle.constraint_model.specs.Ranges.{Range}
 
 -- the token is spelled so
 abbrev pub is_spelled : List ℕ → List ℕ → Token → Bool

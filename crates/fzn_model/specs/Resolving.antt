@@ -1,9 +1,9 @@
 -- The model of a list of items, or their first fault.
 use Rattle.std.specs.Prelude.{◌≡◌, ◌⊎◌, ◌<◌, ℕ, take, slice_index_or, List, length, Some, None}
 use Rattle.fzn_parser.specs.Parsing.{ItemTree}
-use Rattle.fzn_model.specs.declared.model.Phase.{Phase}
-use Rattle.fzn_model.specs.declared.model.Goal.{Goal}
-use Rattle.fzn_model.specs.declared.model.FznModel.{FznModel}
+use Rattle.constraint_model.specs.declared.model.Phase.{Phase}
+use Rattle.constraint_model.specs.declared.model.Goal.{Goal}
+use Rattle.constraint_model.specs.declared.model.FznModel.{FznModel}
 use Rattle.fzn_model.specs.declared.resolving.ModelError.{ModelError}
 use Rattle.fzn_model.specs.declared.stop.Stop.{Stop}
 use Rattle.fzn_model.specs.Effects.{Reading, reading_of}

@@ -1,16 +1,15 @@
 -- The phases of the search that annotations of the solve item ask for. An annotation of any other shape asks for none.
 -- (MiniZinc Handbook, FlatZinc: search annotations.)
 use Rattle.std.specs.Prelude.{ℕ, List, [], ◌∷◌, ◌++◌, Bool, cond, ◌||◌, codes, bytes_eq, filter_map, Option, Some, None, option_map, if◌then◌else◌}
-use Rattle.std.specs.List.{range_with_len}
 use Rattle.fzn_lexer.specs.declared.Token.{Token}
 use Rattle.fzn_parser.specs.Notes.{ArgTree, note_arg, row_arg, AnnTree, bare, called, ArgTrees, no_args, more_args}
 use Rattle.fzn_parser.specs.Texts.{spelling}
-use Rattle.fzn_model.specs.declared.model.Term.{Term}
-use Rattle.fzn_model.specs.declared.model.VarSel.{VarSel}
-use Rattle.fzn_model.specs.declared.model.ValSel.{ValSel}
-use Rattle.fzn_model.specs.declared.model.Phase.{Phase}
-use Rattle.fzn_model.specs.declared.scope.Scalar.{Scalar}
-use Rattle.fzn_model.specs.declared.scope.Meaning.{Meaning}
+use Rattle.constraint_model.specs.declared.model.Term.{Term}
+use Rattle.constraint_model.specs.declared.model.VarSel.{VarSel}
+use Rattle.constraint_model.specs.declared.model.ValSel.{ValSel}
+use Rattle.constraint_model.specs.declared.model.Phase.{Phase}
+use Rattle.constraint_model.specs.declared.meanings.Scalar.{Scalar}
+use Rattle.constraint_model.specs.declared.meanings.Meaning.{Meaning}
 use Rattle.fzn_model.specs.Scopes.{Scope, meaning_of}
 use Rattle.fzn_model.specs.Outputs.{is_spelled, both}
 
@@ -115,7 +114,3 @@ abbrev mutual
 abbrev pub phases_of : List ℕ → Scope → List AnnTree → List Phase
 phases_of text scope [] = []
 phases_of text scope (note ∷ notes) = phases_in text scope note ++ phases_of text scope notes
-
--- behind the text's phases stands one over all declared variables
-abbrev pub last_phase : ℕ → Phase
-last_phase count = record { vars = range_with_len 0 count; var_sel = VarSel.InputOrder; val_sel = ValSel.Min }

@@ -5,11 +5,10 @@ ghost use Rattle.fzn_model.specs.Scopes as scopes;
 ghost use Rattle.fzn_model.specs.Effects as effects;
 
 use crate::exprs::{set_at, spelling};
-use crate::model::{Constraint, Operand, Term};
 use crate::numbers::number_of;
 use crate::stop::Stop;
-use crate::table::ConstraintName;
 use crate::types::equality_name;
+use constraint_model::{Constraint, ConstraintName, Operand, Term};
 use fzn_lexer::Token;
 use fzn_parser::tree::{SetLit, Shape};
 use list_of::ListOf;
@@ -52,7 +51,7 @@ fn hull(ranges: &[(i64, i64)]) -> (i64, i64)
 }
 
 /// The bounds that a variable of this type starts with.
-#[tactic(auto, unfolding(crate::specs::Numbers::largest))]
+#[tactic(auto, unfolding(constraint_model::specs::Numbers::largest))]
 pub(crate) fn bounds_of(alloc: Global, text: &[u8], shape: &Shape) -> Result<(i64, i64), Stop>
     ensures { IfOk result (λ b. b ≡ effects.bounds_of text.now shape.now) }
 {

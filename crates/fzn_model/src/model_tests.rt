@@ -1,7 +1,7 @@
 //! The parts of the models of a few texts, written out.
 
-use crate::model::{Constraint, FznModel, Goal, Operand, Output, Phase, Term, VarDecl};
 use crate::resolve_tests::resolved;
+use constraint_model::{Constraint, FznModel, Goal, Operand, Output, Phase, Term, VarDecl};
 use std::alloc::{AllocError, Global};
 use std::test::Fail;
 

@@ -1,7 +1,7 @@
 //! The numbers that integer literals write.
 
 ghost use Rattle.std.specs.Prelude.{◌≡◌, ◌≤◌, Some, None, MatchOption};
-ghost use Rattle.fzn_model.specs.Numbers.{number_in, natural_of, number_of};
+ghost use Rattle.fzn_model.specs.Literals.{number_in, natural_of, number_of};
 
 use std::str;
 
@@ -9,7 +9,7 @@ use std::str;
 const LARGEST: u32 = 2_147_483_646;
 
 /// The number that digits of this base write, where they are nothing else and the profile has it.
-#[tactic(auto, using(crate::proofs::NumberLaws::number_laws), unfolding(crate::specs::Numbers::number_in, crate::specs::Numbers::largest))]
+#[tactic(auto, using(crate::proofs::NumberLaws::number_laws), unfolding(crate::specs::Literals::number_in, constraint_model::specs::Numbers::largest))]
 fn number_in(base: u32, digits: &[u8]) -> Option<u32>
     requires low { 2 ≤ base }
     requires high { base ≤ 16 }
@@ -29,7 +29,7 @@ fn number_in(base: u32, digits: &[u8]) -> Option<u32>
 }
 
 /// The number of a literal without its minus, where the profile has it.
-#[tactic(auto, unfolding(crate::specs::Numbers::natural_of))]
+#[tactic(auto, unfolding(crate::specs::Literals::natural_of))]
 fn natural_of(literal: &[u8]) -> Option<u32>
     ensures { result ≡ natural_of literal.now }
 {
@@ -43,7 +43,7 @@ fn natural_of(literal: &[u8]) -> Option<u32>
 }
 
 /// The number of an integer literal, where the profile has it.
-#[tactic(auto, unfolding(crate::specs::Numbers::number_of))]
+#[tactic(auto, unfolding(crate::specs::Literals::number_of))]
 pub(crate) fn number_of(literal: &[u8]) -> Option<i64>
     ensures { MatchOption result (number_of literal.now ≡ None) (λ n. number_of literal.now ≡ Some n) }
 {

@@ -1,7 +1,7 @@
 //! Whole texts in tables: their faults, and that lawful ones have a model.
 
-use crate::model::FznModel;
 use crate::resolving::{ModelError, resolve};
+use constraint_model::FznModel;
 use fzn_lexer::lex;
 use fzn_parser::parse;
 use std::alloc::{AllocError, Global};

@@ -2,17 +2,17 @@
 
 ghost use Rattle.std.specs.Prelude.{◌≡◌, ℕ, List, map, MatchResult, IfOk, IfErr};
 ghost use Rattle.fzn_parser.specs.Parsing.{ItemTree, item_tree};
-ghost use Rattle.fzn_model.specs.declared.model.FznModel.{FznModel};
+ghost use Rattle.constraint_model.specs.declared.model.FznModel.{FznModel};
 ghost use Rattle.fzn_model.specs.declared.resolving.ModelError.{ModelError as Error};
 ghost use Rattle.fzn_model.specs.Drafts.{seen};
 ghost use Rattle.fzn_model.specs.Faults.{no_solve};
 ghost use Rattle.fzn_model.specs.Resolving.{IsModelOf, IsModelWith, HasFault, IsCause, stopped_at};
-ghost use Rattle.fzn_model.specs.WellFormed.{IsWellFormed};
+ghost use Rattle.constraint_model.specs.WellFormed.{IsWellFormed};
 
 use crate::draft::Draft;
 use crate::kinds::NO_SOLVE;
-use crate::model::FznModel;
 use crate::stop::Stop;
+use constraint_model::{FznModel, law_ranges};
 use fzn_parser::tree::Item;
 use std::alloc::Global;
 use thiserror::Error;
@@ -92,4 +92,6 @@ pub fn law_one_model()
 /// The model of every text is well-formed. It does nothing.
 pub fn law_well_formed()
     ensures { (text : List ℕ) (items : List ItemTree) (m : FznModel) → IsModelOf text items m → IsWellFormed m }
-{}
+{
+    law_ranges();
+}

@@ -1,7 +1,7 @@
 //! The texts of solutions and of marks, worked out by hand.
 
 use crate::{Mark, mark_text, print_solution};
-use fzn_model::{FznModel, Goal, Output, Term};
+use constraint_model::{FznModel, Goal, Output, Term};
 use list_of::ListOf;
 use std::alloc::{AllocError, Global};
 use std::test::Fail;

@@ -21,8 +21,8 @@ widths-small (p ∷ b) lows highs =
     let one : unsigned_abs (p.1 -ℤ p.0) ≤ bound_limit + bound_limit = omega (arith, ints) in
     omega arith
 
--- a box's widths sum up to less than a 64-bit number
-pub widths-fit : (b : Bounds) → IsInRange b → width_sum_of b < 2 ^ 64
+-- a box's widths sum up to at most 2 ^ 66
+pub widths-fit : (b : Bounds) → IsInRange b → width_sum_of b ≤ 2 ^ 66
 unfolding bound_limit largest_number box_limit
 widths-fit b r = let short = r.short in omega (arith, widths-small b r.lows r.highs)
 

@@ -4,7 +4,7 @@ use Rattle.std.specs.Int.{int_min, int_max}
 
 -- a number of a model lies between this and its opposite
 unfoldable pub largest_number : ℕ
-largest_number = 2147483646
+largest_number = 140737488355327
 
 -- a bound lies between this and its opposite: one past the numbers of a model, so that a bound can say
 -- that no number is left

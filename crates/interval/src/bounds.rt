@@ -4,14 +4,11 @@ ghost use Rattle.std.specs.Prelude.{◌≡◌, ◌≤ℤ◌, pos, neg_ℤ, unsig
 ghost use Rattle.interval.specs.Limits.{IsBound, bound_limit, clamp_of, ClampOrder};
 
 /// A number of a model lies between this and its opposite.
-pub const LARGEST_NUMBER: i64 = 2_147_483_646;
+const LARGEST_NUMBER: i64 = 140_737_488_355_327;
 
 /// A bound lies between this and its opposite. It is one past the numbers of a model, so that a bound can say that
 /// no number is left.
 pub const BOUND_LIMIT: i64 = LARGEST_NUMBER + 1;
-
-/// A box has at most this many pairs.
-pub const BOX_LIMIT: usize = 262_144;
 
 /// The bound that is nearest to `value`.
 pub fn clamp_bound(value: i128) -> i64

@@ -116,7 +116,7 @@ pub fn is_crossed(b: &BoxOf) -> bool
 }
 
 /// The sum of high - low over the variables of a proper box.
-pub fn width_sum(b: &BoxOf) -> u64
+pub fn width_sum(b: &BoxOf) -> u128
     requires { IsProper b.now }
     ensures { result ≡ width_sum_of b.now }
 {
@@ -128,14 +128,14 @@ pub fn law_inside_order()
     ensures { InsideOrder }
 {}
 
-fn sum_of_widths(pairs: &[(i64, i64)]) -> u64
+fn sum_of_widths(pairs: &[(i64, i64)]) -> u128
     requires in_range { IsInRange pairs.now }
     requires proper { IsProper pairs.now }
     ensures { result ≡ width_sum_of pairs.now }
 {
     let mut sum = 0;
     for pair in pairs {
-        sum += width(pair.0, pair.1);
+        sum += width(pair.0, pair.1) as u128;
     }
     sum
 }

@@ -33,8 +33,11 @@ fn quotients_are_rounded_down_and_up(rt: HostRuntime) -> Result<(), Fail> {
 #[tactic(auto, unfolding(crate::specs::Limits::dividend_limit, crate::specs::Limits::bound_limit, crate::specs::Limits::largest_number))]
 #[test]
 fn bounds_are_clamped_one_past_the_numbers(rt: HostRuntime) -> Result<(), Fail> {
-    assert_eq!(rt; clamp_bound(1 << 100), 2_147_483_647);
-    assert_eq!(rt; clamp_bound(-2_147_483_648), -2_147_483_647);
+    assert_eq!(rt; clamp_bound(1 << 100), 140_737_488_355_328);
+    assert_eq!(rt; clamp_bound(140_737_488_355_329), 140_737_488_355_328);
+    assert_eq!(rt; clamp_bound(140_737_488_355_327), 140_737_488_355_327);
+    assert_eq!(rt; clamp_bound(-140_737_488_355_329), -140_737_488_355_328);
+    assert_eq!(rt; clamp_bound(-140_737_488_355_327), -140_737_488_355_327);
     assert_eq!(rt; clamp_bound(-5), -5);
     Ok(())
 }
@@ -46,13 +49,24 @@ fn corners_are_those_of_the_rectangle(rt: HostRuntime) -> Result<(), Fail> {
     assert_eq!(rt; corner_products((2, 3), (5, 7)), (10, 21));
     assert_eq!(rt; corner_products((-3, -2), (-7, 0)), (0, 21));
     assert_eq!(rt;
-        corner_products((-2_147_483_647, 1), (-2_147_483_647, 0)),
-        (-2_147_483_647, 4_611_686_014_132_420_609)
+        corner_products((-140_737_488_355_328, 1), (-140_737_488_355_328, 0)),
+        (-140_737_488_355_328, 1 << 94)
+    );
+    assert_eq!(rt;
+        corner_products((-140_737_488_355_328, -2), (3, 140_737_488_355_328)),
+        (-(1 << 94), -6)
     );
     assert_eq!(rt; corner_quotients((-6, -6), (2, 3)), (-3, -2));
     assert_eq!(rt; corner_quotients((7, 9), (2, 4)), (2, 4));
     assert_eq!(rt; corner_quotients((-7, 9), (-4, -2)), (-4, 3));
     assert_eq!(rt; corner_quotients((5, 5), (3, 3)), (2, 1));
+    assert_eq!(rt;
+        corner_quotients(
+            (-140_737_488_355_328, 140_737_488_355_328),
+            (-140_737_488_355_328, -1)
+        ),
+        (-140_737_488_355_328, 140_737_488_355_328)
+    );
     Ok(())
 }
 
@@ -78,5 +92,8 @@ fn a_box_is_made_changed_and_copied(rt: HostRuntime) -> Result<(), Fail> {
     assert_eq!(rt; other.len(), 2);
     assert_eq!(rt; other.low(0), 4);
     assert_eq!(rt; other.high(1), 7);
+    b.put(1, -140_737_488_355_328, 140_737_488_355_328);
+    assert!(rt; !is_crossed(&b));
+    assert_eq!(rt; width_sum(&b), 1 << 48);
     Ok(())
 }

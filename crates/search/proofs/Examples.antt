@@ -9,10 +9,10 @@ use Rattle.guarded_tell.specs.declared.tell.Lit.{Lit}
 use Rattle.guarded_tell.specs.declared.kernel.Kernel.TheVariants.{Le}
 use Rattle.guarded_tell.specs.Linear.{IsLinear, term_limit}
 use Rattle.guarded_tell.specs.Kernels.{vars_of, HasNumbers, IsKernel}
-use Rattle.fzn_model.specs.declared.model.Phase.{Phase}
-use Rattle.fzn_model.specs.declared.model.FznModel.{FznModel}
-use Rattle.fzn_model.specs.Searches.{last_phase}
-use Rattle.branching.specs.Selection.{IsSearchOf}
+use Rattle.constraint_model.specs.declared.model.Phase.{Phase}
+use Rattle.constraint_model.specs.declared.model.FznModel.{FznModel}
+use Rattle.constraint_model.specs.Searches.{last_phase}
+use Rattle.constraint_model.specs.Searches.{IsSearchOf}
 
 abbrev fixed_pairs : Bounds
 fixed_pairs = (pos 1, pos 1) ∷ (pos 0, pos 0) ∷ (pos 0, pos 0) ∷ []

@@ -9,8 +9,8 @@ use Rattle.std.proofs.lemmas.List.Elements.{All-head, All-tail}
 use Rattle.interval.specs.Boxes.{Bounds, IsInRange, InsideOrder}
 use Rattle.guarded_tell.specs.declared.kernel.Kernel.{Kernel}
 use Rattle.guarded_tell.specs.Kernels.{IsKernel}
-use Rattle.fzn_model.specs.declared.model.FznModel.{FznModel}
-use Rattle.branching.specs.Selection.{IsSearchOf}
+use Rattle.constraint_model.specs.declared.model.FznModel.{FznModel}
+use Rattle.constraint_model.specs.Searches.{IsSearchOf}
 use Rattle.branching.specs.Tree.{values_of, SolutionsIn, failed, fixed, parted, BranchLaws, EveryList}
 use Rattle.search.specs.Machine.{State, Node, is_dropped, is_solved, is_parted, Reached, begun, stepped, IsDone}
 use Rattle.search.specs.Ends.{head_of, EndsDone, EndsSpent, IsFirstDone, IsAllDone}

@@ -4,7 +4,7 @@ ghost use Rattle.std.specs.Prelude.{◌≡◌, ◌≢◌, ◌⊎◌, ◌<◌, �
 ghost use Rattle.std.specs.Bool.{OnTrue, OnFalse};
 ghost use Rattle.guarded_tell.specs.Kernels.{IsKernel};
 ghost use Rattle.decompose.specs.Program.{IsProgramOf};
-ghost use Rattle.branching.specs.Selection.{IsSearchOf};
+ghost use Rattle.constraint_model.specs.Searches.{IsSearchOf};
 ghost use Rattle.search.specs.Ends.{IsFirstEnd, IsAllEnd};
 ghost use Rattle.search.specs.Closings.{IsClosing};
 
@@ -12,7 +12,7 @@ use crate::ends::{AllEnd, FirstEnd};
 use crate::node::node;
 use branching::{law_branches, law_every_list};
 use decompose::Program;
-use fzn_model::FznModel;
+use constraint_model::FznModel;
 use guarded_tell::Kernel;
 use interval::{BoxOf, NoMemory, law_inside_order};
 use list_of::ListOf;

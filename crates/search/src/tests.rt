@@ -2,12 +2,12 @@
 
 ghost use Rattle.std.specs.Prelude.{◌≡◌, ◌<◌, length, All, IfOk};
 ghost use Rattle.guarded_tell.specs.Kernels.{IsKernel};
-ghost use Rattle.fzn_model.specs.Searches.{last_phase};
-ghost use Rattle.branching.specs.Selection.{IsSearchOf};
+ghost use Rattle.constraint_model.specs.Searches.{last_phase};
+ghost use Rattle.constraint_model.specs.Searches.{IsSearchOf};
 
 use crate::runs::{all_in, first_in};
 use crate::{AllEnd, FirstEnd};
-use fzn_model::{FznModel, Goal, Phase, ValSel, VarDecl, VarSel};
+use constraint_model::{FznModel, Goal, Phase, ValSel, VarDecl, VarSel};
 use guarded_tell::{Kernel, Lit};
 use interval::{BoxOf, NoMemory, clamp_bound};
 use list_of::ListOf;

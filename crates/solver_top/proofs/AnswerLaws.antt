@@ -1,6 +1,6 @@
 -- A text has at most one answer.
 use Rattle.std.proofs.Common.{◌≡◌, ℕ, List, Option, Some, None, inl, inr, refl, sym, ap, subst, ◌∙◌}
-use Rattle.fzn_model.specs.declared.model.FznModel.{FznModel}
+use Rattle.constraint_model.specs.declared.model.FznModel.{FznModel}
 use Rattle.solver_top.specs.Texts.{IsTextOf}
 use Rattle.solver_top.specs.Solutions.{Assignment, IsAnswer}
 use Rattle.solver_top.specs.AnswerText.{answer_text}

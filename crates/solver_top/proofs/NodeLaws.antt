@@ -12,10 +12,10 @@ use Rattle.guarded_tell.specs.declared.kernel.Kernel.{Kernel}
 use Rattle.guarded_tell.specs.Words.{value_of, point_of}
 use Rattle.guarded_tell.specs.Kernels.{Holds, IsKernel, IsClosedUnder}
 use Rattle.fixpoint_laws.specs.Fixpoints.{IsClosed, IsGreatest, Fails}
-use Rattle.fzn_model.specs.declared.model.FznModel.{FznModel}
+use Rattle.constraint_model.specs.declared.model.FznModel.{FznModel}
 use Rattle.solver_top.specs.Solutions.{Assignment, value_at, IsLeastSolution, HasNoSolution}
-use Rattle.fzn_model.specs.Relations.{IsSolution}
-use Rattle.fzn_model.specs.WellFormed.{constants_of}
+use Rattle.constraint_model.specs.Relations.{IsSolution}
+use Rattle.constraint_model.specs.WellFormed.{constants_of}
 use Rattle.decompose.specs.Kernels.{kernels_of}
 use Rattle.decompose.specs.Program.{fixed_box, start_of, extended}
 use Rattle.solver_top.specs.Branching.{IsFirstUnfixed, AreFixed, left_of, right_of, assignment_of}

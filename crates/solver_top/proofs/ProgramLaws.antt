@@ -7,10 +7,10 @@ use Rattle.interval.specs.Boxes.{Bounds, low_of, high_of, IsInRange, IsInside}
 use Rattle.guarded_tell.specs.declared.kernel.Kernel.{Kernel}
 use Rattle.guarded_tell.specs.Words.{value_of}
 use Rattle.guarded_tell.specs.Kernels.{Holds, IsKernel}
-use Rattle.fzn_model.specs.declared.model.VarDecl.{VarDecl}
-use Rattle.fzn_model.specs.declared.model.FznModel.{FznModel}
-use Rattle.fzn_model.specs.Relations.{IsWithin, IsSolution}
-use Rattle.fzn_model.specs.WellFormed.{constants_of}
+use Rattle.constraint_model.specs.declared.model.VarDecl.{VarDecl}
+use Rattle.constraint_model.specs.declared.model.FznModel.{FznModel}
+use Rattle.constraint_model.specs.Relations.{IsWithin, IsSolution}
+use Rattle.constraint_model.specs.WellFormed.{constants_of}
 use Rattle.decompose.specs.declared.program.Program.{Program}
 use Rattle.decompose.specs.Kernels.{kernels_of}
 use Rattle.decompose.specs.Program.{fixed_box, start_of, extended, Extends, IsProgramOf}

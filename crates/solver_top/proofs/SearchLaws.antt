@@ -11,9 +11,9 @@ use Rattle.interval.specs.Boxes.{Bounds, low_of, high_of, put_of, IsInRange, IsP
 use Rattle.guarded_tell.specs.declared.kernel.Kernel.{Kernel}
 use Rattle.guarded_tell.specs.Words.{point_of}
 use Rattle.guarded_tell.specs.Kernels.{Holds, IsKernel, IsClosedUnder}
-use Rattle.fzn_model.specs.declared.model.FznModel.{FznModel}
+use Rattle.constraint_model.specs.declared.model.FznModel.{FznModel}
 use Rattle.solver_top.specs.Solutions.{Assignment, IsBefore}
-use Rattle.fzn_model.specs.Relations.{IsSolution}
+use Rattle.constraint_model.specs.Relations.{IsSolution}
 use Rattle.decompose.specs.Program.{start_of}
 use Rattle.solver_top.specs.Branching.{left_of, right_of}
 use Rattle.solver_top.proofs.ProgramLaws.{LiesIn}

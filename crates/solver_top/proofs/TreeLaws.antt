@@ -5,9 +5,9 @@ use Rattle.std.proofs.lemmas.Int.{ints, by_lt_z}
 use Rattle.std.proofs.lemmas.Bool.{cases_lt, cases_eq}
 use Rattle.interval.specs.Boxes.{Bounds, low_of, high_of, IsInRange, IsInside, InsideOrder, width_sum_of}
 use Rattle.fixpoint_laws.specs.Fixpoints.{IsGreatest, OneFixpoint}
-use Rattle.fzn_model.specs.declared.model.FznModel.{FznModel}
+use Rattle.constraint_model.specs.declared.model.FznModel.{FznModel}
 use Rattle.solver_top.specs.Solutions.{Assignment, value_at, IsBefore, IsAnswer}
-use Rattle.fzn_model.specs.Relations.{IsSolution}
+use Rattle.constraint_model.specs.Relations.{IsSolution}
 use Rattle.decompose.specs.Kernels.{kernels_of}
 use Rattle.decompose.specs.Program.{fixed_box, start_of, extended}
 use Rattle.solver_top.specs.Branching.{IsFixed, IsFirstUnfixed, AreFixed, left_of, right_of, assignment_of}

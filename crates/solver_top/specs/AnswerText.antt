@@ -4,9 +4,9 @@
 -- variable, ten dashes after a solution, and the mark of an unsatisfiable model. Arrays aren't written yet.
 use Rattle.std.specs.Prelude.{ℕ, ℤ, pos, List, [], ◌∷◌, ◌++◌, Bool, true, false, flat_map, if◌then◌else◌, int_le, codes, Option, Some, None}
 use Rattle.std.specs.Fmt.{signed_decimal}
-use Rattle.fzn_model.specs.declared.model.Output.{Output}
-use Rattle.fzn_model.specs.declared.model.FznModel.{FznModel}
-use Rattle.fzn_model.specs.Relations.{value}
+use Rattle.constraint_model.specs.declared.model.Output.{Output}
+use Rattle.constraint_model.specs.declared.model.FznModel.{FznModel}
+use Rattle.constraint_model.specs.Relations.{value}
 use Rattle.solver_top.specs.Solutions.{Assignment}
 
 -- the end of a line

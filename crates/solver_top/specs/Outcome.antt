@@ -5,7 +5,7 @@ use Rattle.std.specs.Prelude.{◌≡◌, ℕ, ◌≤◌, List, [], ◌∷◌, �
 use Rattle.fzn_io.specs.Faults.{CountRose}
 use Rattle.fzn_io.specs.Streams.{Adds, IsHeld}
 use Rattle.std.specs.Fmt.{decimal}
-use Rattle.fzn_model.specs.declared.model.FznModel.{FznModel}
+use Rattle.constraint_model.specs.declared.model.FznModel.{FznModel}
 use Rattle.solver_top.specs.Texts.{IsTextOf, HasFaultOn}
 use Rattle.solver_top.specs.Solutions.{Assignment, IsAnswer}
 use Rattle.solver_top.specs.SearchTree.{IsHeadOfSolutions}

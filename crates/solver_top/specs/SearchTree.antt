@@ -6,7 +6,7 @@
 use Rattle.std.specs.Prelude.{◌≡◌, ℕ, List, [], ◌∷◌, ◌++◌, length, Option, Some, None}
 use Rattle.interval.specs.Boxes.{Bounds}
 use Rattle.fixpoint_laws.specs.Fixpoints.{IsGreatest, Fails}
-use Rattle.fzn_model.specs.declared.model.FznModel.{FznModel}
+use Rattle.constraint_model.specs.declared.model.FznModel.{FznModel}
 use Rattle.decompose.specs.Kernels.{kernels_of}
 use Rattle.decompose.specs.Program.{start_of}
 use Rattle.solver_top.specs.Solutions.{Assignment}

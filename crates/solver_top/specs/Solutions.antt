@@ -3,8 +3,8 @@
 -- Source: the FlatZinc chapter of the MiniZinc Handbook, its search annotations `input_order` and `indomain_min`: of the
 -- first variables that differ, the lesser value comes first.
 use Rattle.std.specs.Prelude.{◌≡◌, ◌⊎◌, ℕ, ◌<◌, ℤ, pos, ◌<ℤ◌, List, length, slice_index_or, Option, Some, None}
-use Rattle.fzn_model.specs.declared.model.FznModel.{FznModel}
-use Rattle.fzn_model.specs.Relations.{IsSolution}
+use Rattle.constraint_model.specs.declared.model.FznModel.{FznModel}
+use Rattle.constraint_model.specs.Relations.{IsSolution}
 
 -- a value for each declared variable, in order
 abbrev pub Assignment : Type 0

@@ -1,7 +1,7 @@
 //! What the definitions say by themselves, as calls that do nothing.
 
 ghost use Rattle.std.specs.Prelude.{◌≡◌, ℕ, List};
-ghost use Rattle.fzn_model.specs.declared.model.FznModel.{FznModel};
+ghost use Rattle.constraint_model.specs.declared.model.FznModel.{FznModel};
 ghost use Rattle.solver_top.specs.Texts.{IsTextOf, IsFaultOf};
 ghost use Rattle.solver_top.specs.Outcome.{IsAnswerOf};
 

@@ -1,10 +1,10 @@
 //! The text of an answer.
 
 ghost use Rattle.std.specs.Prelude.{◌≡◌, ◌≤◌, ◌++◌, All, IfOk, IfSome, OnOk, flat_map, length};
-ghost use Rattle.fzn_model.specs.Relations.{value};
+ghost use Rattle.constraint_model.specs.Relations.{value};
 ghost use Rattle.solver_top.specs.AnswerText.{answer_text, output_line, solution_text, value_text};
 
-use fzn_model::{FznModel, Output, Term};
+use constraint_model::{FznModel, Output, Term};
 use itoa::Buffer;
 use list_of::ListOf;
 use std::alloc::{AllocError, Global};

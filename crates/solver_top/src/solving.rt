@@ -1,8 +1,8 @@
 //! The least solution of a model.
 
 ghost use Rattle.std.specs.Prelude.{◌≤◌, IfOk, length};
-ghost use Rattle.fzn_model.specs.Faults.{most_vars};
-ghost use Rattle.fzn_model.specs.WellFormed.{IsWellFormed};
+ghost use Rattle.constraint_model.specs.Limits.{most_vars};
+ghost use Rattle.constraint_model.specs.WellFormed.{IsWellFormed};
 ghost use Rattle.decompose.specs.Program.{IsProgramOf};
 ghost use Rattle.solver_top.specs.Solutions.{IsAnswer};
 ghost use Rattle.solver_top.specs.SearchTree.{IsHeadOfSolutions};
@@ -11,7 +11,7 @@ mod search;
 
 use decompose::{Program, compile};
 use fixpoint_laws::law_one_fixpoint;
-use fzn_model::FznModel;
+use constraint_model::FznModel;
 use guarded_tell::law_point;
 use interval::{NoMemory, law_inside_order};
 use list_of::ListOf;

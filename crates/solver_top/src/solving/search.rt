@@ -2,14 +2,14 @@
 
 ghost use Rattle.std.specs.Prelude.{◌≡◌, ◌+◌, ◌<◌, ◌<ℤ◌, ◌≤◌, [], ◌∷◌, ◌++◌, length, IfOk, OnOk};
 ghost use Rattle.interval.specs.Boxes.{low_of, high_of};
-ghost use Rattle.fzn_model.specs.Faults.{most_vars};
+ghost use Rattle.constraint_model.specs.Limits.{most_vars};
 ghost use Rattle.solver_top.specs.Solutions.{IsAnswer};
 ghost use Rattle.decompose.specs.Program.{IsProgramOf};
 ghost use Rattle.solver_top.specs.Branching.{IsChoice, left_of, right_of, assignment_of};
 
 use decompose::Program;
 use fixpoint_laws::{Settled, settle_alone};
-use fzn_model::FznModel;
+use constraint_model::FznModel;
 use guarded_tell::law_point;
 use interval::{BoxOf, NoMemory, law_inside_order};
 use list_of::ListOf;

@@ -1,5 +1,5 @@
 use Rattle.std.proofs.Common.{List, [], ◌∷◌, ◌++◌, ap, ◌∙◌}
-use Rattle.fzn_model.specs.declared.model.Phase.{Phase}
+use Rattle.constraint_model.specs.declared.model.Phase.{Phase}
 use Rattle.search.proofs.Examples.{small_search}
 use Rattle.search.proofs.tests.two_variables.Goals as goal
 

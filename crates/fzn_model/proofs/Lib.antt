@@ -4,6 +4,7 @@ pub mod FaultLaws
 pub mod MeaningLaws
 pub mod NoteLaws
 pub mod NumberLaws
+pub mod PhaseLaws
 pub mod ScopeLaws
 pub mod Standing
 pub mod Turns

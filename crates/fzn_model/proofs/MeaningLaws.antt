@@ -213,7 +213,7 @@ set_meaning laws vars text (SetLit.Braces values) e =
 abbrev pub AreNames : List VarDecl → Scope → Type 0
 AreNames vars scope = Each (λ (e : List ℕ × Meaning). IsMeaningOf vars e.1) scope
 
-found : (vars : List VarDecl) (scope : Scope) (name : List ℕ) → AreNames vars scope → IfSome (meaning_of scope name) (IsMeaningOf vars)
+pub found : (vars : List VarDecl) (scope : Scope) (name : List ℕ) → AreNames vars scope → IfSome (meaning_of scope name) (IsMeaningOf vars)
 found vars [] name h = tt
 found vars (e ∷ es) name h = by (bytes_eq name e.0) (found vars es name h.1)
   where

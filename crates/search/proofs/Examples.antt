@@ -87,6 +87,7 @@ unfolding constants_in kernel_count
 small_is_well_formed = record {
   vars = two IsDeclaration small_variable small_variable declared_is declared_is;
   constraints = All-cons (IsConstraintOf vars) small_order [] order_is (All-nil (IsConstraintOf vars));
+  search = small_search;
   objective = tt;
   vars_fit = lit≤ tt;
   constants_fit = lit≤ tt;

@@ -71,7 +71,7 @@ adds_constraint laws vars text scope h word args = by (named word)
           fits = (and_parts (all_mean text scope args) (is_some (row_for known (meanings_of text scope args))) fit).1;
           each = All-from_recursion (IsMeaningOf vars) (meanings_of text scope args) (meanings_each laws vars text scope h args (each_false expr_is_long args l));
         } in
-        record { declared = tt; var = tt; constraints = (constraint_stays vars [] (constraint_on known (meanings_of text scope args)) c, tt); solved = tt; search = tt }
+        record { declared = tt; var = tt; constraints = (constraint_stays vars [] (constraint_on known (meanings_of text scope args)) c, tt); output = tt; solved = tt; search = tt }
 
 -- ---- scalars
 

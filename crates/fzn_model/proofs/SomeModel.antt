@@ -1,5 +1,5 @@
 -- Items have a model or a fault.
-use Rattle.std.proofs.Common.{◌≡◌, ◌⊎◌, ℕ, zero, suc, ◌<◌, ◌≤◌, List, length, take, get_or, Option, Some, None, refl, sym, subst, ap, arith, inl, inr, length-take, below_more}
+use Rattle.std.proofs.Common.{◌≡◌, ◌⊎◌, ℕ, zero, suc, ◌<◌, ◌≤◌, List, [], length, take, get_or, Option, Some, None, refl, sym, subst, ap, arith, inl, inr, length-take, below_more}
 use Rattle.std.proofs.lemmas.List.{take-take, get_or-take, get_or_default, take_all}
 use Rattle.fzn_parser.specs.Items.{predicate_item}
 use Rattle.fzn_parser.specs.Parsing.{ItemTree}

@@ -10,7 +10,7 @@ use Rattle.constraint_model.specs.declared.meanings.Meaning.{Meaning}
 use Rattle.constraint_model.specs.Numbers.{IsInProfile, largest}
 use Rattle.constraint_model.specs.Searches.{last_phase, IsSearchOf}
 use Rattle.constraint_model.specs.Fits.{row_for, constants_in, kernels_of as kernel_count}
-use Rattle.constraint_model.specs.WellFormed.{IsDeclaration, IsScalarOf, IsMeaningOf, IsConstraintOf, IsWellFormed}
+use Rattle.constraint_model.specs.WellFormed.{IsDeclaration, IsScalarOf, IsMeaningOf, IsConstraintOf, IsOutputOf, IsWellFormed}
 use Rattle.guarded_tell.specs.declared.kernel.Kernel.TheVariants.{Le}
 use Rattle.decompose.specs.Kernels.{row_of, kernels_of}
 use Rattle.decompose.specs.Examples.{small_x, small_b, small_variables, small_model, small_reified, small_less, small_sum}
@@ -95,6 +95,7 @@ small_is_well_formed = record {
   constraints = three (IsConstraintOf small_variables) small_reified small_less small_sum reified_is less_is sum_is;
   search = small_search;
   objective = integer_is (pos 9) (lit≤ tt);
+  outputs = All-nil (IsOutputOf small_variables);
   vars_fit = lit≤ tt;
   constants_fit = lit≤ tt;
   kernels_fit = lit≤ tt;

@@ -5,6 +5,7 @@
 mod kernels;
 pub mod meanings;
 pub mod model;
+mod numbers;
 mod ranges;
 pub mod table;
 #[cfg(test)]
@@ -15,5 +16,6 @@ pub use meanings::{Meaning, Scalar};
 pub use model::{
     Constraint, FznModel, Goal, Operand, Output, Phase, Term, ValSel, VarDecl, VarSel,
 };
+pub use numbers::LARGEST;
 pub use ranges::{law_ranges, range_of, ranges_of};
 pub use table::{ConstraintName, Letter, fits, fits_some_row, law_table};

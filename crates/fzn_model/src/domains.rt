@@ -8,14 +8,11 @@ use crate::exprs::{set_at, spelling};
 use crate::numbers::number_of;
 use crate::stop::Stop;
 use crate::types::equality_name;
-use constraint_model::{Constraint, ConstraintName, Operand, Term};
+use constraint_model::{Constraint, ConstraintName, LARGEST, Operand, Term};
 use fzn_lexer::Token;
 use fzn_parser::tree::{SetLit, Shape};
 use list_of::ListOf;
 use std::alloc::Global;
-
-/// The largest number of a model; the least is its opposite.
-pub const LARGEST: i64 = 2_147_483_646;
 
 /// The number of a literal; 0 where it isn't in the profile.
 fn number_at(text: &[u8], literal: Token) -> i64

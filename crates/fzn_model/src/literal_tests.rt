@@ -15,10 +15,10 @@ fn literals_are_read_in_three_bases(rt: HostRuntime) -> Result<(), Fail> {
         (b"-0xaB", -171),
         (b"0o17", 15),
         (b"-0o20", -16),
-        (b"2147483646", 2_147_483_646),
-        (b"-2147483646", -2_147_483_646),
-        (b"0x7ffffffe", 2_147_483_646),
-        (b"-0o17777777776", -2_147_483_646),
+        (b"140737488355327", 140_737_488_355_327),
+        (b"-140737488355327", -140_737_488_355_327),
+        (b"0x7fffffffffff", 140_737_488_355_327),
+        (b"-0o3777777777777777", -140_737_488_355_327),
     ] {
         assert_eq!(rt; number_of(literal), Some(number));
     }
@@ -28,10 +28,10 @@ fn literals_are_read_in_three_bases(rt: HostRuntime) -> Result<(), Fail> {
 #[test]
 fn literals_past_the_limit_and_other_words_are_no_numbers(rt: HostRuntime) -> Result<(), Fail> {
     for literal in [
-        b"2147483647".as_slice(),
-        b"-2147483647",
-        b"0x7fffffff",
-        b"-0o17777777777",
+        b"140737488355328".as_slice(),
+        b"-140737488355328",
+        b"0x800000000000",
+        b"-0o4000000000000000",
         b"99999999999999999999999999",
         b"0x100000000000000000",
         b"",

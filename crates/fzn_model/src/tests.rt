@@ -101,7 +101,15 @@ fn outputs_are_found_by_their_shape(rt: HostRuntime) -> Result<(), Fail> {
             (false, Some(1)),
         ),
         (
-            "array [1..0] of int: a :: output_array([1..2147483647]) = [];",
+            "array [1..0] of int: a :: output_array([1..140737488355327]) = [];",
+            (false, Some(1)),
+        ),
+        (
+            "array [1..0] of int: a :: output_array([-140737488355328..1]) = [];",
+            (false, None),
+        ),
+        (
+            "array [1..0] of int: a :: output_array([1..140737488355328]) = [];",
             (false, None),
         ),
         (

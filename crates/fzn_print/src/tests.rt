@@ -97,8 +97,8 @@ fn scalars_are_written(rt: HostRuntime) -> Result<(), Fail> {
         (
             "top",
             false,
-            Term::Number(2147483646),
-            "top = 2147483646;\n----------\n",
+            Term::Number(140737488355327),
+            "top = 140737488355327;\n----------\n",
         ),
         (
             "least",

@@ -1,5 +1,5 @@
 -- Each kind of step keeps the rule. One lemma serves them all: a step that writes one word and changes one view.
-use Rattle.std.proofs.Common.{ℕ, ◌≡◌, ◌≢◌, ◌⊎◌, ◌<◌, ◌≤◌, List, length, set, true, ⊎_elim, sym, ◌∙◌, subst, le_trans, arith, length-set, get_or-set_other}
+use Rattle.std.proofs.Common.{ℕ, ◌≡◌, ◌≢◌, ◌⊎◌, ◌<◌, ◌≤◌, List, length, set, true, false, ⊎_elim, sym, ◌∙◌, subst, le_trans, arith, length-set, get_or-set_other}
 use Rattle.std.specs.Prelude.{slice_index, Option}
 use mathlib.Core.Option.{some}
 use mathlib.Core.Logic.{dite}
@@ -33,6 +33,7 @@ pub record Steps (ws : List ℕ) (vs : List View) (id : ℕ) (w : View) (k n : �
   pub code : 1 ≤ k → IsCode n
   pub others : (j : ℕ) (u : View) → j ≢ id → get_elem? vs j ≡ some u → u.live ≡ true → 1 ≤ k → k < length ws → Sees n u k
   pub length_is : w.live ≡ true → length w.seen ≡ length ws
+  pub opened_is : w.live ≡ true → w.first ≡ false → w.opened ≡ length ws
   pub mine : w.live ≡ true → (p : ℕ) → 1 ≤ p → p < length ws → Sees (slice_index (set ws k n) p) w p
   pub pairs : (j : ℕ) (u : View) → j ≢ id → get_elem? vs j ≡ some u → u.live ≡ true → w.live ≡ true → Agree id j w u × Agree j id u w
   pub alone : w.live ≡ true → Agree id id w w
@@ -45,6 +46,12 @@ stepped ws vs id w k n law s = record {
       (λ (t : (j ≡ id) × (w ≡ u)). carried (λ _ x. length x.seen ≡ length ws) j id w u t.0 t.1 s.length_is l)
       (λ (t : (j ≢ id) × (get_elem? vs j ≡ some u)). law.lengths j u t.1 l)
       (at_set vs id j w u e));
+  opened_all = λ j u e l f.
+      ⊎_elim
+      (λ (t : (j ≡ id) × (w ≡ u)). carried (λ _ x. x.first ≡ false → x.opened ≡ length ws) j id w u t.0 t.1 s.opened_is l f)
+      (λ (t : (j ≢ id) × (get_elem? vs j ≡ some u)). law.opened_all j u t.1 l f)
+      (at_set vs id j w u e)
+      ∙ sym (length-set ws k n);
   sees = λ j u e l p one lt. let lt' : p < length ws = omega (arith, length-set {A = ℕ}) in
       ⊎_elim
       (λ (t : (j ≡ id) × (w ≡ u)). carried (λ _ x. Sees (slice_index (set ws k n) p) x p) j id w u t.0 t.1 (λ h. s.mine h p one lt') l)

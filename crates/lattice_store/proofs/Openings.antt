@@ -34,6 +34,7 @@ begins_lawful words epoch start =
     let v = made_view words epoch in record {
       codes = λ k one lt. (start k one lt).0;
       lengths = λ j u e l. subst (λ (x : View). length x.seen ≡ length words) ((only v u j e).1) refl;
+      opened_all = λ j u e l f. absurd (both_ways u.first f (subst (λ (x : View). x.first ≡ true) ((only v u j e).1) refl));
       sees = λ j u e l k one lt. subst (λ (x : View). Sees (slice_index words k) x k) ((only v u j e).1) (first_sees k one lt);
       agree = λ i j u w ei ej lu lw. let a = only v u i ei in let b = only v w j ej in subst (λ (x : View). Agree i j x w) a.1 (subst (λ (x : View). Agree i j v x) b.1 (first_agrees i j (a.0 ∙ sym b.0)));
     }
@@ -78,6 +79,7 @@ names slots id me floor live fresh held s law homes at fits =
         code = λ one. absurd (omega arith);
         others = λ j u ne e l one _. absurd (omega arith);
         length_is = λ _. same;
+        opened_is = λ _ f. law.opened_all id v at live f;
         mine = λ _ p one lt. subst (λ (x : ℕ). Sees x (with_floor v floor) p) (sym (spare s.words n p one)) (one_word p one lt same (law.sees id v at live p one lt));
         pairs = λ j u ne e l _. absurd (ne (sym ((law.agree id j v u at e live l).alone fresh)));
         alone = λ _. let a = law.agree id id v v at at live live in record { one_floor = λ _. refl; ahead = λ _. le_refl v.epoch; one_first = λ _ _. refl; opening = λ _ _ ne. absurd (ne refl); behind = a.behind; alone = λ _. refl };
@@ -112,6 +114,7 @@ learns slots id me live s law homes at fits =
         code = λ one. absurd (omega arith);
         others = λ j u ne e l one _. absurd (omega arith);
         length_is = λ _. same;
+        opened_is = λ _ f. law.opened_all id v at live f;
         mine = λ _ p one lt. subst (λ (x : ℕ). Sees x v p) (sym (spare s.words n p one)) (law.sees id v at live p one lt);
         pairs = λ j u ne e l _. (law.agree id j v u at e live l, law.agree j id u v e at l live);
         alone = λ _. self;
@@ -130,6 +133,7 @@ begins slots id x me floor ready first s law homes at fits =
         code = λ one. absurd (omega arith);
         others = λ j u ne e l one _. absurd (omega arith);
         length_is = λ _. law.lengths id v at ready.live;
+        opened_is = λ _ f. absurd (both_ways v.first f first);
         mine = λ _ p one lt. subst (λ (y : ℕ). Sees y (begun v floor) p) (sym (spare s.words n p one)) (one_word p one (law.sees id v at ready.live p one lt));
         pairs = λ j u ne e l _. one_pair j u ne (law.agree id j v u at e ready.live l) (law.agree j id u v e at l ready.live);
         alone = λ _. one_self (law.agree id id v v at at ready.live ready.live);
@@ -193,6 +197,7 @@ opens_next slots id k x me is at_k one inside may s law homes at fits =
             code = λ _. may.code;
             others = λ j u ne e l _ lt. raised id j (slice_index s.words k) x k v u ne (let z = law.lengths j u e l in omega arith) (omega arith) (inr (may.epoch, may.held)) (law.agree id j v u at e is.live l) (law.agree j id u v e at l is.live) (law.sees j u e l k one lt);
             length_is = λ _. length-set v.seen k x ∙ same;
+            opened_is = λ _ f. absurd (both_ways v.first f is.first);
             mine = λ _ p op lt. one_word p op lt same (law.sees id v at is.live p op lt);
             pairs = λ j u ne e l _. one_pair j u (law.agree id j v u at e is.live l) (law.agree j id u v e at l is.live);
             alone = λ _. one_self (law.agree id id v v at at is.live is.live);

@@ -22,6 +22,7 @@ copied : (words : List ℕ) (views : List View) (id : ℕ) (v : View) → Lawful
 copied words views id v law at ready = record {
   codes = law.codes;
   lengths = λ j u e l. ⊎_elim (λ was. law.lengths j u was l) (λ (f : not_first v ≡ u). subst (λ (x : View). length x.seen ≡ length words) f (law.lengths id v at ready.live)) (at_snoc views (not_first v) u j e);
+  opened_all = λ j u e l f. ⊎_elim (λ was. law.opened_all j u was l f) (λ (g : not_first v ≡ u). subst (λ (x : View). x.opened ≡ length words) g (ready.opened ∙ law.lengths id v at ready.live)) (at_snoc views (not_first v) u j e);
   sees = λ j u e l k one lt. ⊎_elim (λ was. law.sees j u was l k one lt) (λ (f : not_first v ≡ u). subst (λ (x : View). Sees (slice_index words k) x k) f (new_sees k (law.sees id v at ready.live k one lt))) (at_snoc views (not_first v) u j e);
   agree = λ i j u w ei ej lu lw.
       ⊎_elim
@@ -85,6 +86,7 @@ taken_in words views id other v w law at there ready_v ready_w epochs =
       code = λ one. absurd (omega arith);
       others = λ j u ne e l one _. absurd (omega arith);
       length_is = λ _. length-greater v.seen w.seen ∙ lv;
+      opened_is = λ _ f. law.opened_all id v at ready_v.live f;
       mine = λ _ p one lt. subst (λ (l : List ℕ). Sees (slice_index l p) (merged v w) p) (sym (set-get_or words 0 0)) (one_word p lv lw floors lt (law.sees id v at ready_v.live p one lt) (law.sees other w there ready_w.live p one lt));
       pairs = λ j u ne e l _. one_pair j u (law.agree id j v u at e ready_v.live l) (law.agree j id u v e at l ready_v.live) (law.agree j other u w e there l ready_w.live);
       alone = λ _. one_self (law.agree id id v v at at ready_v.live ready_v.live) vw;
@@ -143,6 +145,7 @@ left_over words views other law =
       code = λ one. absurd (omega arith);
       others = λ j u ne e l one _. absurd (omega arith);
       length_is = λ l. absurd (off l);
+      opened_is = λ l. absurd (off l);
       mine = λ l. absurd (off l);
       pairs = λ j u ne e l m. absurd (off m);
       alone = λ l. absurd (off l);

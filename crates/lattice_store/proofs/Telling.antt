@@ -151,6 +151,7 @@ noting ws vs id k m v law at ready one inside may =
         code = λ _. code;
         others = λ j u ne e l _ _. others j u ne e l;
         length_is = λ _. length-seen_after v.past (epoch_of m == v.epoch) v.seen k m ∙ same_length;
+        opened_is = λ _ f. law.opened_all id v at ready.live f;
         mine = λ _ p op ip. noted_word p op ip held newest seen_le (mine p op ip) same_length;
         pairs = λ j u ne e l _. noted_pairs id j m k v u ready (law.agree id j v u at e ready.live l) (law.agree j id u v e at l ready.live) newer (λ f. (others j u ne e l).newest f);
         alone = λ _. noted_self id m k v ready (law.agree id id v v at at ready.live ready.live) newer newest;

@@ -40,6 +40,8 @@ pub record Agree (i j : ℕ) (u v : View) : Type 0 where
 pub record Lawful (words : List ℕ) (views : List View) : Type 0 where
   pub codes : (k : ℕ) → 1 ≤ k → k < length words → IsCode (slice_index words k)
   pub lengths : (j : ℕ) (v : View) → get_elem? views j ≡ some v → v.live ≡ true → length v.seen ≡ length words
+  -- a seat that isn't the first has opened all words of its epoch: the first one alone opens
+  pub opened_all : (j : ℕ) (v : View) → get_elem? views j ≡ some v → v.live ≡ true → v.first ≡ false → v.opened ≡ length words
   pub sees : (j : ℕ) (v : View) → get_elem? views j ≡ some v → v.live ≡ true → (k : ℕ) → 1 ≤ k → k < length words → Sees (slice_index words k) v k
   pub agree : (i j : ℕ) (u v : View) → get_elem? views i ≡ some u → get_elem? views j ≡ some v → u.live ≡ true → v.live ≡ true → Agree i j u v
 

@@ -2,7 +2,7 @@
 
 ghost use Rattle.std.specs.Prelude.{◌≡◌, ◌≢◌, ◌+◌, ◌*◌, ◌<◌, ◌≤◌, ℕ, length, slice_index, true, false, Option, IfOk};
 ghost use Rattle.interval.specs.Boxes.{Bounds, IsInRange};
-ghost use Rattle.lattice_store.specs.Words.{word_of, code_of, ceiling};
+ghost use Rattle.lattice_store.specs.Words.{last_epoch, word_of, code_of, ceiling};
 ghost use Rattle.lattice_store.specs.Standing.{AreWordsOf};
 ghost use Rattle.lattice_store.specs.Rule.{with_floor};
 
@@ -13,6 +13,7 @@ use std::alloc::{AllocError, Global};
 
 // The words of the bounds of a box, after the spare one.
 pub(crate) fn words_of(alloc: Global, start: &BoxOf, epoch: u32) -> Result<Vec<u64>, AllocError>
+    requires { epoch ≤ last_epoch }
     ensures words { IfOk result (λ w. AreWordsOf epoch start.now w.items) }
     ensures in_range { IfOk result (λ _. IsInRange start.now) }
 {

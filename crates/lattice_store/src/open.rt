@@ -25,6 +25,7 @@ fn open_pair<N: Naming>(
 )
     requires table { place.old.table_id ≡ table.now.shared.table_id }
     requires variable { v < length start.now }
+    requires last { epoch ≤ last_epoch }
     requires floor { IsFloorIn N.floor start.now }
     requires in_range { IsInRange start.now }
     requires opening { Opening place.old.table_id place.old.me seen.old.items start.now N.floor epoch (2 * v + 1) }
@@ -53,6 +54,7 @@ fn open_words<N: Naming>(
     requires empty { place.old.me.1 ≡ [] }
     requires past { place.old.me.0.past ≡ false }
     requires epoch { place.old.me.0.epoch + 1 ≡ epoch }
+    requires last { epoch ≤ last_epoch }
     requires seen { place.old.me.0.seen ≡ seen.old.items }
     requires length { length seen.old.items ≡ 2 * length start.now + 1 }
     requires words { length seen.old.items ≡ table.now.shared.table_id.words }
@@ -86,7 +88,8 @@ impl Store {
         ensures seat { IsSeatOf self.new first.new }
         ensures same { IsSameStore self.old self.new }
     {
-        if first.epoch == LAST_EPOCH {
+        let last = first.epoch == LAST_EPOCH;
+        if last {
             return Err(Full);
         }
         let epoch = first.epoch + 1;

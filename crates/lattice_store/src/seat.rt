@@ -1,9 +1,9 @@
 //! What one thread has seen of a store.
 
-ghost use Rattle.std.specs.Prelude.{◌≡◌, ◌<◌, ◌==◌, length, slice_index, IfSome};
+ghost use Rattle.std.specs.Prelude.{◌≡◌, ◌<◌, ◌≤◌, ◌==◌, length, slice_index, IfSome};
 ghost use Rattle.interval.specs.Boxes.{IsInside};
 ghost use Rattle.std.proofs.Props.{props};
-ghost use Rattle.lattice_store.specs.Words.{epoch_of};
+ghost use Rattle.lattice_store.specs.Words.{last_epoch, epoch_of};
 ghost use Rattle.lattice_store.specs.Rule.{seen_after, past_after, greater, either};
 ghost use Rattle.lattice_store.specs.Standing.{Stands};
 
@@ -17,6 +17,7 @@ pub struct Seat {
     pub(crate) seen: Vec<u64>,
     pub(crate) epoch: u32,
     pub(crate) past: bool,
+    ghost in_range: { epoch ≤ last_epoch },
     ghost stands: { Stands place.table_id place.me seen.items epoch past } by { Prim.hlevel props },
 }
 

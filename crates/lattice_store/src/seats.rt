@@ -2,6 +2,7 @@
 
 ghost use Rattle.std.specs.Prelude.{◌≡◌, ◌<◌, ◌≤◌, length, false, Option, IfOk, OnOk, OnErr};
 ghost use Rattle.interval.specs.Boxes.{Bounds};
+ghost use Rattle.lattice_store.specs.Words.{last_epoch};
 ghost use Rattle.lattice_store.specs.Seats.{seen_of, floor_of, seat_epoch, IsFirst, IsPast, IsSeatOf, IsSameSeat, IsCopyOf, IsFloorIn, IsStart, tighter_of};
 
 use crate::make::{name_floor, words_of};
@@ -14,6 +15,7 @@ use std::marker::Brand;
 
 impl Store {
     /// A store of the bounds of `start` at epoch 0, and its first seat, which has seen exactly these.
+    #[tactic(auto, unfolding(crate::specs::Words::last_epoch, crate::specs::Words::span, crate::specs::Words::middle, crate::specs::Words::doubled_to, interval::specs::Limits::bound_limit, interval::specs::Limits::largest_number))]
     pub fn new(alloc: Global, start: &BoxOf) -> Result<(Store, Seat), NoMemory>
         ghost floor: { Option Bounds }
         requires { IsFloorIn floor start.now }
@@ -25,7 +27,8 @@ impl Store {
     /// A store of the bounds of `start` at an epoch, and its first seat, which has seen exactly these.
     pub fn new_from(alloc: Global, start: &BoxOf, epoch: u32) -> Result<(Store, Seat), NoMemory>
         ghost floor: { Option Bounds }
-        requires { IsFloorIn floor start.now }
+        requires epoch { epoch ≤ last_epoch }
+        requires floor { IsFloorIn floor start.now }
         ensures { IfOk result (λ r. IsStart r.0 r.1 start.now epoch floor) }
     {
         let words = words_of(alloc, start, epoch)?;

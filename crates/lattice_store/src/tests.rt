@@ -32,8 +32,8 @@ fn told_by_two_seats<R: Abort>(rt: &R, alloc: Global) -> Result<(Store, Seat), N
 {
     let start = one(alloc, 0, 10)?;
     let (store, mut first) = Store::new(alloc, &start)?;
-    assert!(rt; store.table.shared.peek(1) == 2_147_483_648);
-    assert!(rt; store.table.shared.peek(2) == 2_147_483_638);
+    assert!(rt; store.table.shared.peek(1) == 140_737_488_355_329);
+    assert!(rt; store.table.shared.peek(2) == 140_737_488_355_319);
     assert!(rt; store.tell_low(&mut first, 0, 4));
     assert!(rt; !store.tell_low(&mut first, 0, 2));
     assert_eq!(rt; store.ask_low(&mut first, 0), 4);
@@ -71,16 +71,36 @@ fn an_epoch_starts_anew(rt: HostRuntime) -> Result<(), Fail> {
 }
 
 #[test]
-#[tactic(auto, unfolding(interval::specs::Limits::bound_limit, interval::specs::Limits::largest_number))]
+#[tactic(auto, unfolding(interval::specs::Limits::bound_limit, interval::specs::Limits::largest_number, crate::specs::Words::last_epoch, crate::specs::Words::span, crate::specs::Words::middle, crate::specs::Words::doubled_to))]
 fn the_last_epoch_is_opened_once(rt: HostRuntime) -> Result<(), Fail> {
     let start = one(rt.alloc(), 0, 10)?;
-    let (mut store, mut first) = Store::new_from(rt.alloc(), &start, 4_294_967_294)?;
+    let (mut store, mut first) = Store::new_from(rt.alloc(), &start, 32_766)?;
     let last = one(rt.alloc(), 2, 7)?;
     assert!(rt; store.open(&mut first, &last).is_ok());
     let later = one(rt.alloc(), 0, 3)?;
     assert_eq!(rt; store.open(&mut first, &later), Err(Full));
     assert_eq!(rt; store.ask_low(&mut first, 0), 2);
     assert_eq!(rt; store.ask_high(&mut first, 0), 7);
+    Ok(())
+}
+
+#[test]
+#[tactic(auto, unfolding(interval::specs::Limits::bound_limit, interval::specs::Limits::largest_number))]
+fn bounds_at_both_ends_of_the_range_are_kept(rt: HostRuntime) -> Result<(), Fail> {
+    let (least, greatest) = (-140_737_488_355_328, 140_737_488_355_328);
+    let start = one(rt.alloc(), least, greatest)?;
+    let (store, mut first) = Store::new(rt.alloc(), &start)?;
+    assert_eq!(rt; store.ask_low(&mut first, 0), least);
+    assert_eq!(rt; store.ask_high(&mut first, 0), greatest);
+    assert!(rt; store.table.shared.peek(1) == 1);
+    assert!(rt; store.table.shared.peek(2) == 1);
+    assert!(rt; store.tell_low(&mut first, 0, greatest));
+    assert!(rt; store.tell_high(&mut first, 0, least));
+    assert!(rt; store.table.shared.peek(1) == 281_474_976_710_657);
+    assert!(rt; store.table.shared.peek(2) == 281_474_976_710_657);
+    let mut into = one(rt.alloc(), 0, 0)?;
+    store.close(first, &mut into);
+    assert_eq!(rt; (into.low(0), into.high(0)), (greatest, least));
     Ok(())
 }
 

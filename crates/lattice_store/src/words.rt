@@ -1,8 +1,8 @@
 //! How a bound is kept in a word.
 
-ghost use Rattle.std.specs.Prelude.{◌≡◌};
+ghost use Rattle.std.specs.Prelude.{◌≡◌, ◌≤◌};
 ghost use Rattle.interval.specs.Limits.{IsBound};
-ghost use Rattle.lattice_store.specs.Words.{word_of, epoch_of, code_of, low_code, high_code, low_value, high_value, IsCode};
+ghost use Rattle.lattice_store.specs.Words.{last_epoch, word_of, epoch_of, code_of, low_code, high_code, low_value, high_value, IsCode};
 
 use interval::BOUND_LIMIT;
 
@@ -39,7 +39,8 @@ pub fn epoch_in(word: u64) -> u64
 
 /// The word of a lower bound at an epoch.
 pub fn low_word(epoch: u32, bound: i64) -> u64
-    requires { IsBound bound }
+    requires epoch { epoch ≤ last_epoch }
+    requires bound { IsBound bound }
     ensures { result ≡ word_of epoch (low_code bound) }
 {
     u64::from(epoch) * SPAN + (bound + MIDDLE) as u64
@@ -47,7 +48,8 @@ pub fn low_word(epoch: u32, bound: i64) -> u64
 
 /// The word of an upper bound at an epoch.
 pub fn high_word(epoch: u32, bound: i64) -> u64
-    requires { IsBound bound }
+    requires epoch { epoch ≤ last_epoch }
+    requires bound { IsBound bound }
     ensures { result ≡ word_of epoch (high_code bound) }
 {
     u64::from(epoch) * SPAN + (MIDDLE - bound) as u64

@@ -23,7 +23,7 @@ name_floor-requires-clause-held g c =
     let t = c.in_ok-table.ensures in
     let seen : c.in_ok-table.place.me.0.seen ≡ c.in_ok-words.words.items = ap (λ (m : Me ℕ View). m.0.seen) t.4 in
     subst (λ (l : List ℕ). (k : ℕ) → 1 ≤ k → k < length l → code_of (slice_index l k) ≤ ceiling g.floor k) (sym seen)
-    (λ k one lt. (start_word c.args.epoch c.args.start.now g.floor (slice_index c.in_ok-words.words.items k) k c.in_ok-words.ensures.in_range c.requires (w.each k one lt) one (omega arith)).held)
+    (λ k one lt. (start_word c.args.epoch c.args.start.now g.floor (slice_index c.in_ok-words.words.items k) k c.in_ok-words.ensures.in_range c.requires.1 (w.each k one lt) one (omega arith)).held)
 
 pub invariant_of-seat : goal.invariant_of-seat
 invariant_of-seat g c =
@@ -41,7 +41,7 @@ invariant_of-seat g c =
       floor_is = ap (λ (x : View). x.floor) v;
       words = sym (ap (λ (x : TableId). x.words) id ∙ t.0 ∙ ap length c.as_slice.ensures.value);
       slots = ap (λ (x : TableId). x.slots) id ∙ t.1;
-    } in record { stands = start_stands c.name_floor.new.place.table_id c.name_floor.new.place.me g.floor c.args.epoch c.in_ok-words.words.items c.args.start.now seat c.in_ok-words.ensures.in_range c.requires c.in_ok-words.ensures.words }
+    } in record { in_range = c.requires.0; stands = start_stands c.name_floor.new.place.table_id c.name_floor.new.place.me g.floor c.args.epoch c.in_ok-words.words.items c.args.start.now seat c.in_ok-words.ensures.in_range c.requires.1 c.in_ok-words.ensures.words }
 
 pub returns : goal.returns
 returns g c =

@@ -17,8 +17,7 @@ use std::alloc::Global;
 
 /// The first solution of the model in the order of its search tree, or none where it has none.
 pub(crate) fn solve(alloc: Global, model: &FznModel) -> Result<Option<ListOf<i64>>, NoMemory>
-    requires model { IsWellFormed model.now }
-    requires search { IsSearchOf model.now }
+    requires { IsWellFormed model.now }
     ensures { IfOk result (λ answer. IsAnswer model.now answer) }
 {
     let program = compile(alloc, model)?;

@@ -46,6 +46,21 @@ pub record LacksSolve (text : List ℕ) (items : List ItemTree) (kind at : ℕ) 
 abbrev pub HasFault : List ℕ → List ItemTree → ℕ → ℕ → Type 0
 HasFault text items kind at = IsFirstFault text items kind at ⊎ LacksSolve text items kind at
 
+-- the items have a model
+pub record HasModel (text : List ℕ) (items : List ItemTree) : Type 0 where
+  pub model : FznModel
+  pub is_model : IsModelOf text items model
+
+-- the items have a fault
+pub record IsRefused (text : List ℕ) (items : List ItemTree) : Type 0 where
+  pub kind : ℕ
+  pub at : ℕ
+  pub fault : HasFault text items kind at
+
+-- the items have a model or a fault
+abbrev pub IsRead : List ℕ → List ItemTree → Type 0
+IsRead text items = HasModel text items ⊎ IsRefused text items
+
 -- why `resolve` may answer this error; memory may be refused at any time
 abbrev pub IsCause : List ℕ → List ItemTree → ModelError → Type 0
 IsCause text items (ModelError.Fault kind at) = HasFault text items kind at

@@ -15,7 +15,9 @@ use crate::limits::{MOST_CONSTANTS, MOST_KERNELS, MOST_VARS, has_long_list};
 use crate::reads::read_item;
 use crate::scope::Scope;
 use crate::stop::Stop;
-use constraint_model::{Constraint, Goal, Output, Phase, VarDecl, add_constant, add_constants, kernel_count};
+use constraint_model::{
+    Constraint, Goal, Output, Phase, VarDecl, add_constant, add_constants, kernel_count,
+};
 use fzn_parser::tree::{Item, What};
 use indexmap::IndexSet;
 use list_of::ListOf;

@@ -6,7 +6,7 @@ ghost use Rattle.constraint_model.specs.declared.model.FznModel.{FznModel};
 ghost use Rattle.fzn_model.specs.declared.resolving.ModelError.{ModelError as Error};
 ghost use Rattle.fzn_model.specs.Drafts.{seen};
 ghost use Rattle.fzn_model.specs.Faults.{no_solve};
-ghost use Rattle.fzn_model.specs.Resolving.{IsModelOf, IsModelWith, HasFault, IsCause, stopped_at};
+ghost use Rattle.fzn_model.specs.Resolving.{IsModelOf, IsModelWith, HasFault, IsCause, IsRead, stopped_at};
 ghost use Rattle.constraint_model.specs.WellFormed.{IsWellFormed};
 
 use crate::draft::Draft;
@@ -82,8 +82,9 @@ fn finished(draft: Draft, end: usize) -> Result<FznModel, ModelError>
     }
 }
 
-/// Items have at most one model or one fault, and never both. It does nothing.
+/// Items have one model or one fault, and never both. It does nothing.
 pub fn law_one_model()
+    ensures some { (text : List ℕ) (items : List ItemTree) → IsRead text items }
     ensures one_model { (text : List ℕ) (items : List ItemTree) (m n : FznModel) → IsModelOf text items m → IsModelOf text items n → m ≡ n }
     ensures one_fault { (text : List ℕ) (items : List ItemTree) (k l at place : ℕ) → HasFault text items k at → HasFault text items l place → (k ≡ l) × (at ≡ place) }
     ensures never_both { (text : List ℕ) (items : List ItemTree) (m : FznModel) (k at : ℕ) → IsModelOf text items m → HasFault text items k at → ⊥ }

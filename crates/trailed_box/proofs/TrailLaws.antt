@@ -1,7 +1,7 @@
 -- Changes that are undone, and the boxes at marks.
 use Rattle.std.proofs.Common.{◌≡◌, ◌≢◌, ℕ, zero, suc, ◌+◌, ◌-◌, ◌<◌, ◌≤◌, List, [], ◌∷◌, ◌++◌, length, get_or, set, take, drop, map, ℤ, pos, w64, to_z, of_z, refl, sym, ◌∙◌, ap, subst, ⊎_elim, arith}
 use mir.Val.{SFits}
-use Rattle.std.specs.Prelude.{All, AllPairs, Result, Ok, Err, OnOk}
+use Rattle.std.specs.Prelude.{All, Result, Ok, Err, OnOk}
 use Rattle.std.proofs.lemmas.Bool.{cases_eq}
 use Rattle.std.proofs.lemmas.Int.{to_z-of_z}
 use Rattle.std.proofs.lemmas.List.{length-set, length-drop, length-append, length-take-le, set-set, set_comm, set-get_or, get_or-drop, get_or_append_left, get_or_push, drop-append-le, drop_all, at_drop_more, take-append-drop, map-append}
@@ -9,7 +9,7 @@ use Rattle.std.proofs.lemmas.List.Elements.{All-head, All-tail, All-push, All-ta
 use Rattle.std.proofs.lemmas.List.Quantifiers.{all_pairs_push}
 use Rattle.interval.specs.Boxes.{Bounds, low_of, high_of, put_of}
 use Rattle.trailed_box.specs.Trailed.{IsPart}
-use Rattle.trailed_box.specs.Trail.{undone, box_at, left_at, stack_of, var_at, AreOn, AreParts, Spares, Appends}
+use Rattle.trailed_box.specs.Trail.{undone, left_at, stack_of, var_at, AreOn, AreParts, Spares, Appends}
 use Rattle.trailed_box.specs.declared.trail.Change.{Change}
 use Rattle.trailed_box.specs.declared.trail.Mark.{Mark}
 
@@ -33,9 +33,9 @@ undone-hidden (x ∷ xs) b v p q =
     let after : Bounds = undone xs b in
     let rest = undone-hidden xs b v p q in
     let same : x.var ≡ v → set (set before x.var r) v q ≡ set (set after x.var r) v q =
-      λ e. ap (λ (w : ℕ). set (set before w r) v q) e ∙ set-set before v r q ∙ rest ∙ sym (set-set after v r q) ∙ sym (ap (λ (w : ℕ). set (set after w r) v q) e) in
+    λ e. ap (λ (w : ℕ). set (set before w r) v q) e ∙ set-set before v r q ∙ rest ∙ sym (set-set after v r q) ∙ sym (ap (λ (w : ℕ). set (set after w r) v q) e) in
     let other : x.var ≢ v → set (set before x.var r) v q ≡ set (set after x.var r) v q =
-      λ ne. set_comm before x.var v r q ne ∙ ap (λ (d : Bounds). set d x.var r) rest ∙ sym (set_comm after x.var v r q ne) in
+    λ ne. set_comm before x.var v r q ne ∙ ap (λ (d : Bounds). set d x.var r) rest ∙ sym (set_comm after x.var v r q ne) in
     ⊎_elim same other (cases_eq x.var v)
 
 -- where a change of the variable v is undone, it doesn't matter what v is now
@@ -52,7 +52,7 @@ unfolding undone
 undone-push xs b v earlier p =
     let q : ℤ × ℤ = (low_of b v, high_of b v) in
     undone-append xs (record { var = v; earlier = earlier; low = low_of b v; high = high_of b v } ∷ []) (set b v p)
-      ∙ ap (undone xs) (set-set b v p q ∙ set-get_or b v (pos 0, pos 0))
+    ∙ ap (undone xs) (set-set b v p q ∙ set-get_or b v (pos 0, pos 0))
 
 -- ---- a change that is noted
 
@@ -60,24 +60,24 @@ pub spares_noted : (marks : List Mark) (trail : List Change) (b : Bounds) (v fro
     → All (λ m. m.from ≤ from) marks → from ≤ place → place < length trail → var_at trail place ≡ v → Spares marks trail trail b v
 spares_noted marks trail b v from place before since there var = record {
   boxes = λ low high j d h.
-    let m : Mark = get_or marks j d in
-    let le : m.from ≤ from = before j d h in
-    let none : Change = record { var = 0; earlier = 0; low = pos 0; high = pos 0 } in
-    let sum : m.from + (place - m.from) ≡ place = omega arith in
-    let at : get_or (drop m.from trail) (place - m.from) none ≡ get_or trail place none =
+      let m : Mark = get_or marks j d in
+      let le : m.from ≤ from = before j d h in
+      let none : Change = record { var = 0; earlier = 0; low = pos 0; high = pos 0 } in
+      let sum : m.from + (place - m.from) ≡ place = omega arith in
+      let at : get_or (drop m.from trail) (place - m.from) none ≡ get_or trail place none =
       get_or-drop m.from trail (place - m.from) none ∙ ap (λ (k : ℕ). get_or trail k none) sum in
-    undone-put (drop m.from trail) (place - m.from) b v (low, high) (omega (arith, length-drop m.from trail)) (ap (λ (c : Change). c.var) at ∙ var);
+      undone-put (drop m.from trail) (place - m.from) b v (low, high) (omega (arith, length-drop m.from trail)) (ap (λ (c : Change). c.var) at ∙ var);
 }
 
 pub spares_appended : (marks : List Mark) (old new : List Change) (b : Bounds) (v : ℕ)
     → All (λ m. m.from ≤ length old) marks → Appends b v old new → Spares marks old new b v
 spares_appended marks old new b v within appends = record {
   boxes = λ low high j d h.
-    let m : Mark = get_or marks j d in
-    let c : Change = record { var = v; earlier = appends.0; low = low_of b v; high = high_of b v } in
-    let le : m.from ≤ length old = within j d h in
-    let split : drop m.from new ≡ drop m.from old ++ c ∷ [] = ap (drop m.from) appends.1 ∙ drop-append-le m.from old (c ∷ []) le in
-    ap (λ (cs : List Change). undone cs (put_of b v low high)) split ∙ undone-push (drop m.from old) b v appends.0 (low, high);
+      let m : Mark = get_or marks j d in
+      let c : Change = record { var = v; earlier = appends.0; low = low_of b v; high = high_of b v } in
+      let le : m.from ≤ length old = within j d h in
+      let split : drop m.from new ≡ drop m.from old ++ c ∷ [] = ap (drop m.from) appends.1 ∙ drop-append-le m.from old (c ∷ []) le in
+      ap (λ (cs : List Change). undone cs (put_of b v low high)) split ∙ undone-push (drop m.from old) b v appends.0 (low, high);
 }
 
 -- no mark lies behind the last one
@@ -85,9 +85,9 @@ pub before_last : (trail : List Change) (marks : List Mark) (last : Mark) → Ar
 before_last trail marks last on is j d h =
     let from_is : last.from ≡ (get_or marks (length marks - 1) d).from = ap (λ (m : Mark). m.from) (is d) in
     let at_last : j ≡ length marks - 1 → (get_or marks j d).from ≤ last.from =
-      λ e. let same : (get_or marks j d).from ≡ (get_or marks (length marks - 1) d).from = ap (λ (k : ℕ). (get_or marks k d).from) e in omega arith in
+    λ e. let same : (get_or marks j d).from ≡ (get_or marks (length marks - 1) d).from = ap (λ (k : ℕ). (get_or marks k d).from) e in omega arith in
     let before : j ≢ length marks - 1 → (get_or marks j d).from ≤ last.from =
-      λ ne. let rises = on.rising j (length marks - 1) d (omega arith) (omega arith) in omega arith in
+    λ ne. let rises = on.rising j (length marks - 1) d (omega arith) (omega arith) in omega arith in
     ⊎_elim at_last before (cases_eq j (length marks - 1))
 
 -- ---- marks and parts
@@ -95,8 +95,8 @@ before_last trail marks last on is j d h =
 pub on_appended : (marks : List Mark) (old new : List Change) (b : Bounds) (v : ℕ) → AreOn old marks → Appends b v old new → AreOn new marks
 on_appended marks old new b v on appends = record {
   within = λ j d h.
-    let le = on.within j d h in
-    omega (arith, ap length appends.1, length-append {A = Change});
+      let le = on.within j d h in
+      omega (arith, ap length appends.1, length-append {A = Change});
   rising = on.rising;
 }
 
@@ -126,9 +126,9 @@ at_kept : (trail : List Change) (b : Bounds) (from n : ℕ) → n ≤ from → f
     → undone (drop n (take from trail)) (undone (drop from trail) b) ≡ undone (drop n trail) b
 at_kept trail b from n le within =
     sym (undone-append (drop n (take from trail)) (drop from trail) b)
-      ∙ ap (λ (cs : List Change). undone cs b)
-        (sym (drop-append-le n (take from trail) (drop from trail) (omega (arith, length-take-le from trail within)))
-          ∙ ap (drop n) (take-append-drop from trail))
+    ∙ ap (λ (cs : List Change). undone cs b)
+    (sym (drop-append-le n (take from trail) (drop from trail) (omega (arith, length-take-le from trail within)))
+    ∙ ap (drop n) (take-append-drop from trail))
 
 -- what is so of marks holds without the last
 pub on_pop : (trail : List Change) (marks : List Mark) (m : Mark) → AreOn trail (marks ++ m ∷ []) → AreOn (take m.from trail) marks
@@ -136,14 +136,14 @@ on_pop trail marks m on =
     let whole = length-append marks (m ∷ []) in
     record {
       within = λ j d h.
-        let e = length-take-le m.from trail (last_within trail marks m on) in
-        let le = earlier_within trail marks m on j d h in
-        omega arith;
+          let e = length-take-le m.from trail (last_within trail marks m on) in
+          let le = earlier_within trail marks m on j d h in
+          omega arith;
       rising = λ i j d lt h.
-        let le : (get_or (marks ++ m ∷ []) i d).from ≤ (get_or (marks ++ m ∷ []) j d).from = on.rising i j d lt (omega arith) in
-        let first = get_or_append_left marks (m ∷ []) d i (omega arith) in
-        let second = get_or_append_left marks (m ∷ []) d j h in
-        omega (arith, ap (λ (n : Mark). n.from) first, ap (λ (n : Mark). n.from) second);
+          let le : (get_or (marks ++ m ∷ []) i d).from ≤ (get_or (marks ++ m ∷ []) j d).from = on.rising i j d lt (omega arith) in
+          let first = get_or_append_left marks (m ∷ []) d i (omega arith) in
+          let second = get_or_append_left marks (m ∷ []) d j h in
+          omega (arith, ap (λ (n : Mark). n.from) first, ap (λ (n : Mark). n.from) second);
     }
 
 map_same : (f g : Mark → Bounds) (marks : List Mark) → All (λ m. f m ≡ g m) marks → map f marks ≡ map g marks
@@ -159,7 +159,7 @@ pub stack_spared : (marks : List Mark) (old new : List Change) (b : Bounds) (v :
     → Spares marks old new b v → stack_of new (put_of b v low high) marks ≡ stack_of old b marks
 stack_spared marks old new b v low high spares =
     map_same (left_at new (put_of b v low high)) (left_at old b) marks
-      (λ j d h. ap (λ (a : Bounds). put_of a (get_or marks j d).part.var (get_or marks j d).part.low (get_or marks j d).part.high) (spares.boxes low high j d h))
+    (λ j d h. ap (λ (a : Bounds). put_of a (get_or marks j d).part.var (get_or marks j d).part.low (get_or marks j d).part.high) (spares.boxes low high j d h))
 
 pub at_end : (trail : List Change) (b : Bounds) (from : ℕ) → from ≡ length trail → undone (drop from trail) b ≡ b
 unfolding undone
@@ -174,12 +174,12 @@ pub stack_pop : (trail : List Change) (b : Bounds) (marks : List Mark) (m : Mark
     → stack_of trail b (marks ++ m ∷ []) ≡ stack_of (take m.from trail) (undone (drop m.from trail) b) marks ++ put_of (undone (drop m.from trail) b) m.part.var m.part.low m.part.high ∷ []
 stack_pop trail b marks m on =
     map-append (left_at trail b) marks (m ∷ [])
-      ∙ ap (λ (bs : List Bounds). bs ++ left_at trail b m ∷ [])
-        (sym (map_same (left_at (take m.from trail) (undone (drop m.from trail) b)) (left_at trail b) marks
-          (λ j d h.
-            let n : Mark = get_or marks j d in
-            ap (λ (a : Bounds). put_of a n.part.var n.part.low n.part.high)
-              (at_kept trail b m.from n.from (earlier_within trail marks m on j d h) (last_within trail marks m on)))))
+    ∙ ap (λ (bs : List Bounds). bs ++ left_at trail b m ∷ [])
+    (sym (map_same (left_at (take m.from trail) (undone (drop m.from trail) b)) (left_at trail b) marks
+    (λ j d h.
+    let n : Mark = get_or marks j d in
+    ap (λ (a : Bounds). put_of a n.part.var n.part.low n.part.high)
+    (at_kept trail b m.from n.from (earlier_within trail marks m on j d h) (last_within trail marks m on)))))
 
 -- ---- going back
 
@@ -189,7 +189,7 @@ unfolding undone
 undone_more trail b place c h is =
     let more = at_drop_more (λ (cs : List Change). undone cs b) trail place c h in
     let step : undone (get_or trail place c ∷ drop (place + 1) trail) b ≡ put_of (undone (drop (place + 1) trail) b) c.var c.low c.high =
-      ap (λ (x : Change). put_of (undone (drop (place + 1) trail) b) x.var x.low x.high) (sym is) in
+    ap (λ (x : Change). put_of (undone (drop (place + 1) trail) b) x.var x.low x.high) (sym is) in
     more ∙ step
 
 -- one change more is undone
@@ -198,7 +198,7 @@ pub undone_step : (trail : List Change) (b now : Bounds) (place : ℕ) (c : Chan
 undone_step trail b now place c above within is now_is =
     let next : place - 1 + 1 ≡ place = omega arith in
     ap (λ (d : Bounds). put_of d c.var c.low c.high) (now_is ∙ ap (λ (k : ℕ). undone (drop k trail) b) (sym next))
-      ∙ sym (undone_more trail b (place - 1) c (omega arith) is)
+    ∙ sym (undone_more trail b (place - 1) c (omega arith) is)
 
 -- the part of a mark that is taken off
 pub part_pop : (count : ℕ) (trail : List Change) (marks : List Mark) (m : Mark) → AreParts count trail (marks ++ m ∷ []) → IsPart count m.part.var m.part.low m.part.high
@@ -210,8 +210,8 @@ pub parts_pop : (count from : ℕ) (trail : List Change) (marks : List Mark) (m 
 parts_pop count from trail marks m are = record {
   changes = All-take (λ c. IsPart count c.var c.low c.high) from trail are.changes;
   parts = λ j d h.
-    let F : Mark → Type 0 = λ n. IsPart count n.part.var n.part.low n.part.high in
-    subst F (get_or_append_left marks (m ∷ []) d j h) (are.parts j d (omega (arith, length-append marks (m ∷ []))));
+      let F : Mark → Type 0 = λ n. IsPart count n.part.var n.part.low n.part.high in
+      subst F (get_or_append_left marks (m ∷ []) d j h) (are.parts j d (omega (arith, length-append marks (m ∷ []))));
 }
 
 pub parts_push : (count : ℕ) (trail : List Change) (marks : List Mark) (m : Mark) → IsPart count m.part.var m.part.low m.part.high → AreParts count trail marks → AreParts count trail (marks ++ m ∷ [])
@@ -253,8 +253,8 @@ pub stack_after_pop : (old new : List Change) (b now : Bounds) (marks rest : Lis
     → stack_of old b marks ≡ stack_of new now rest ++ put_of now m.part.var m.part.low m.part.high ∷ []
 stack_after_pop old new b now marks rest m is new_is now_is on =
     ap (stack_of old b) is ∙ stack_pop old b rest m (subst (AreOn old) is on)
-      ∙ ap (λ (a : Bounds). stack_of (take m.from old) a rest ++ put_of a m.part.var m.part.low m.part.high ∷ []) (sym now_is)
-      ∙ ap (λ (cs : List Change). stack_of cs now rest ++ put_of now m.part.var m.part.low m.part.high ∷ []) (sym new_is)
+    ∙ ap (λ (a : Bounds). stack_of (take m.from old) a rest ++ put_of a m.part.var m.part.low m.part.high ∷ []) (sym now_is)
+    ∙ ap (λ (cs : List Change). stack_of cs now rest ++ put_of now m.part.var m.part.low m.part.high ∷ []) (sym new_is)
 
 pub on_after_pop : (old new : List Change) (marks rest : List Mark) (m : Mark) → marks ≡ rest ++ m ∷ [] → new ≡ take m.from old → AreOn old marks → AreOn new rest
 on_after_pop old new marks rest m is new_is on = subst (λ (cs : List Change). AreOn cs rest) (sym new_is) (on_pop old rest m (subst (AreOn old) is on))

@@ -1,6 +1,6 @@
 -- How a box, a trail of its changes and marks in the trail stand for a box and a stack of boxes. Each box of the stack
 -- is the box as it was at a mark, with other bounds for one variable; so no box is copied.
-use Rattle.std.specs.Prelude.{◌≡◌, ℕ, ℤ, pos, ◌≤◌, ◌<◌, List, [], ◌∷◌, ◌++◌, length, map, drop, slice_index_or, All, AllPairs}
+use Rattle.std.specs.Prelude.{◌≡◌, ℕ, ℤ, pos, ◌≤◌, List, [], ◌∷◌, ◌++◌, length, map, drop, slice_index_or, All, AllPairs}
 use Rattle.interval.specs.Boxes.{Bounds, put_of, low_of, high_of}
 use Rattle.trailed_box.specs.Trailed.{IsPart}
 use Rattle.trailed_box.specs.declared.trail.Change.{Change}

@@ -6,6 +6,3 @@ mod trailed;
 
 pub use trail::Part;
 pub use trailed::TrailedBox;
-
-#[cfg(test)]
-mod tests;

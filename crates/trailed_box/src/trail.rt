@@ -104,12 +104,7 @@ fn append(
 }
 
 /// Undoes the changes from a place on, the last first.
-pub(crate) fn undo(
-    current: &mut BoxOf,
-    trail: &mut Vec<Change>,
-    last: &mut [u32],
-    from: usize,
-)
+pub(crate) fn undo(current: &mut BoxOf, trail: &mut Vec<Change>, last: &mut [u32], from: usize)
     requires place { from ≤ length trail.old.items }
     requires places { length last.old ≡ length current.old }
     requires changes { All (λ c. IsPart (length current.old) c.var c.low c.high) trail.old.items }

@@ -141,3 +141,6 @@ impl TrailedBox {
         Some(mark.part)
     }
 }
+
+#[cfg(test)]
+mod tests;

@@ -1,6 +1,6 @@
-use Rattle.std.proofs.Common.{◌≡◌, ◌≤◌, ◌<◌, ◌-◌, List, length, get_or, All, ap, sym, ◌∙◌, subst, refl}
+use Rattle.std.proofs.Common.{◌≡◌, ◌<◌, ◌-◌, List, length, get_or, subst, refl}
 use Rattle.trailed_box.specs.Trail.{var_at}
-use Rattle.trailed_box.proofs.TrailLaws.{before_last, spares_noted, spares_appended, on_appended, changes_appended, on_ok, on_ok_both}
+use Rattle.trailed_box.proofs.TrailLaws.{before_last, spares_noted, spares_appended, changes_appended, on_ok, on_ok_both}
 use Rattle.trailed_box.specs.declared.trail.Mark.{Mark}
 use Rattle.trailed_box.specs.declared.trail.Change.{Change}
 use Rattle.trailed_box.proofs.trail.note.Goals as goal
@@ -23,5 +23,5 @@ returns-clause-spared c =
 pub returns-clause-changes : goal.returns-clause-changes
 returns-clause-changes c =
     on_ok_both c.append.result
-      (λ part ok. changes_appended (length c.args.current.now) c.args.trail.now.items c.append.new.trail.items c.args.current.now c.args.v part ok c.requires.changes)
-      c.append.ensures.part c.append.ensures.ok
+    (λ part ok. changes_appended (length c.args.current.now) c.args.trail.now.items c.append.new.trail.items c.args.current.now c.args.v part ok c.requires.changes)
+    c.append.ensures.part c.append.ensures.ok

@@ -1,7 +1,6 @@
-use Rattle.std.proofs.Common.{◌≡◌, ◌≤◌, ◌<◌, ◌-◌, ◌+◌, length, get_or, drop, All, w64, refl, sym, ap, ◌∙◌, arith}
+use Rattle.std.proofs.Common.{◌-◌, length, drop, w64, sym, ap, ◌∙◌, arith}
 use Rattle.std.proofs.lemmas.Int.{ints}
 use Rattle.interval.specs.Limits.{bound_limit, largest_number}
-use Rattle.trailed_box.specs.Trail.{undone}
 use Rattle.trailed_box.proofs.TrailLaws.{at_end, undone_step, length-undone, put_cast}
 use Rattle.trailed_box.specs.declared.trail.Change.{Change}
 use mir.Val.{SFits}

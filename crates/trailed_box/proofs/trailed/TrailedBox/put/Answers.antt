@@ -7,5 +7,5 @@ pub returns-clause-stack : goal.returns-clause-stack
 returns-clause-stack c =
     let now = c.put.ensures ∙ put_cast c.self.inside.current c.args.v c.args.low c.args.high c.ranges.low c.ranges.high in
     stack_after_put c.self.inside.marks.items c.as_slice.result.now c.self.inside.trail.items c.note.new.trail.items c.self.inside.current c.put.new.self
-      c.args.v c.args.low c.args.high c.as_slice.ensures.value now c.in_ok-note.ensures.spared
-      ∙ ap (λ (t : Trailed). t.stack) c.self.view_is
+    c.args.v c.args.low c.args.high c.as_slice.ensures.value now c.in_ok-note.ensures.spared
+    ∙ ap (λ (t : Trailed). t.stack) c.self.view_is

@@ -4,10 +4,10 @@ use Rattle.std.specs.List.{All}
 use Rattle.std.proofs.lemmas.List.Elements.{All-nil, All-cons, All-same}
 use Rattle.interval.specs.Limits.{IsBound, bound_limit, largest_number, box_limit}
 use Rattle.interval.specs.Boxes.{Bounds, IsInRange, low_of, high_of}
-use Rattle.fzn_model.specs.declared.model.Phase.{Phase}
-use Rattle.fzn_model.specs.declared.model.FznModel.{FznModel}
-use Rattle.fzn_model.specs.Searches.{last_phase}
-use Rattle.branching.specs.Selection.{IsSearchOf}
+use Rattle.constraint_model.specs.declared.model.Phase.{Phase}
+use Rattle.constraint_model.specs.declared.model.FznModel.{FznModel}
+use Rattle.constraint_model.specs.Searches.{last_phase}
+use Rattle.constraint_model.specs.Searches.{IsSearchOf}
 
 abbrev fixed_pairs : Bounds
 fixed_pairs = (pos 1, pos 1) ∷ (pos 0, pos 0) ∷ (pos 0, pos 0) ∷ (pos 0, pos 0) ∷ []

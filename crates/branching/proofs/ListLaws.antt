@@ -11,8 +11,8 @@ use Rattle.guarded_tell.specs.declared.kernel.Kernel.{Kernel}
 use Rattle.guarded_tell.specs.Words.{value_of, point_of}
 use Rattle.fixpoint_laws.specs.Changes.{TightensOne}
 use Rattle.fixpoint_laws.specs.Fixpoints.{IsClosed, IsGreatest}
-use Rattle.fzn_model.specs.declared.model.FznModel.{FznModel}
-use Rattle.branching.specs.Selection.{IsSearchOf}
+use Rattle.constraint_model.specs.declared.model.FznModel.{FznModel}
+use Rattle.constraint_model.specs.Searches.{IsSearchOf}
 use Rattle.branching.specs.Parts.{AreParts}
 use Rattle.branching.specs.Tree.{AreFixed, values_of, SolutionsIn, failed, fixed, parted, AreConstantsFixed, IsSolutionIn, AreDistinct, ListsSolutions, EachOnce}
 use Rattle.branching.proofs.TreeLaws.{parts_fit}
@@ -51,15 +51,18 @@ value_at model b v h =
     let one : 1 + v ≡ suc v = omega arith in
     get_or-take (length model.vars) (drop 1 (point_of b)) v (pos 0) h ∙ get_or-drop 1 (point_of b) v (pos 0) ∙ ap (value_of (point_of b)) one ∙ low_point b (suc v)
 
-squeezed : (l h x y : ℤ) → l ≡ h → l ≤ℤ x → x ≤ℤ y → y ≤ℤ h → (x ≡ l) × (y ≡ l)
+squeezed : (l h x y : ℤ) → h ≤ℤ l → l ≤ℤ x → x ≤ℤ y → y ≤ℤ h → (x ≡ l) × (y ≡ l)
 squeezed l h x y e a b c = (omega (arith, ints), omega (arith, ints))
 
--- a proper box inside one that fixes a pair has the same pair
-same_pair : (b c : Bounds) → IsProper b → IsInside b c → (p : ℕ) → p < length c → low_of c p ≡ high_of c p → (low_of b p ≡ low_of c p) × (high_of b p ≡ low_of c p)
+-- a proper box inside one that leaves one number at most for a pair has the same pair
+same_pair : (b c : Bounds) → IsProper b → IsInside b c → (p : ℕ) → p < length c → high_of c p ≤ℤ low_of c p → (low_of b p ≡ low_of c p) × (high_of b p ≡ low_of c p)
 same_pair b c proper i p h e = squeezed (low_of c p) (high_of c p) (low_of b p) (high_of b p) e (i.lows p h) (proper p (let n = i.same_length in omega arith)) (i.highs p h)
 
 at_most : (x y : ℤ) → x ≡ y → x ≤ℤ y
 at_most x y e = omega (arith, ints)
+
+both : (x y : ℤ) → x ≤ℤ y → y ≤ℤ x → x ≡ y
+both x y h k = omega (arith, ints)
 
 -- two boxes with the same pairs
 equal_pairs : InsideOrder → (b c : Bounds) → length b ≡ length c → ((p : ℕ) → p < length b → (low_of b p ≡ low_of c p) × (high_of b p ≡ high_of c p)) → b ≡ c
@@ -79,15 +82,15 @@ module _ (order : InsideOrder) (tight : TightensOne) (quotient : QuotientOrder) 
     long = let n = i.same_length in let l = f.long in omega arith;
     range = order.in_range c b proper f.range i;
     constants = λ p h k. let m : p < length b = (let n = i.same_length in omega arith) in
-        let q = same_pair c b proper i p m (f.constants p m k) in q.0 ∙ sym q.1;
+        let q = same_pair c b proper i p m (f.constants p m k) in at_most (high_of c p) (low_of c p) (q.1 ∙ sym q.0);
   }
 
   -- a box that fixes the declared variables is a point
-  all_point : (g : Bounds) → AreConstantsFixed model g → AreFixed model g → IsPoint g
-  all_point g constants all zero h = constants zero h (inl refl)
-  all_point g constants all (suc v) h = elim (cases_lt v (length model.vars)) [
+  all_point : (g : Bounds) → IsProper g → AreConstantsFixed model g → AreFixed model g → IsPoint g
+  all_point g proper constants all zero h = both (low_of g 0) (high_of g 0) (proper 0 h) (constants zero h (inl refl))
+  all_point g proper constants all (suc v) h = elim (cases_lt v (length model.vars)) [
     | inl l ↦ all v l
-    | inr l ↦ constants (suc v) h (inr (omega arith))
+    | inr l ↦ both (low_of g (suc v)) (high_of g (suc v)) (proper (suc v) h) (constants (suc v) h (inr (omega arith)))
   ]
 
   -- two points in the box with the same numbers of the declared variables are the same
@@ -122,7 +125,7 @@ module _ (order : InsideOrder) (tight : TightensOne) (quotient : QuotientOrder) 
   one_solution : (b g : Bounds) → Fits b → IsGreatest g b kernels → AreFixed model g → ListsSolutions model kernels b (values_of model g ∷ [])
   one_solution b g f gr all =
       let fg = fits_part b g f gr.closed.proper gr.inside in
-      let point = all_point g fg.constants all in
+      let point = all_point g gr.closed.proper fg.constants all in
       record {
         each = λ a. (
           λ c. record { point = g; is_point = point; closed = gr.closed; inside = gr.inside; is_values = sym (contains_one (values_of model g) a c) },
@@ -137,7 +140,7 @@ module _ (order : InsideOrder) (tight : TightensOne) (quotient : QuotientOrder) 
       is_g : {a : List ℤ} → Fits g → IsPoint g → (s : Sol b a) → IsInside s.point g → s.point ≡ g
       is_g fg point s i = equal_pairs order s.point g i.same_length (λ p h.
           let m : p < length g = (let n = i.same_length in omega arith) in
-          let q = same_pair s.point g s.closed.proper i p m (point p m) in (q.0, q.1 ∙ point p m))
+          let q = same_pair s.point g s.closed.proper i p m (at_most (high_of g p) (low_of g p) (sym (point p m))) in (q.0, q.1 ∙ point p m))
 
   -- ---- a box that is parted
 

@@ -5,8 +5,8 @@ use Rattle.std.proofs.lemmas.List.{get_or-set_same}
 use Rattle.interval.specs.Boxes.{Bounds, low_of, high_of, put_of, IsInRange, IsProper, IsPoint, IsInside, InsideOrder, width_sum_of}
 use Rattle.interval.specs.Quotients.{floor_of, QuotientOrder}
 use Rattle.fixpoint_laws.specs.Changes.{IsTightening, TightensOne}
-use Rattle.fzn_model.specs.declared.model.ValSel.{ValSel}
-use Rattle.fzn_model.specs.declared.model.FznModel.{FznModel}
+use Rattle.constraint_model.specs.declared.model.ValSel.{ValSel}
+use Rattle.constraint_model.specs.declared.model.FznModel.{FznModel}
 use Rattle.branching.specs.Picks.{IsChoiceBy}
 use Rattle.branching.specs.Parts.{cut_of, cut_in, is_upper_first, lower_part, upper_part, left_of, right_of, IsBranch, IsPart, AreParts}
 

@@ -6,11 +6,12 @@ use Rattle.std.proofs.lemmas.List.{take-append-drop, drop_more, take_all}
 use Rattle.std.proofs.lemmas.List.Elements.{All-nil, All-head, All-tail, All-push, All-append, All-same, All-weaker, All-cons, All-get_or, All-more}
 use Rattle.std.proofs.lemmas.List.FromFn.{length-range_with_len, get_or-range_with_len}
 use Rattle.interval.specs.Boxes.{Bounds}
-use Rattle.fzn_model.specs.declared.model.VarSel.{VarSel}
-use Rattle.fzn_model.specs.declared.model.Phase.{Phase}
-use Rattle.fzn_model.specs.declared.model.FznModel.{FznModel}
-use Rattle.fzn_model.specs.Searches.{last_phase}
-use Rattle.branching.specs.Selection.{IsFixed, IsUnfixed, rank_in, IsChosen, IsChoice, IsSearchOf, HasUnfixed}
+use Rattle.constraint_model.specs.declared.model.VarSel.{VarSel}
+use Rattle.constraint_model.specs.declared.model.Phase.{Phase}
+use Rattle.constraint_model.specs.declared.model.FznModel.{FznModel}
+use Rattle.constraint_model.specs.Searches.{last_phase}
+use Rattle.branching.specs.Selection.{IsFixed, IsUnfixed, rank_in, IsChosen, IsChoice, HasUnfixed}
+use Rattle.constraint_model.specs.Searches.{IsSearchOf}
 use Rattle.branching.specs.Picks.{IsPick, IsChoiceBy}
 
 pub never_both : (b : Bounds) (v : ℕ) → IsFixed b v → IsUnfixed b v → ⊥

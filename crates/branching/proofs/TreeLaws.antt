@@ -10,10 +10,11 @@ use Rattle.guarded_tell.specs.declared.kernel.Kernel.{Kernel}
 use Rattle.guarded_tell.specs.Kernels.{IsKernel}
 use Rattle.fixpoint_laws.specs.Changes.{TightensOne}
 use Rattle.fixpoint_laws.specs.Fixpoints.{IsGreatest, OneFixpoint}
-use Rattle.fzn_model.specs.declared.model.VarSel.{VarSel}
-use Rattle.fzn_model.specs.declared.model.Phase.{Phase}
-use Rattle.fzn_model.specs.declared.model.FznModel.{FznModel}
-use Rattle.branching.specs.Selection.{IsFixed, IsUnfixed, rank_in, IsChosen, IsChoice, IsSearchOf}
+use Rattle.constraint_model.specs.declared.model.VarSel.{VarSel}
+use Rattle.constraint_model.specs.declared.model.Phase.{Phase}
+use Rattle.constraint_model.specs.declared.model.FznModel.{FznModel}
+use Rattle.branching.specs.Selection.{IsFixed, IsUnfixed, rank_in, IsChosen, IsChoice}
+use Rattle.constraint_model.specs.Searches.{IsSearchOf}
 use Rattle.branching.specs.Parts.{left_of, right_of, IsBranch, AreParts}
 use Rattle.branching.specs.Picks.{IsPick}
 use Rattle.branching.specs.Tree.{AreFixed, values_of, SolutionsIn, failed, fixed, parted, EveryList, BranchLaws}

@@ -4,9 +4,9 @@
 use Rattle.std.specs.Prelude.{◌≡◌, ◌⊎◌, ℕ, suc, ℤ, pos, ◌+ℤ◌, ◌-ℤ◌, ◌<◌, Bool, true, false, cond}
 use Rattle.interval.specs.Boxes.{Bounds, low_of, high_of, put_of, IsInRange, IsInside, IsProper, IsPoint, width_sum_of}
 use Rattle.interval.specs.Quotients.{floor_of}
-use Rattle.fzn_model.specs.declared.model.ValSel.{ValSel}
-use Rattle.fzn_model.specs.declared.model.Phase.{Phase}
-use Rattle.fzn_model.specs.declared.model.FznModel.{FznModel}
+use Rattle.constraint_model.specs.declared.model.ValSel.{ValSel}
+use Rattle.constraint_model.specs.declared.model.Phase.{Phase}
+use Rattle.constraint_model.specs.declared.model.FznModel.{FznModel}
 use Rattle.branching.specs.Selection.{IsChoice}
 
 -- the greatest number of the lower part: the least of all, all but the greatest, or the lower half, its end rounded down

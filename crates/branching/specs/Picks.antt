@@ -1,10 +1,10 @@
 -- What is picked of a list of variables, or of a model's phases.
 use Rattle.std.specs.Prelude.{◌≡◌, ℕ, ◌<◌, List, length, All, Option, Some, None}
 use Rattle.interval.specs.Boxes.{Bounds}
-use Rattle.fzn_model.specs.declared.model.VarSel.{VarSel}
-use Rattle.fzn_model.specs.declared.model.ValSel.{ValSel}
-use Rattle.fzn_model.specs.declared.model.Phase.{Phase}
-use Rattle.fzn_model.specs.declared.model.FznModel.{FznModel}
+use Rattle.constraint_model.specs.declared.model.VarSel.{VarSel}
+use Rattle.constraint_model.specs.declared.model.ValSel.{ValSel}
+use Rattle.constraint_model.specs.declared.model.Phase.{Phase}
+use Rattle.constraint_model.specs.declared.model.FznModel.{FznModel}
 use Rattle.branching.specs.Selection.{IsFixed, IsChosen, IsChoice}
 
 -- the chosen variable, or none where all are fixed

@@ -2,12 +2,11 @@
 -- pair 0 is the constant 1.
 --
 -- Source: the FlatZinc chapter of the MiniZinc Handbook, its search annotations.
-use Rattle.std.specs.Prelude.{◌≡◌, ℕ, suc, ℤ, pos, neg_ℤ, ◌-ℤ◌, ◌≤ℤ◌, ◌<ℤ◌, ◌<◌, List, [], ◌∷◌, ◌++◌, length, All}
+use Rattle.std.specs.Prelude.{◌≡◌, ℕ, suc, ℤ, pos, neg_ℤ, ◌-ℤ◌, ◌≤ℤ◌, ◌<ℤ◌, ◌<◌, List, ◌∷◌, ◌++◌, length, All}
 use Rattle.interval.specs.Boxes.{Bounds, low_of, high_of}
-use Rattle.fzn_model.specs.declared.model.VarSel.{VarSel}
-use Rattle.fzn_model.specs.declared.model.Phase.{Phase}
-use Rattle.fzn_model.specs.declared.model.FznModel.{FznModel}
-use Rattle.fzn_model.specs.Searches.{last_phase}
+use Rattle.constraint_model.specs.declared.model.VarSel.{VarSel}
+use Rattle.constraint_model.specs.declared.model.Phase.{Phase}
+use Rattle.constraint_model.specs.declared.model.FznModel.{FznModel}
 
 -- one number is left for the variable
 abbrev pub IsFixed : Bounds → ℕ → Type 0
@@ -46,13 +45,6 @@ pub record IsChoice (model : FznModel) (b : Bounds) (phase : Phase) (v : ℕ) : 
   pub stands : model.search ≡ before ++ phase ∷ after
   pub passed : All (λ p. All (IsFixed b) p.vars) before
   pub chosen : IsChosen phase.var_sel b phase.vars v
-
--- the phases that a model can be searched by: their variables are declared, and the last phase has all of them in order,
--- the least value first
-pub record IsSearchOf (model : FznModel) : Type 0 where
-  pub declared : All (λ p. All (λ v. v < length model.vars) p.vars) model.search
-  pub front : List Phase
-  pub last : model.search ≡ front ++ last_phase (length model.vars) ∷ []
 
 -- some declared variable isn't fixed
 pub record HasUnfixed (model : FznModel) (b : Bounds) : Type 0 where

@@ -1,14 +1,15 @@
 -- The list of solutions in a box, in the order of the search tree, and the laws of such lists.
 --
 -- Source: the FlatZinc chapter of the MiniZinc Handbook, its search annotations.
-use Rattle.std.specs.Prelude.{◌≡◌, ◌⊎◌, ◌↔◌, ℕ, ◌<◌, ℤ, List, [], ◌∷◌, ◌++◌, length, take, drop, All, Contains}
+use Rattle.std.specs.Prelude.{◌≡◌, ◌⊎◌, ◌↔◌, ℕ, ◌<◌, ℤ, ◌≤ℤ◌, List, [], ◌∷◌, ◌++◌, length, take, drop, All, Contains}
 use Rattle.interval.specs.Boxes.{Bounds, low_of, high_of, IsInRange, IsInside, IsPoint, IsProper}
 use Rattle.guarded_tell.specs.declared.kernel.Kernel.{Kernel}
 use Rattle.guarded_tell.specs.Words.{point_of}
 use Rattle.guarded_tell.specs.Kernels.{IsKernel}
 use Rattle.fixpoint_laws.specs.Fixpoints.{IsClosed, IsGreatest, Fails}
-use Rattle.fzn_model.specs.declared.model.FznModel.{FznModel}
-use Rattle.branching.specs.Selection.{IsFixed, IsSearchOf}
+use Rattle.constraint_model.specs.declared.model.FznModel.{FznModel}
+use Rattle.branching.specs.Selection.{IsFixed}
+use Rattle.constraint_model.specs.Searches.{IsSearchOf}
 use Rattle.branching.specs.Parts.{IsBranch, AreParts}
 
 -- every declared variable is fixed
@@ -52,9 +53,9 @@ EveryList = (model : FznModel) (kernels : List Kernel) (b : Bounds) → IsSearch
 
 -- ---- what is in such a list
 
--- the pairs that stand for constants are fixed: pair 0 and those behind the declared variables
+-- of each pair that stands for a constant, pair 0 and those behind the declared variables, one number is left at most
 abbrev pub AreConstantsFixed : FznModel → Bounds → Type 0
-AreConstantsFixed model b = (p : ℕ) → p < length b → (p ≡ 0) ⊎ (length model.vars < p) → low_of b p ≡ high_of b p
+AreConstantsFixed model b = (p : ℕ) → p < length b → (p ≡ 0) ⊎ (length model.vars < p) → high_of b p ≤ℤ low_of b p
 
 -- the numbers of the declared variables in a point of the box that no propagator narrows
 pub record IsSolutionIn (model : FznModel) (kernels : List Kernel) (b : Bounds) (values : List ℤ) : Type 0 where

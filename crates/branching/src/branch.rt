@@ -4,12 +4,13 @@ ghost use Rattle.std.specs.Prelude.{◌≡◌, ◌<◌, ◌+◌, ◌+ℤ◌, ◌
 ghost use Rattle.interval.specs.Limits.{IsBound};
 ghost use Rattle.interval.specs.Boxes.{low_of, high_of, IsProper};
 ghost use Rattle.interval.specs.Quotients.{floor_of};
-ghost use Rattle.branching.specs.Selection.{IsSearchOf, HasUnfixed};
+ghost use Rattle.branching.specs.Selection.{HasUnfixed};
+ghost use Rattle.constraint_model.specs.Searches.{IsSearchOf};
 ghost use Rattle.branching.specs.Parts.{cut_of, is_upper_first, left_of, right_of, IsBranch, AreParts};
 
 use crate::select::{choice, pair_of};
+use constraint_model::{FznModel, ValSel};
 use fixpoint_laws::law_tightens_one;
-use fzn_model::{FznModel, ValSel};
 use interval::{BoxOf, floor_div, law_inside_order, law_quotient_order};
 
 /// Parts the box at the variable, and in the order, that the model's search asks for.

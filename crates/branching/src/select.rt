@@ -4,11 +4,12 @@ ghost use Rattle.std.specs.Prelude.{◌≡◌, ◌+◌, ◌<◌, ℕ, List, ◌�
 ghost use Rattle.std.specs.Bool.{OnTrue, OnFalse};
 ghost use Rattle.interval.specs.Limits.{IsBound};
 ghost use Rattle.interval.specs.Boxes.{IsProper};
-ghost use Rattle.branching.specs.Selection.{IsFixed, IsUnfixed, rank_of, rank_in, IsSearchOf, HasUnfixed};
+ghost use Rattle.branching.specs.Selection.{IsFixed, IsUnfixed, rank_of, rank_in, HasUnfixed};
+ghost use Rattle.constraint_model.specs.Searches.{IsSearchOf};
 ghost use Rattle.branching.specs.Tree.{AreFixed};
 ghost use Rattle.branching.specs.Picks.{IsPick, IsChoiceBy};
 
-use fzn_model::{FznModel, ValSel, VarSel};
+use constraint_model::{FznModel, ValSel, VarSel};
 use interval::BoxOf;
 
 /// A variable to part at, and how.

@@ -2,11 +2,11 @@
 
 ghost use Rattle.std.specs.Prelude.{◌≡◌, ◌<◌, length, All, IfOk};
 ghost use Rattle.std.specs.Bool.{OnTrue};
-ghost use Rattle.fzn_model.specs.Searches.{last_phase};
-ghost use Rattle.branching.specs.Selection.{IsSearchOf};
+ghost use Rattle.constraint_model.specs.Searches.{last_phase};
+ghost use Rattle.constraint_model.specs.Searches.{IsSearchOf};
 
 use crate::{are_fixed, choose};
-use fzn_model::{FznModel, Goal, Phase, ValSel, VarDecl, VarSel};
+use constraint_model::{FznModel, Goal, Phase, ValSel, VarDecl, VarSel};
 use interval::{BoxOf, NoMemory, clamp_bound, is_crossed};
 use list_of::ListOf;
 use std::alloc::{AllocError, Global};

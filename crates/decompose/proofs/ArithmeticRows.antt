@@ -2,12 +2,12 @@
 use Rattle.std.proofs.Common.{◌≡◌, ℤ, pos, ◌*ℤ◌, unsigned_abs, false, List, [], ◌∷◌, length, refl, ap}
 use Rattle.guarded_tell.specs.declared.kernel.Kernel.{Kernel}
 use Rattle.guarded_tell.specs.Kernels.{vars_of, HasNumbers, Holds as KernelHolds}
-use Rattle.fzn_model.specs.declared.model.Term.{Term}
-use Rattle.fzn_model.specs.declared.model.VarDecl.{VarDecl}
-use Rattle.fzn_model.specs.declared.table.Letter.{Letter}
-use Rattle.fzn_model.specs.declared.table.ConstraintName.{ConstraintName}
-use Rattle.fzn_model.specs.Fits.{kernels_of}
-use Rattle.fzn_model.specs.Relations.{value, HoldsOn}
+use Rattle.constraint_model.specs.declared.model.Term.{Term}
+use Rattle.constraint_model.specs.declared.model.VarDecl.{VarDecl}
+use Rattle.constraint_model.specs.declared.table.Letter.{Letter}
+use Rattle.constraint_model.specs.declared.table.ConstraintName.{ConstraintName}
+use Rattle.constraint_model.specs.Fits.{kernels_of}
+use Rattle.constraint_model.specs.Relations.{value, HoldsOn}
 use Rattle.decompose.specs.Kernels.{variable_of, variables_of, row_of}
 use Rattle.decompose.proofs.Means.{HasVariable, MeansOne, size_of}
 use Rattle.decompose.proofs.Served.{Law}

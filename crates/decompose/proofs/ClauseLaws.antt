@@ -4,7 +4,7 @@ use Rattle.std.proofs.lemmas.Simd.{map-map}
 use Rattle.std.proofs.lemmas.List.{map-append}
 use Rattle.guarded_tell.specs.declared.tell.Lit.{Lit}
 use Rattle.guarded_tell.specs.declared.kernel.Kernel.{Kernel}
-use Rattle.fzn_model.specs.declared.model.Term.{Term}
+use Rattle.constraint_model.specs.declared.model.Term.{Term}
 use Rattle.decompose.specs.Kernels.{negated, some_of}
 
 abbrev pub implied : Lit → Lit → Kernel

@@ -13,15 +13,15 @@ use Rattle.guarded_tell.specs.declared.kernel.Kernel.{Kernel}
 use Rattle.guarded_tell.specs.Words.{value_of, literal_true, sign_true}
 use Rattle.guarded_tell.specs.Clause.{clause_vars, literal_limit}
 use Rattle.guarded_tell.specs.Kernels.{vars_of, HasNumbers, IsKernel, Holds as KernelHolds}
-use Rattle.fzn_model.specs.declared.model.Term.{Term}
-use Rattle.fzn_model.specs.declared.model.VarDecl.{VarDecl}
-use Rattle.fzn_model.specs.declared.scope.Scalar.{Scalar}
-use Rattle.fzn_model.specs.declared.scope.Meaning.{Meaning}
-use Rattle.fzn_model.specs.declared.table.ConstraintName.{ConstraintName}
-use Rattle.fzn_model.specs.declared.table.Letter.{Letter}
-use Rattle.fzn_model.specs.Faults.{most_entries}
-use Rattle.fzn_model.specs.Fits.{kernels_of}
-use Rattle.fzn_model.specs.Relations.{value, HoldsOn, IsWithin, IsTrueNumber, IsConjunction, IsDisjunction, IsClause}
+use Rattle.constraint_model.specs.declared.model.Term.{Term}
+use Rattle.constraint_model.specs.declared.model.VarDecl.{VarDecl}
+use Rattle.constraint_model.specs.declared.meanings.Scalar.{Scalar}
+use Rattle.constraint_model.specs.declared.meanings.Meaning.{Meaning}
+use Rattle.constraint_model.specs.declared.table.ConstraintName.{ConstraintName}
+use Rattle.constraint_model.specs.declared.table.Letter.{Letter}
+use Rattle.constraint_model.specs.Limits.{most_entries}
+use Rattle.constraint_model.specs.Fits.{kernels_of}
+use Rattle.constraint_model.specs.Relations.{value, HoldsOn, IsWithin, IsTrueNumber, IsConjunction, IsDisjunction, IsClause}
 use Rattle.decompose.specs.Program.{with_constants}
 use Rattle.decompose.specs.Kernels.{row_of, variable_of, literal_of, opposite_of, negated, some_of, conjunction, disjunction, clause_literals}
 use Rattle.decompose.proofs.Means.{size_of, HasVariable, MeansOne, RowMeans}

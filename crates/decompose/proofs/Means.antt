@@ -4,14 +4,14 @@ use Rattle.std.specs.List.{All, list_any}
 use Rattle.std.specs.Ordering.{int_eq}
 use Rattle.guarded_tell.specs.declared.kernel.Kernel.{Kernel}
 use Rattle.guarded_tell.specs.Kernels.{IsKernel, Holds as KernelHolds}
-use Rattle.fzn_model.specs.declared.model.Term.{Term}
-use Rattle.fzn_model.specs.declared.model.VarDecl.{VarDecl}
-use Rattle.fzn_model.specs.declared.model.Constraint.{Constraint}
-use Rattle.fzn_model.specs.declared.scope.Meaning.{Meaning}
-use Rattle.fzn_model.specs.declared.table.ConstraintName.{ConstraintName}
-use Rattle.fzn_model.specs.Fits.{constants_in, kernels_of, constraint_on}
-use Rattle.fzn_model.specs.Relations.{Holds, IsWithin}
-use Rattle.fzn_model.specs.WellFormed.{IsDeclaration}
+use Rattle.constraint_model.specs.declared.model.Term.{Term}
+use Rattle.constraint_model.specs.declared.model.VarDecl.{VarDecl}
+use Rattle.constraint_model.specs.declared.model.Constraint.{Constraint}
+use Rattle.constraint_model.specs.declared.meanings.Meaning.{Meaning}
+use Rattle.constraint_model.specs.declared.table.ConstraintName.{ConstraintName}
+use Rattle.constraint_model.specs.Fits.{constants_in, kernels_of, constraint_on}
+use Rattle.constraint_model.specs.Relations.{Holds, IsWithin}
+use Rattle.constraint_model.specs.WellFormed.{IsDeclaration}
 use Rattle.decompose.specs.Places.{AreFew}
 use Rattle.decompose.specs.Program.{with_constants}
 use Rattle.decompose.specs.Kernels.{kernels_on}

@@ -9,16 +9,16 @@ use Rattle.interval.specs.Limits.{IsNumber, largest_number}
 use Rattle.guarded_tell.specs.declared.kernel.Kernel.{Kernel}
 use Rattle.guarded_tell.specs.Words.{value_of, sign_true, AreVariables}
 use Rattle.guarded_tell.specs.Kernels.{IsKernel, Holds as KernelHolds}
-use Rattle.fzn_model.specs.declared.model.Term.{Term}
-use Rattle.fzn_model.specs.declared.model.VarDecl.{VarDecl}
-use Rattle.fzn_model.specs.declared.model.Constraint.{Constraint}
-use Rattle.fzn_model.specs.declared.scope.Scalar.{Scalar}
-use Rattle.fzn_model.specs.declared.scope.Meaning.{Meaning}
-use Rattle.fzn_model.specs.declared.table.Letter.{Letter}
-use Rattle.fzn_model.specs.declared.table.ConstraintName.{ConstraintName}
-use Rattle.fzn_model.specs.Fits.{kernels_of}
-use Rattle.fzn_model.specs.Numbers.{IsInProfile, largest}
-use Rattle.fzn_model.specs.Relations.{value, Holds, IsWithin, IsTrueNumber}
+use Rattle.constraint_model.specs.declared.model.Term.{Term}
+use Rattle.constraint_model.specs.declared.model.VarDecl.{VarDecl}
+use Rattle.constraint_model.specs.declared.model.Constraint.{Constraint}
+use Rattle.constraint_model.specs.declared.meanings.Scalar.{Scalar}
+use Rattle.constraint_model.specs.declared.meanings.Meaning.{Meaning}
+use Rattle.constraint_model.specs.declared.table.Letter.{Letter}
+use Rattle.constraint_model.specs.declared.table.ConstraintName.{ConstraintName}
+use Rattle.constraint_model.specs.Fits.{kernels_of}
+use Rattle.constraint_model.specs.Numbers.{IsInProfile, largest}
+use Rattle.constraint_model.specs.Relations.{value, Holds, IsWithin, IsTrueNumber}
 use Rattle.decompose.specs.Program.{with_constants}
 use Rattle.decompose.specs.Kernels.{variable_of, variables_of}
 use Rattle.decompose.proofs.Means.{HasVariable, Means, MeansOne, RowMeans, size_of}

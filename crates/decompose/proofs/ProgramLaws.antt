@@ -6,15 +6,15 @@ use Rattle.interval.specs.Limits.{IsNumber}
 use Rattle.interval.specs.Boxes.{Bounds, low_of, high_of, IsInRange, IsInside}
 use Rattle.guarded_tell.specs.declared.kernel.Kernel.{Kernel}
 use Rattle.guarded_tell.specs.Kernels.{IsKernel, Holds as KernelHolds}
-use Rattle.fzn_model.specs.Relations.{Holds}
-use Rattle.fzn_model.specs.declared.model.Term.{Term}
-use Rattle.fzn_model.specs.declared.model.VarDecl.{VarDecl}
-use Rattle.fzn_model.specs.declared.model.Constraint.{Constraint}
-use Rattle.fzn_model.specs.declared.model.FznModel.{FznModel}
-use Rattle.fzn_model.specs.declared.scope.Scalar.{Scalar}
-use Rattle.fzn_model.specs.declared.scope.Meaning.{Meaning}
-use Rattle.fzn_model.specs.Fits.{operand_of, LettersAreThose}
-use Rattle.fzn_model.specs.WellFormed.{IsTermOf, IsScalarOf, IsMeaningOf, IsConstraintOf, IsWellFormed, constants_of}
+use Rattle.constraint_model.specs.Relations.{Holds}
+use Rattle.constraint_model.specs.declared.model.Term.{Term}
+use Rattle.constraint_model.specs.declared.model.VarDecl.{VarDecl}
+use Rattle.constraint_model.specs.declared.model.Constraint.{Constraint}
+use Rattle.constraint_model.specs.declared.model.FznModel.{FznModel}
+use Rattle.constraint_model.specs.declared.meanings.Scalar.{Scalar}
+use Rattle.constraint_model.specs.declared.meanings.Meaning.{Meaning}
+use Rattle.constraint_model.specs.Fits.{operand_of, LettersAreThose}
+use Rattle.constraint_model.specs.WellFormed.{IsTermOf, IsScalarOf, IsMeaningOf, IsConstraintOf, IsWellFormed, constants_of}
 use Rattle.decompose.specs.declared.program.Program.{Program}
 use Rattle.decompose.specs.Kernels.{kernels_on, kernels_of}
 use Rattle.decompose.specs.Places.{AreFew, IsDeclared, HasDeclared}

@@ -6,12 +6,12 @@ use Rattle.std.proofs.lemmas.List.Sums.{sum_by-cons}
 use Rattle.std.proofs.lemmas.List.Elements.{All-nil, All-cons, All-head, All-tail, All-append}
 use Rattle.guarded_tell.specs.declared.kernel.Kernel.{Kernel}
 use Rattle.guarded_tell.specs.Kernels.{IsKernel, Holds as KernelHolds}
-use Rattle.fzn_model.specs.declared.model.VarDecl.{VarDecl}
-use Rattle.fzn_model.specs.declared.model.Constraint.{Constraint}
-use Rattle.fzn_model.specs.declared.model.FznModel.{FznModel}
-use Rattle.fzn_model.specs.Fits.{kernels_of as kernel_count, LettersAreThose}
-use Rattle.fzn_model.specs.Relations.{Holds, IsWithin}
-use Rattle.fzn_model.specs.WellFormed.{IsConstraintOf, IsWellFormed, constants_of}
+use Rattle.constraint_model.specs.declared.model.VarDecl.{VarDecl}
+use Rattle.constraint_model.specs.declared.model.Constraint.{Constraint}
+use Rattle.constraint_model.specs.declared.model.FznModel.{FznModel}
+use Rattle.constraint_model.specs.Fits.{kernels_of as kernel_count, LettersAreThose}
+use Rattle.constraint_model.specs.Relations.{Holds, IsWithin}
+use Rattle.constraint_model.specs.WellFormed.{IsConstraintOf, IsWellFormed, constants_of}
 use Rattle.decompose.specs.Program.{with_constants}
 use Rattle.decompose.specs.Kernels.{kernels_on, kernels_of}
 use Rattle.decompose.proofs.Means.{HasConstants, Means, IsGiven, size_of}

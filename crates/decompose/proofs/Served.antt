@@ -6,18 +6,18 @@ use Rattle.std.specs.Ordering.{int_eq}
 use Rattle.std.proofs.lemmas.Bool.{and_parts}
 use Rattle.std.proofs.lemmas.List.Sums.{AllPass-from_list_all}
 use Rattle.std.proofs.lemmas.List.Elements.{All-nil, All-cons, All-head, All-tail}
-use Rattle.fzn_model.specs.declared.model.Term.{Term}
-use Rattle.fzn_model.specs.declared.model.VarDecl.{VarDecl}
-use Rattle.fzn_model.specs.declared.scope.Scalar.{Scalar}
-use Rattle.fzn_model.specs.declared.scope.Meaning.{Meaning}
-use Rattle.fzn_model.specs.declared.table.Letter.{Letter}
-use Rattle.fzn_model.specs.declared.table.ConstraintName.{ConstraintName}
-use Rattle.fzn_model.specs.Numbers.{IsInProfile}
-use Rattle.fzn_model.specs.Ranges.{Range}
-use Rattle.fzn_model.specs.Table.{signatures}
-use Rattle.fzn_model.specs.Fits.{fits, is_constant, is_integer, all_fit, has_equal_lengths, fits_row, row_for, operand_of, constraint_on, constant_of, constants_of_operand, constants_at, constants_in, takes_variables, LettersAreThose}
-use Rattle.fzn_model.specs.Faults.{most_entries}
-use Rattle.fzn_model.specs.WellFormed.{IsTermOf, IsScalarOf, IsMeaningOf}
+use Rattle.constraint_model.specs.declared.model.Term.{Term}
+use Rattle.constraint_model.specs.declared.model.VarDecl.{VarDecl}
+use Rattle.constraint_model.specs.declared.meanings.Scalar.{Scalar}
+use Rattle.constraint_model.specs.declared.meanings.Meaning.{Meaning}
+use Rattle.constraint_model.specs.declared.table.Letter.{Letter}
+use Rattle.constraint_model.specs.declared.table.ConstraintName.{ConstraintName}
+use Rattle.constraint_model.specs.Numbers.{IsInProfile}
+use Rattle.constraint_model.specs.Ranges.{Range}
+use Rattle.constraint_model.specs.Table.{signatures}
+use Rattle.constraint_model.specs.Fits.{fits, is_constant, is_integer, all_fit, has_equal_lengths, fits_row, row_for, operand_of, constraint_on, constant_of, constants_of_operand, constants_at, constants_in, takes_variables, LettersAreThose}
+use Rattle.constraint_model.specs.Limits.{most_entries}
+use Rattle.constraint_model.specs.WellFormed.{IsTermOf, IsScalarOf, IsMeaningOf}
 use Rattle.decompose.proofs.Means.{IsAmong, HasVariable, HasConstants, RowMeans}
 use Rattle.decompose.proofs.ConstantLaws.{among_more, among_after, constant_here}
 

@@ -11,18 +11,18 @@ use Rattle.guarded_tell.specs.declared.kernel.Kernel.{Kernel}
 use Rattle.guarded_tell.specs.Words.{value_of, literal_true}
 use Rattle.guarded_tell.specs.InSet.{IsSet, range_limit}
 use Rattle.guarded_tell.specs.Kernels.{vars_of, HasNumbers, Holds as KernelHolds}
-use Rattle.fzn_model.specs.declared.model.Term.{Term}
-use Rattle.fzn_model.specs.declared.model.VarDecl.{VarDecl}
-use Rattle.fzn_model.specs.declared.scope.Scalar.{Scalar}
-use Rattle.fzn_model.specs.declared.scope.Meaning.{Meaning}
-use Rattle.fzn_model.specs.declared.table.Letter.{Letter}
-use Rattle.fzn_model.specs.declared.table.ConstraintName.{ConstraintName}
-use Rattle.fzn_model.specs.Faults.{most_entries}
-use Rattle.fzn_model.specs.Fits.{kernels_of}
-use Rattle.fzn_model.specs.Numbers.{IsInProfile}
-use Rattle.fzn_model.specs.Ranges.{Range, IsIn, AreApart, AreApartFrom}
-use Rattle.fzn_model.specs.Relations.{value, HoldsOn, IsTrueNumber, IsWithin}
-use Rattle.fzn_model.specs.WellFormed.{IsMeaningOf}
+use Rattle.constraint_model.specs.declared.model.Term.{Term}
+use Rattle.constraint_model.specs.declared.model.VarDecl.{VarDecl}
+use Rattle.constraint_model.specs.declared.meanings.Scalar.{Scalar}
+use Rattle.constraint_model.specs.declared.meanings.Meaning.{Meaning}
+use Rattle.constraint_model.specs.declared.table.Letter.{Letter}
+use Rattle.constraint_model.specs.declared.table.ConstraintName.{ConstraintName}
+use Rattle.constraint_model.specs.Limits.{most_entries}
+use Rattle.constraint_model.specs.Fits.{kernels_of}
+use Rattle.constraint_model.specs.Numbers.{IsInProfile}
+use Rattle.constraint_model.specs.Ranges.{Range, IsIn, AreApart, AreApartFrom}
+use Rattle.constraint_model.specs.Relations.{value, HoldsOn, IsTrueNumber, IsWithin}
+use Rattle.constraint_model.specs.WellFormed.{IsMeaningOf}
 use Rattle.decompose.specs.Program.{with_constants}
 use Rattle.decompose.specs.Kernels.{variable_of, always, literal_of, row_of}
 use Rattle.decompose.proofs.Means.{HasVariable, MeansOne, RowMeans, size_of}

@@ -7,19 +7,19 @@ use Rattle.std.proofs.lemmas.List.{length-map}
 use Rattle.std.proofs.lemmas.List.Elements.{All-nil, All-cons, All-head, All-tail, All-append}
 use Rattle.interval.specs.Limits.{IsBound, IsNumber, bound_limit, largest_number, box_limit}
 use Rattle.interval.specs.Boxes.{Bounds, low_of, high_of, IsInRange, IsInside}
-use Rattle.fzn_model.specs.declared.model.Term.{Term}
-use Rattle.fzn_model.specs.declared.model.VarDecl.{VarDecl}
-use Rattle.fzn_model.specs.declared.model.Constraint.{Constraint}
-use Rattle.fzn_model.specs.declared.model.Goal.{Goal}
-use Rattle.fzn_model.specs.declared.model.FznModel.{FznModel}
-use Rattle.fzn_model.specs.declared.scope.Scalar.{Scalar}
-use Rattle.fzn_model.specs.declared.scope.Meaning.{Meaning}
-use Rattle.fzn_model.specs.declared.table.Letter.{Letter}
-use Rattle.fzn_model.specs.Numbers.{IsInProfile}
-use Rattle.fzn_model.specs.Fits.{constant_of, constants_of_operand, constants_at, constants_in, letters_of, operand_of, constraint_on, takes_variables}
-use Rattle.fzn_model.specs.Effects.{goal_constants}
-use Rattle.fzn_model.specs.Relations.{IsWithin}
-use Rattle.fzn_model.specs.WellFormed.{IsTermOf, IsScalarOf, IsMeaningOf, IsConstraintOf, IsGoalOf, IsDeclaration, IsWellFormed, constants_of}
+use Rattle.constraint_model.specs.declared.model.Term.{Term}
+use Rattle.constraint_model.specs.declared.model.VarDecl.{VarDecl}
+use Rattle.constraint_model.specs.declared.model.Constraint.{Constraint}
+use Rattle.constraint_model.specs.declared.model.Goal.{Goal}
+use Rattle.constraint_model.specs.declared.model.FznModel.{FznModel}
+use Rattle.constraint_model.specs.declared.meanings.Scalar.{Scalar}
+use Rattle.constraint_model.specs.declared.meanings.Meaning.{Meaning}
+use Rattle.constraint_model.specs.declared.table.Letter.{Letter}
+use Rattle.constraint_model.specs.Numbers.{IsInProfile}
+use Rattle.constraint_model.specs.Fits.{constant_of, constants_of_operand, constants_at, constants_in, letters_of, operand_of, constraint_on, takes_variables}
+use Rattle.constraint_model.specs.Fits.{goal_constants}
+use Rattle.constraint_model.specs.Relations.{IsWithin}
+use Rattle.constraint_model.specs.WellFormed.{IsTermOf, IsScalarOf, IsMeaningOf, IsConstraintOf, IsGoalOf, IsDeclaration, IsWellFormed, constants_of}
 use Rattle.decompose.specs.Program.{fixed_box, start_pairs, start_of, extended, Extends}
 use Rattle.decompose.proofs.OneKernel.{profile_number}
 use Rattle.decompose.proofs.Means.{IsAmong, HasConstants, size_of}

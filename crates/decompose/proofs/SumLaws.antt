@@ -14,11 +14,11 @@ use Rattle.guarded_tell.specs.declared.kernel.Kernel.{Kernel}
 use Rattle.guarded_tell.specs.Words.{value_of, literal_true}
 use Rattle.guarded_tell.specs.Linear.{sum_over, term_limit, term_value, IsLinear}
 use Rattle.guarded_tell.specs.Kernels.{IsKernel, vars_of, HasNumbers, Holds as KernelHolds}
-use Rattle.fzn_model.specs.declared.model.Term.{Term}
-use Rattle.fzn_model.specs.declared.model.VarDecl.{VarDecl}
-use Rattle.fzn_model.specs.Faults.{most_entries}
-use Rattle.fzn_model.specs.Relations.{value, dot, IsWithin, IsTrueNumber}
-use Rattle.fzn_model.specs.WellFormed.{IsDeclaration, IsTermOf}
+use Rattle.constraint_model.specs.declared.model.Term.{Term}
+use Rattle.constraint_model.specs.declared.model.VarDecl.{VarDecl}
+use Rattle.constraint_model.specs.Limits.{most_entries}
+use Rattle.constraint_model.specs.Relations.{value, dot, IsWithin, IsTrueNumber}
+use Rattle.constraint_model.specs.WellFormed.{IsDeclaration, IsTermOf}
 use Rattle.decompose.specs.Program.{with_constants}
 use Rattle.decompose.specs.Kernels.{number_of, variable_of, variables_of, always, never, literal_of, opposite_of, difference, plain_sum, sum_less_third}
 use Rattle.decompose.proofs.Means.{HasVariable, MeansOne, size_of}

@@ -4,15 +4,15 @@ use Rattle.std.specs.Prelude.{nat_eq}
 use Rattle.std.specs.List.{All}
 use Rattle.std.proofs.lemmas.Bool.{eqb-true}
 use Rattle.std.proofs.lemmas.List.{length-map}
-use Rattle.fzn_model.specs.declared.model.Term.{Term}
-use Rattle.fzn_model.specs.declared.model.VarDecl.{VarDecl}
-use Rattle.fzn_model.specs.declared.scope.Scalar.{Scalar}
-use Rattle.fzn_model.specs.declared.scope.Meaning.{Meaning}
-use Rattle.fzn_model.specs.declared.table.ConstraintName.{ConstraintName}
-use Rattle.fzn_model.specs.declared.table.Letter.{Letter}
-use Rattle.fzn_model.specs.Fits.{kernels_of, has_equal_lengths}
-use Rattle.fzn_model.specs.Relations.{HoldsOn, value, dot}
-use Rattle.fzn_model.specs.Faults.{most_entries}
+use Rattle.constraint_model.specs.declared.model.Term.{Term}
+use Rattle.constraint_model.specs.declared.model.VarDecl.{VarDecl}
+use Rattle.constraint_model.specs.declared.meanings.Scalar.{Scalar}
+use Rattle.constraint_model.specs.declared.meanings.Meaning.{Meaning}
+use Rattle.constraint_model.specs.declared.table.ConstraintName.{ConstraintName}
+use Rattle.constraint_model.specs.declared.table.Letter.{Letter}
+use Rattle.constraint_model.specs.Fits.{kernels_of, has_equal_lengths}
+use Rattle.constraint_model.specs.Relations.{HoldsOn, value, dot}
+use Rattle.constraint_model.specs.Limits.{most_entries}
 use Rattle.decompose.specs.Kernels.{row_of, number_of}
 use Rattle.decompose.proofs.Means.{RowMeans, IsGiven, HasVariable}
 use Rattle.decompose.proofs.Served.{OneIs, RowIs, AreCoefficients, IsConstant, IsRowLetter, terms_of, at_integer, at_boolean, at_constant, at_coefficients, at_row, at_three, at_four, Law}

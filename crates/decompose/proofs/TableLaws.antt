@@ -3,14 +3,14 @@ use Rattle.std.proofs.Common.{◌≡◌, ℤ, Bool, true, false, cond, List, [],
 use Rattle.std.specs.Prelude.{IsSome, find}
 use Rattle.std.specs.List.{All}
 use Rattle.std.proofs.lemmas.Bool.{and_parts}
-use Rattle.fzn_model.specs.declared.model.VarDecl.{VarDecl}
-use Rattle.fzn_model.specs.declared.model.Constraint.{Constraint}
-use Rattle.fzn_model.specs.declared.scope.Meaning.{Meaning}
-use Rattle.fzn_model.specs.declared.table.ConstraintName.{ConstraintName}
-use Rattle.fzn_model.specs.declared.table.Letter.{Letter}
-use Rattle.fzn_model.specs.Table.{signatures}
-use Rattle.fzn_model.specs.Fits.{all_fit, has_equal_lengths, fits_row, row_for, operand_of, constraint_on, constants_at, constants_in, LettersAreThose}
-use Rattle.fzn_model.specs.WellFormed.{IsMeaningOf, IsConstraintOf}
+use Rattle.constraint_model.specs.declared.model.VarDecl.{VarDecl}
+use Rattle.constraint_model.specs.declared.model.Constraint.{Constraint}
+use Rattle.constraint_model.specs.declared.meanings.Meaning.{Meaning}
+use Rattle.constraint_model.specs.declared.table.ConstraintName.{ConstraintName}
+use Rattle.constraint_model.specs.declared.table.Letter.{Letter}
+use Rattle.constraint_model.specs.Table.{signatures}
+use Rattle.constraint_model.specs.Fits.{all_fit, has_equal_lengths, fits_row, row_for, operand_of, constraint_on, constants_at, constants_in, LettersAreThose}
+use Rattle.constraint_model.specs.WellFormed.{IsMeaningOf, IsConstraintOf}
 use Rattle.decompose.specs.Kernels.{kernels_on}
 use Rattle.decompose.proofs.Means.{HasConstants, IsGiven, Means, RowMeans}
 use Rattle.decompose.proofs.Served.{AreThere, are_served, some_found, found_is, row_served, equal_lengths, Law}

@@ -1,12 +1,13 @@
 -- A small model that is worked out by hand.
 use Rattle.std.specs.Prelude.{pos, negsuc, true, false, List, [], ◌∷◌}
-use Rattle.fzn_model.specs.declared.model.Term.{Term}
-use Rattle.fzn_model.specs.declared.model.Operand.{Operand}
-use Rattle.fzn_model.specs.declared.model.VarDecl.{VarDecl}
-use Rattle.fzn_model.specs.declared.model.Constraint.{Constraint}
-use Rattle.fzn_model.specs.declared.model.Goal.{Goal}
-use Rattle.fzn_model.specs.declared.model.FznModel.{FznModel}
-use Rattle.fzn_model.specs.declared.table.ConstraintName.{ConstraintName}
+use Rattle.constraint_model.specs.declared.model.Term.{Term}
+use Rattle.constraint_model.specs.declared.model.Operand.{Operand}
+use Rattle.constraint_model.specs.declared.model.VarDecl.{VarDecl}
+use Rattle.constraint_model.specs.declared.model.Constraint.{Constraint}
+use Rattle.constraint_model.specs.declared.model.Goal.{Goal}
+use Rattle.constraint_model.specs.declared.model.FznModel.{FznModel}
+use Rattle.constraint_model.specs.declared.table.ConstraintName.{ConstraintName}
+use Rattle.constraint_model.specs.Searches.{last_phase}
 
 -- x is -3..5, b is a boolean
 abbrev pub small_x : Term
@@ -38,4 +39,4 @@ small_constraints = small_reified ∷ small_less ∷ small_sum ∷ []
 
 -- the constant 9 is to be minimized
 abbrev pub small_model : FznModel
-small_model = record { vars = small_variables; constraints = small_constraints; search = []; goal = Goal.Minimize (Term.Number (pos 9)); output = [] }
+small_model = record { vars = small_variables; constraints = small_constraints; search = last_phase 2 ∷ []; goal = Goal.Minimize (Term.Number (pos 9)); output = [] }

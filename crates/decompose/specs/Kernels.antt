@@ -5,15 +5,15 @@ use Rattle.std.specs.List.{position_or_len}
 use Rattle.std.specs.Ordering.{int_eq}
 use Rattle.guarded_tell.specs.declared.tell.Lit.{Lit}
 use Rattle.guarded_tell.specs.declared.kernel.Kernel.{Kernel}
-use Rattle.fzn_model.specs.declared.model.Term.{Term}
-use Rattle.fzn_model.specs.declared.model.Operand.{Operand}
-use Rattle.fzn_model.specs.declared.model.Operand.TheVariants.{One, Row, Set}
-use Rattle.fzn_model.specs.declared.model.Constraint.{Constraint}
-use Rattle.fzn_model.specs.declared.model.FznModel.{FznModel}
-use Rattle.fzn_model.specs.declared.table.ConstraintName.{ConstraintName}
-use Rattle.fzn_model.specs.Ranges.{Range}
-use Rattle.fzn_model.specs.Relations.{value}
-use Rattle.fzn_model.specs.WellFormed.{constants_of}
+use Rattle.constraint_model.specs.declared.model.Term.{Term}
+use Rattle.constraint_model.specs.declared.model.Operand.{Operand}
+use Rattle.constraint_model.specs.declared.model.Operand.TheVariants.{One, Row, Set}
+use Rattle.constraint_model.specs.declared.model.Constraint.{Constraint}
+use Rattle.constraint_model.specs.declared.model.FznModel.{FznModel}
+use Rattle.constraint_model.specs.declared.table.ConstraintName.{ConstraintName}
+use Rattle.constraint_model.specs.Ranges.{Range}
+use Rattle.constraint_model.specs.Relations.{value}
+use Rattle.constraint_model.specs.WellFormed.{constants_of}
 
 -- ---- variables and literals, in a program of so many declared variables and with these constants
 

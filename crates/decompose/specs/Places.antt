@@ -1,9 +1,9 @@
 -- What the variables of a program are numbered for: few declared variables and constants, and terms that are among them.
 use Rattle.std.specs.Prelude.{ℕ, ℤ, ◌<◌, ◌≤◌, List, length}
 use Rattle.std.specs.List.{All}
-use Rattle.fzn_model.specs.declared.model.Term.{Term}
-use Rattle.fzn_model.specs.declared.model.Operand.{Operand}
-use Rattle.fzn_model.specs.Faults.{most_vars, most_constants}
+use Rattle.constraint_model.specs.declared.model.Term.{Term}
+use Rattle.constraint_model.specs.declared.model.Operand.{Operand}
+use Rattle.constraint_model.specs.Limits.{most_vars, most_constants}
 
 -- so few declared variables and constants that each has a number
 pub record AreFew (count : ℕ) (constants : List ℤ) : Type 0 where

@@ -6,11 +6,11 @@ use Rattle.std.specs.Prelude.{◌≡◌, ◌↔◌, ℕ, ◌<◌, ℤ, pos, List
 use Rattle.interval.specs.Limits.{IsNumber}
 use Rattle.interval.specs.Boxes.{Bounds, low_of, high_of, IsInRange, IsInside}
 use Rattle.guarded_tell.specs.Kernels.{IsKernel, Holds as KernelHolds}
-use Rattle.fzn_model.specs.declared.model.VarDecl.{VarDecl}
-use Rattle.fzn_model.specs.declared.model.FznModel.{FznModel}
-use Rattle.fzn_model.specs.Fits.{kernels_of as kernel_count}
-use Rattle.fzn_model.specs.Relations.{Holds, IsWithin}
-use Rattle.fzn_model.specs.WellFormed.{constants_of}
+use Rattle.constraint_model.specs.declared.model.VarDecl.{VarDecl}
+use Rattle.constraint_model.specs.declared.model.FznModel.{FznModel}
+use Rattle.constraint_model.specs.Fits.{kernels_of as kernel_count}
+use Rattle.constraint_model.specs.Relations.{Holds, IsWithin}
+use Rattle.constraint_model.specs.WellFormed.{constants_of}
 use Rattle.decompose.specs.Kernels.{kernels_of}
 use Rattle.decompose.specs.declared.program.Program.{Program}
 

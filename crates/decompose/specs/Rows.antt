@@ -2,7 +2,7 @@
 use Rattle.std.specs.Prelude.{ℕ, ℤ, pos, List, [], ◌∷◌, map, Bool}
 use Rattle.guarded_tell.specs.declared.tell.Lit.{Lit}
 use Rattle.guarded_tell.specs.declared.kernel.Kernel.{Kernel}
-use Rattle.fzn_model.specs.declared.model.Term.{Term}
+use Rattle.constraint_model.specs.declared.model.Term.{Term}
 use Rattle.decompose.specs.Kernels.{variable_of, variables_of, inequality, equation, some_of}
 use Rattle.decompose.specs.declared.sums.Relation.{Relation}
 use Rattle.decompose.specs.declared.comparisons.Comparison.{Comparison}

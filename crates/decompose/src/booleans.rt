@@ -1,13 +1,13 @@
 //! The kernels of conjunctions, disjunctions and clauses.
 
 ghost use Rattle.std.specs.Prelude.{◌≡◌, ◌++◌, [], ◌∷◌, map, not, All, IfOk, OnOk};
-ghost use Rattle.fzn_model.specs.declared.table.ConstraintName.{ConstraintName};
+ghost use Rattle.constraint_model.specs.declared.table.ConstraintName.{ConstraintName};
 ghost use Rattle.decompose.specs.Kernels.{negated, literal_of, some_of, row_of, on_three, on_row, clause_literals};
 ghost use Rattle.decompose.specs.Places.{AreFew, IsDeclared, HasDeclared};
 ghost use Rattle.decompose.specs.Rows.{literal_at, joined};
 
 use crate::places::Places;
-use fzn_model::{Operand, Term};
+use constraint_model::{Operand, Term};
 use guarded_tell::{Kernel, Lit};
 use list_of::ListOf;
 use std::alloc::{AllocError, Global};

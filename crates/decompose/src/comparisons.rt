@@ -1,14 +1,14 @@
 //! The kernels of comparisons of two terms.
 
 ghost use Rattle.std.specs.Prelude.{◌≡◌, ◌++◌, All, OnOk};
-ghost use Rattle.fzn_model.specs.declared.table.ConstraintName.{ConstraintName};
+ghost use Rattle.constraint_model.specs.declared.table.ConstraintName.{ConstraintName};
 ghost use Rattle.decompose.specs.Kernels.{on_two, on_three, row_of};
 ghost use Rattle.decompose.specs.Places.{AreFew, IsDeclared, HasDeclared};
 ghost use Rattle.decompose.specs.Rows.{literal_at, compared};
 
 use crate::places::{ALWAYS, Places};
 use crate::sums::{Relation, add_sum};
-use fzn_model::{Operand, Term};
+use constraint_model::{Operand, Term};
 use guarded_tell::{Kernel, Lit};
 use list_of::ListOf;
 use std::alloc::{AllocError, Global};

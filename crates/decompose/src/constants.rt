@@ -1,11 +1,11 @@
 //! The constants that need a variable of their own.
 
 ghost use Rattle.std.specs.Prelude.{◌≡◌, [], OnOk, IfOk, fold, flat_map};
-ghost use Rattle.fzn_model.specs.Fits.{add_once, constants_in};
-ghost use Rattle.fzn_model.specs.Effects.{goal_constants};
-ghost use Rattle.fzn_model.specs.WellFormed.{constants_of};
+ghost use Rattle.constraint_model.specs.Fits.{add_once, constants_in};
+ghost use Rattle.constraint_model.specs.Fits.{goal_constants};
+ghost use Rattle.constraint_model.specs.WellFormed.{constants_of};
 
-use fzn_model::{Constraint, FznModel, Goal, add_constant, add_constants};
+use constraint_model::{Constraint, FznModel, Goal, add_constant, add_constants};
 use indexmap::IndexSet;
 use std::alloc::{AllocError, Global};
 

@@ -7,7 +7,7 @@ ghost use Rattle.decompose.specs.Places.{IsDeclared, HasDeclared};
 use crate::kernels::kernels_of;
 use crate::places::{ALWAYS, NEVER, Places};
 use crate::sums::Relation;
-use fzn_model::{Constraint, ConstraintName as Name, Operand, Term};
+use constraint_model::{Constraint, ConstraintName as Name, Operand, Term};
 use guarded_tell::{Kernel, Lit};
 use indexmap::IndexSet;
 use list_of::ListOf;

@@ -11,7 +11,7 @@ use crate::sums::{Relation, plus, sum, sum_equal, sum_reified};
 use crate::terms::{
     Extreme, absolute, element, extreme_of_row, extreme_of_two, member, member_reified, times,
 };
-use fzn_model::{Constraint, ConstraintName as Name};
+use constraint_model::{Constraint, ConstraintName as Name};
 use guarded_tell::Kernel;
 use list_of::ListOf;
 use std::alloc::{AllocError, Global};

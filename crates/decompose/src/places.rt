@@ -3,12 +3,12 @@
 ghost use Rattle.std.specs.Prelude.{◌≡◌, ◌≤◌, ◌++◌, map, length, All, IfOk, OnOk};
 ghost use Rattle.std.specs.List.{position_or_len};
 ghost use Rattle.std.specs.Ordering.{int_eq};
-ghost use Rattle.fzn_model.specs.Faults.{most_constants};
+ghost use Rattle.constraint_model.specs.Limits.{most_constants};
 ghost use Rattle.decompose.specs.Kernels.{variable_of, variables_of};
 ghost use Rattle.decompose.specs.Places.{AreFew, IsDeclared};
 ghost use Rattle.decompose.specs.Rows.{literal_at};
 
-use fzn_model::Term;
+use constraint_model::Term;
 use guarded_tell::Lit;
 use indexmap::IndexSet;
 use list_of::ListOf;

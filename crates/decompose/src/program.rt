@@ -1,8 +1,8 @@
 //! The program of a model.
 
 ghost use Rattle.std.specs.Prelude.{◌≡◌, IfOk};
-ghost use Rattle.fzn_model.specs.declared.model.FznModel.{FznModel};
-ghost use Rattle.fzn_model.specs.WellFormed.{IsWellFormed};
+ghost use Rattle.constraint_model.specs.declared.model.FznModel.{FznModel};
+ghost use Rattle.constraint_model.specs.WellFormed.{IsWellFormed};
 ghost use Rattle.decompose.specs.declared.program.Program.{Program};
 ghost use Rattle.decompose.specs.Program.{IsProgramOf};
 
@@ -10,8 +10,8 @@ use crate::constants::constant_set;
 use crate::kernels::kernels_of;
 use crate::places::Places;
 use crate::start::start_box;
-use fzn_model::FznModel;
-use fzn_model::table::law_table;
+use constraint_model::FznModel;
+use constraint_model::law_table;
 use guarded_tell::Kernel;
 use interval::{BoxOf, NoMemory};
 use list_of::ListOf;

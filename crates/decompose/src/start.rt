@@ -4,7 +4,7 @@ ghost use Rattle.std.specs.Prelude.{◌≡◌, IfOk};
 ghost use Rattle.interval.specs.Boxes.{IsInRange};
 ghost use Rattle.decompose.specs.Program.{start_pairs};
 
-use fzn_model::VarDecl;
+use constraint_model::VarDecl;
 use interval::{BoxOf, NoMemory};
 use std::alloc::{AllocError, Global};
 

@@ -1,13 +1,13 @@
 //! The kernels of sums.
 
 ghost use Rattle.std.specs.Prelude.{◌≡◌, ◌++◌, [], ◌∷◌, map, negsuc, All, IfOk, OnOk};
-ghost use Rattle.fzn_model.specs.declared.table.ConstraintName.{ConstraintName};
+ghost use Rattle.constraint_model.specs.declared.table.ConstraintName.{ConstraintName};
 ghost use Rattle.decompose.specs.Kernels.{number_of, variables_of, on_sum, on_reified_sum, row_of};
 ghost use Rattle.decompose.specs.Places.{AreFew, IsDeclared, HasDeclared};
 ghost use Rattle.decompose.specs.Rows.{literal_at, sum_kernel};
 
 use crate::places::{ALWAYS, Places};
-use fzn_model::{Operand, Term};
+use constraint_model::{Operand, Term};
 use guarded_tell::{Kernel, Lit};
 use list_of::ListOf;
 use std::alloc::{AllocError, Global};

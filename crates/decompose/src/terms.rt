@@ -1,13 +1,13 @@
 //! The kernels of products, absolute values, extremes, entries and sets.
 
 ghost use Rattle.std.specs.Prelude.{◌≡◌, ◌++◌, [], ◌∷◌, All, OnOk};
-ghost use Rattle.fzn_model.specs.declared.table.ConstraintName.{ConstraintName};
+ghost use Rattle.constraint_model.specs.declared.table.ConstraintName.{ConstraintName};
 ghost use Rattle.decompose.specs.Kernels.{row_of, on_three, on_one_of_row, on_entry, variable_of, variables_of};
 ghost use Rattle.decompose.specs.Places.{AreFew, IsDeclared, HasDeclared};
 ghost use Rattle.decompose.specs.Rows.{extreme_kernel};
 
 use crate::places::{ALWAYS, Places};
-use fzn_model::{Operand, Term};
+use constraint_model::{Operand, Term};
 use guarded_tell::Kernel;
 use list_of::ListOf;
 use std::alloc::{AllocError, Global};

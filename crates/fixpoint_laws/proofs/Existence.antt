@@ -13,7 +13,7 @@ use Rattle.guarded_tell.specs.declared.tell.Side.{Side}
 use Rattle.guarded_tell.specs.declared.tell.Side.TheVariants.{Low, High}
 use Rattle.guarded_tell.specs.Words.{Keeps, KeepsSide, IsProperIn}
 use Rattle.guarded_tell.specs.Kernels.{vars_of, tells, IsClosedUnder, IsKernel}
-use Rattle.fixpoint_laws.specs.Fixpoints.{IsClosed, IsGreatest, Fails, OneFixpoint, KeepsPoints}
+use Rattle.fixpoint_laws.specs.Fixpoints.{IsClosed, IsGreatest, Fails, OneFixpoint}
 use Rattle.fixpoint_laws.specs.Greatest.{is_crossed_box, is_narrowed, first_narrower, or_else, first_step, after_step, narrowed_in, greatest_of, GreatestIsComputed}
 use Rattle.fixpoint_laws.specs.Rounds.{Narrows, NarrowsSide, told}
 use Rattle.fixpoint_laws.proofs.Places.{proper_in, inside_in, Monotone, TellPlace}
@@ -176,7 +176,3 @@ one_fixpoint order computed = record {
   not_both = λ start kernels g r f. f g r.closed r.inside;
   unique = λ start kernels g h r s. order.equal g h (s.greatest g r.closed r.inside) (r.greatest h s.closed s.inside);
 }
-
-pub keeps_points : KeepsPoints
-keeps_points start g point kernels r at quiet i =
-    r.greatest point (record { proper = λ v h. let e = at v h in omega (arith, ints); quiet = quiet }) i

@@ -8,4 +8,6 @@ pub mod Existence
 pub mod Running
 pub mod Widths
 pub mod Settling
+pub mod Leading
+pub mod WorkedRound
 pub mod Examples

@@ -4,7 +4,7 @@
 -- Concurrent Constraint Programming on GPU", AAAI 2022: the fixpoint of all guarded tells.)
 use Rattle.std.specs.Prelude.{List, length, ◌⊎◌, ◌≡◌}
 use Rattle.std.specs.List.{All}
-use Rattle.interval.specs.Boxes.{Bounds, IsInRange, IsInside, IsPoint, IsProper}
+use Rattle.interval.specs.Boxes.{Bounds, IsInRange, IsInside, IsProper}
 use Rattle.guarded_tell.specs.declared.kernel.Kernel.{Kernel}
 use Rattle.guarded_tell.specs.Kernels.{IsClosedUnder, IsKernel}
 
@@ -30,8 +30,3 @@ pub record OneFixpoint : Type 0 where
   pub not_both : (start : Bounds) (kernels : List Kernel) (g : Bounds) → IsGreatest g start kernels → Fails start kernels → ⊥
   pub unique : (start : Bounds) (kernels : List Kernel) (g h : Bounds) →
       IsGreatest g start kernels → IsGreatest h start kernels → g ≡ h
-
--- a point inside the start that every kernel leaves as it is, is inside the greatest closed box
-abbrev pub KeepsPoints : Type 0
-KeepsPoints = (start g point : Bounds) (kernels : List Kernel) → IsGreatest g start kernels →
-    IsPoint point → All (λ k. IsClosedUnder k point) kernels → IsInside point start → IsInside point g

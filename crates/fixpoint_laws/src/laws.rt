@@ -1,8 +1,9 @@
 //! Laws of closed boxes, as functions that do nothing.
 
 ghost use Rattle.fixpoint_laws.specs.Changes.{TightensOne};
-ghost use Rattle.fixpoint_laws.specs.Fixpoints.{OneFixpoint, KeepsPoints};
+ghost use Rattle.fixpoint_laws.specs.Fixpoints.{OneFixpoint};
 ghost use Rattle.fixpoint_laws.specs.Greatest.{GreatestIsComputed};
+ghost use Rattle.fixpoint_laws.specs.OneRound.{RoundsLead};
 
 use guarded_tell::{law_monotone, law_tell_place};
 use interval::law_inside_order;
@@ -25,12 +26,14 @@ pub fn law_greatest_is_computed()
     law_tell_place();
 }
 
-/// A point that all kernels leave as it is, is inside the greatest closed box.
-pub fn law_keeps_points()
-    ensures { KeepsPoints }
-{}
-
 /// What tighter bounds of one variable mean for a box.
 pub fn law_tightens_one()
     ensures { TightensOne }
 {}
+
+/// How lists of rounds begin and go on, and what they do to the widths of a box.
+pub fn law_rounds_lead()
+    ensures { RoundsLead }
+{
+    law_inside_order();
+}

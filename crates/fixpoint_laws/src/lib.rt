@@ -2,9 +2,11 @@
 #![tactic(auto)]
 
 mod laws;
+mod limited;
 mod settle;
 #[cfg(test)]
 mod tests;
 
-pub use laws::{law_greatest_is_computed, law_keeps_points, law_one_fixpoint, law_tightens_one};
+pub use laws::{law_greatest_is_computed, law_one_fixpoint, law_rounds_lead, law_tightens_one};
+pub use limited::Limited;
 pub use settle::{Settled, settle_alone};

@@ -19,9 +19,9 @@ use interval::{BoxOf, is_crossed, law_inside_order};
 #[derive(Clone, Copy, PartialEq, Eq, Debug)]
 pub enum Settled {
     /// The box is the greatest closed box inside the start.
-    Fixed { rounds: u64 },
+    Fixed { rounds: u128 },
     /// No closed box is inside the start. The box is crossed.
-    Failed { rounds: u64 },
+    Failed { rounds: u128 },
 }
 
 /// Joins tells into a box, and notes whether one moved it.

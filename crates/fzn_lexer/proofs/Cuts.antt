@@ -1,6 +1,7 @@
 -- Cuts of a text into its longest pieces: made one by one, and only one is possible.
-use Rattle.std.proofs.Common.{◌≡◌, ◌<◌, ◌≤◌, ◌+◌, ◌-◌, ℕ, List, [], ◌∷◌, ◌++◌, take, drop, length, refl, sym, ◌∙◌, ap, subst, arith, append_assoc, length-append, length-drop}
+use Rattle.std.proofs.Common.{◌≡◌, ◌<◌, ◌≤◌, ◌+◌, ◌-◌, ◌⊎◌, inl, inr, ℕ, zero, suc, List, [], ◌∷◌, ◌++◌, take, drop, length, refl, sym, ◌∙◌, ap, subst, arith, append_assoc, length-append, length-drop}
 use Rattle.std.specs.Prelude.{Option, Some, None, slice_range, All}
+use Rattle.std.proofs.lemmas.Bool.{cases_lt}
 use Rattle.std.proofs.lemmas.List.{append_cancel_left, append-nil, at_drop_all, drop-drop}
 use Rattle.std.proofs.lemmas.List.Elements.{All-append, All-cons}
 use Rattle.std.proofs.Math.Seq.{take-append_seam, drop-append_seam}
@@ -135,6 +136,33 @@ reads_fault text at tokens h e r =
     let l : LexFrom 0 text (drop at text) (tokens ++ []) = r.goes_on (drop at text) [] (lex_nothing at (drop at text)) in
     let stuck : IsStuck (drop at text) = none_stuck at (drop at text) e in
     record { pieces = l.pieces; cut = l.cut; inside = h; no_piece = stuck.none }
+
+-- every text has tokens or a fault
+abbrev pub Reading : List ℕ → Type 0
+Reading text = ((ts : List Token) × LexesAs text ts) ⊎ ((at : ℕ) × FaultsAt text at)
+
+reads_end : (text : List ℕ) (at : ℕ) (tokens : List Token) → at ≤ length text → longest_found Start at (drop at text) ≡ None
+    → Reads text at tokens → Reading text
+reads_end text at tokens h e r =
+    elim (cases_lt at (length text)) [
+      | inl inside ↦ inr (at, reads_fault text at tokens inside e r)
+      | inr past ↦ inl (tokens, reads_all text at tokens (omega arith) r)
+    ]
+
+-- at most `n` more pieces remain
+reads_on : (n : ℕ) (text : List ℕ) (at : ℕ) (tokens : List Token) (o : Option Found) → longest_found Start at (drop at text) ≡ o
+    → length text ≤ at + n → at ≤ length text → Reads text at tokens → Reading text
+reads_on zero text at tokens None e n h r = reads_end text at tokens h e r
+reads_on (suc m) text at tokens None e n h r = reads_end text at tokens h e r
+reads_on zero text at tokens (Some found) e n h r =
+    let within : (found.to ≤ length text) × (at < found.to) = more_within text at found e h in absurd (omega (arith, within.0, within.1))
+reads_on (suc m) text at tokens (Some found) e n h r =
+    let within : (found.to ≤ length text) × (at < found.to) = more_within text at found e h in
+    reads_on m text found.to (tokens ++ token_of found.piece at found.to) (longest_found Start found.to (drop found.to text)) refl
+    (omega (arith, within.1)) within.0 (reads_more text at tokens found e r)
+
+pub reading : (text : List ℕ) → Reading text
+reading text = reads_on (length text) text 0 [] (longest_found Start 0 text) refl (omega arith) (omega arith) (reads_nothing text)
 
 -- two longest prefixes of a text are one
 pub one_longest : (s a b : List ℕ) (p q : Piece) → IsLongest p s → IsLongest q s → s ≡ p.bytes ++ a → s ≡ q.bytes ++ b

@@ -6,7 +6,8 @@ use Rattle.std.proofs.lemmas.Bool.{cond_both, eqb-true, and_from, or_cases}
 use Rattle.std.proofs.lemmas.Grind.{flat_map-append}
 use Rattle.std.proofs.lemmas.List.{append-nil}
 use Rattle.std.proofs.lemmas.List.Folds.{list_all-append}
-use Rattle.fzn_lexer.specs.Bytes.{is_digit, is_octal_digit, is_hex_digit, is_letter, is_word_byte, is_exponent_letter, is_sign_byte, is_blank_byte, is_in_line, is_plain}
+use Rattle.std.specs.Char.{is_ascii_digit, is_ascii_hexdigit}
+use Rattle.fzn_lexer.specs.Bytes.{is_octal_digit, is_letter, is_word_byte, is_exponent_letter, is_sign_byte, is_blank_byte, is_in_line, is_plain}
 use Rattle.fzn_lexer.specs.Spelling.{IsRow, IsWord, IsMinus, IsDecimal, IsBased, IsPointed, IsExponentSign, IsScaled, is_text_part, joined, IsText, IsMark, IsBlank, IsComment, Spells}
 use Rattle.fzn_lexer.specs.Machine.{alive_if, is_lone_mark, other_step, minus_step, start_step, digits_step, zero_step, fraction_step, exponent_step, text_step, step, accepted}
 use Rattle.fzn_lexer.specs.declared.machine.State.{State}
@@ -47,7 +48,7 @@ Reached Minus s = s ≡ codes "-"
 Reached Zero s = AfterMinus (codes "0") s
 Reached Digits s = IsDecimal s
 Reached HexBase s = AfterMinus (codes "0x") s
-Reached Hex s = IsBased (codes "0x") is_hex_digit s
+Reached Hex s = IsBased (codes "0x") is_ascii_hexdigit s
 Reached OctalBase s = AfterMinus (codes "0o") s
 Reached Octal s = IsBased (codes "0o") is_octal_digit s
 Reached Point s = AtPoint s
@@ -104,13 +105,13 @@ comment_more s b w t = record {
   are_rest = all_more is_in_line w.rest b w.are_rest t;
 }
 
-decimal_more : (s : List ℕ) (b : ℕ) → IsDecimal s → is_digit b ≡ true → IsDecimal (s ++ b ∷ [])
+decimal_more : (s : List ℕ) (b : ℕ) → IsDecimal s → is_ascii_digit b ≡ true → IsDecimal (s ++ b ∷ [])
 decimal_more s b w t = record {
   minus = w.minus;
   digits = w.digits ++ b ∷ [];
   spelled = on s w.minus w.digits b w.spelled;
   is_minus = w.is_minus;
-  are_digits = row_more is_digit w.digits b w.are_digits t;
+  are_digits = row_more is_ascii_digit w.digits b w.are_digits t;
 }
 
 zero_decimal : (s : List ℕ) → AfterMinus (codes "0") s → IsDecimal s
@@ -119,7 +120,7 @@ zero_decimal s w = record {
   digits = codes "0";
   spelled = w.spelled;
   is_minus = w.is_minus;
-  are_digits = row_one is_digit 48 refl;
+  are_digits = row_one is_ascii_digit 48 refl;
 }
 
 based_first : (base : List ℕ) (test : ℕ → Bool) (s : List ℕ) (b : ℕ) → AfterMinus base s → test b ≡ true → IsBased base test (s ++ b ∷ [])
@@ -140,22 +141,22 @@ based_more base test s b w t = record {
   are_digits = row_more test w.digits b w.are_digits t;
 }
 
-pointed_first : (s : List ℕ) (b : ℕ) → AtPoint s → is_digit b ≡ true → IsPointed (s ++ b ∷ [])
+pointed_first : (s : List ℕ) (b : ℕ) → AtPoint s → is_ascii_digit b ≡ true → IsPointed (s ++ b ∷ [])
 pointed_first s b w t = record {
   whole = w.whole;
   fraction = b ∷ [];
   spelled = on s w.whole (codes ".") b w.spelled;
   is_whole = w.is_whole;
-  is_fraction = row_one is_digit b t;
+  is_fraction = row_one is_ascii_digit b t;
 }
 
-pointed_more : (s : List ℕ) (b : ℕ) → IsPointed s → is_digit b ≡ true → IsPointed (s ++ b ∷ [])
+pointed_more : (s : List ℕ) (b : ℕ) → IsPointed s → is_ascii_digit b ≡ true → IsPointed (s ++ b ∷ [])
 pointed_more s b w t = record {
   whole = w.whole;
   fraction = w.fraction ++ b ∷ [];
   spelled = on s w.whole (46 ∷ w.fraction) b w.spelled;
   is_whole = w.is_whole;
-  is_fraction = row_more is_digit w.fraction b w.is_fraction t;
+  is_fraction = row_more is_ascii_digit w.fraction b w.is_fraction t;
 }
 
 letter_reached : (s : List ℕ) (b : ℕ) → IsDecimal s ⊎ IsPointed s → is_exponent_letter b ≡ true → InExponent [] (s ++ b ∷ [])
@@ -170,7 +171,7 @@ sign_reached s b k w t = record {
   is_letter_e = w.is_letter_e;
 }
 
-scaled_first : (sign s : List ℕ) (b : ℕ) → IsExponentSign sign → InExponent sign s → is_digit b ≡ true → IsScaled (s ++ b ∷ [])
+scaled_first : (sign s : List ℕ) (b : ℕ) → IsExponentSign sign → InExponent sign s → is_ascii_digit b ≡ true → IsScaled (s ++ b ∷ [])
 scaled_first sign s b g w t = record {
   mantissa = w.mantissa;
   letter = w.letter;
@@ -180,10 +181,10 @@ scaled_first sign s b g w t = record {
   is_mantissa = w.is_mantissa;
   is_letter_e = w.is_letter_e;
   is_sign = g;
-  is_exponent = row_one is_digit b t;
+  is_exponent = row_one is_ascii_digit b t;
 }
 
-scaled_more : (s : List ℕ) (b : ℕ) → IsScaled s → is_digit b ≡ true → IsScaled (s ++ b ∷ [])
+scaled_more : (s : List ℕ) (b : ℕ) → IsScaled s → is_ascii_digit b ≡ true → IsScaled (s ++ b ∷ [])
 scaled_more s b w t = record {
   mantissa = w.mantissa;
   letter = w.letter;
@@ -193,7 +194,7 @@ scaled_more s b w t = record {
   is_mantissa = w.is_mantissa;
   is_letter_e = w.is_letter_e;
   is_sign = w.is_sign;
-  is_exponent = row_more is_digit w.exponent b w.is_exponent t;
+  is_exponent = row_more is_ascii_digit w.exponent b w.is_exponent t;
 }
 
 joined_more : (parts : List (List ℕ)) (part : List ℕ) → joined (parts ++ part ∷ []) ≡ joined parts ++ part
@@ -236,7 +237,7 @@ from_text s b w =
 
 from_digits : (s : List ℕ) (b : ℕ) → IsDecimal s → Reached (digits_step b) (s ++ b ∷ [])
 from_digits s b w =
-    cond_both (is_digit b) _ _ (λ q. Reached q (s ++ b ∷ [])) (decimal_more s b w)
+    cond_both (is_ascii_digit b) _ _ (λ q. Reached q (s ++ b ∷ [])) (decimal_more s b w)
     (λ e. cond_both (b == 46) _ _ (λ q. Reached q (s ++ b ∷ []))
     (λ f. record { whole = s; spelled = ap (λ x. s ++ x ∷ []) (eqb-true b 46 f); is_whole = w })
     (λ f. cond_both (is_exponent_letter b) _ _ (λ q. Reached q (s ++ b ∷ [])) (letter_reached s b (inl w)) (λ g. tt)))
@@ -251,22 +252,22 @@ from_zero s b w =
 
 from_fraction : (s : List ℕ) (b : ℕ) → IsPointed s → Reached (fraction_step b) (s ++ b ∷ [])
 from_fraction s b w =
-    cond_both (is_digit b) _ _ (λ q. Reached q (s ++ b ∷ [])) (pointed_more s b w)
+    cond_both (is_ascii_digit b) _ _ (λ q. Reached q (s ++ b ∷ [])) (pointed_more s b w)
     (λ e. cond_both (is_exponent_letter b) _ _ (λ q. Reached q (s ++ b ∷ [])) (letter_reached s b (inr w)) (λ g. tt))
 
 from_letter : (s : List ℕ) (b : ℕ) → InExponent [] s → Reached (exponent_step b) (s ++ b ∷ [])
 from_letter s b w =
-    cond_both (is_digit b) _ _ (λ q. Reached q (s ++ b ∷ [])) (scaled_first [] s b (inl refl) w)
+    cond_both (is_ascii_digit b) _ _ (λ q. Reached q (s ++ b ∷ [])) (scaled_first [] s b (inl refl) w)
     (λ e. cond_both (is_sign_byte b) _ _ (λ q. Reached q (s ++ b ∷ []))
     (λ f. elim (or_cases (b == 43) (b == 45) f) [ inl g ↦ inl (sign_reached s b 43 w g) | inr g ↦ inr (sign_reached s b 45 w g) ])
     (λ f. tt))
 
-from_sign : (s : List ℕ) (b : ℕ) → InExponent (codes "+") s ⊎ InExponent (codes "-") s → is_digit b ≡ true → IsScaled (s ++ b ∷ [])
+from_sign : (s : List ℕ) (b : ℕ) → InExponent (codes "+") s ⊎ InExponent (codes "-") s → is_ascii_digit b ≡ true → IsScaled (s ++ b ∷ [])
 from_sign s b (inl w) t = scaled_first (codes "+") s b (inr (inl refl)) w t
 from_sign s b (inr w) t = scaled_first (codes "-") s b (inr (inr refl)) w t
 
-first_digit : (minus : List ℕ) (b : ℕ) → IsMinus minus → is_digit b ≡ true → IsDecimal (minus ++ b ∷ [])
-first_digit minus b m t = record { minus = minus; digits = b ∷ []; spelled = refl; is_minus = m; are_digits = row_one is_digit b t }
+first_digit : (minus : List ℕ) (b : ℕ) → IsMinus minus → is_ascii_digit b ≡ true → IsDecimal (minus ++ b ∷ [])
+first_digit minus b m t = record { minus = minus; digits = b ∷ []; spelled = refl; is_minus = m; are_digits = row_one is_ascii_digit b t }
 
 first_zero : (minus : List ℕ) (b : ℕ) → IsMinus minus → (b == 48) ≡ true → AfterMinus (codes "0") (minus ++ b ∷ [])
 first_zero minus b m t = record { minus = minus; spelled = ap (λ x. minus ++ x ∷ []) (eqb-true b 48 t); is_minus = m }
@@ -274,7 +275,7 @@ first_zero minus b m t = record { minus = minus; spelled = ap (λ x. minus ++ x 
 from_minus : (b : ℕ) → Reached (minus_step b) (codes "-" ++ b ∷ [])
 from_minus b =
     cond_both (b == 48) _ _ (λ q. Reached q (codes "-" ++ b ∷ [])) (first_zero (codes "-") b (inr refl))
-    (λ e. cond_both (is_digit b) _ _ (λ q. Reached q (codes "-" ++ b ∷ [])) (first_digit (codes "-") b (inr refl)) (λ f. tt))
+    (λ e. cond_both (is_ascii_digit b) _ _ (λ q. Reached q (codes "-" ++ b ∷ [])) (first_digit (codes "-") b (inr refl)) (λ f. tt))
 
 is_byte : (b k : ℕ) → (b == k) ≡ true → b ∷ [] ≡ k ∷ []
 is_byte b k t = ap (λ x. x ∷ []) (eqb-true b k t)
@@ -333,7 +334,7 @@ from_start b =
     (λ e. cond_both (b == 45) _ _ (λ q. Reached q (b ∷ [])) (is_byte b 45)
     (λ f. cond_both (b == 34) _ _ (λ q. Reached q (b ∷ [])) (open_text b)
     (λ g. cond_both (b == 48) _ _ (λ q. Reached q (b ∷ [])) (first_zero [] b (inl refl))
-    (λ h. cond_both (is_digit b) _ _ (λ q. Reached q (b ∷ [])) (first_digit [] b (inl refl)) (λ k. from_other b)))))
+    (λ h. cond_both (is_ascii_digit b) _ _ (λ q. Reached q (b ∷ [])) (first_digit [] b (inl refl)) (λ k. from_other b)))))
 
 -- one more byte
 pub reached_more : (q : State) (s : List ℕ) (b : ℕ) → Reached q s → Reached (step q b) (s ++ b ∷ [])
@@ -343,15 +344,15 @@ reached_more InWord s b w = alive (is_word_byte b) InWord (s ++ b ∷ []) (word_
 reached_more Minus s b w = subst (λ u. Reached (minus_step b) (u ++ b ∷ [])) (sym w) (from_minus b)
 reached_more Zero s b w = from_zero s b w
 reached_more Digits s b w = from_digits s b w
-reached_more HexBase s b w = alive (is_hex_digit b) Hex (s ++ b ∷ []) (based_first (codes "0x") is_hex_digit s b w)
-reached_more Hex s b w = alive (is_hex_digit b) Hex (s ++ b ∷ []) (based_more (codes "0x") is_hex_digit s b w)
+reached_more HexBase s b w = alive (is_ascii_hexdigit b) Hex (s ++ b ∷ []) (based_first (codes "0x") is_ascii_hexdigit s b w)
+reached_more Hex s b w = alive (is_ascii_hexdigit b) Hex (s ++ b ∷ []) (based_more (codes "0x") is_ascii_hexdigit s b w)
 reached_more OctalBase s b w = alive (is_octal_digit b) Octal (s ++ b ∷ []) (based_first (codes "0o") is_octal_digit s b w)
 reached_more Octal s b w = alive (is_octal_digit b) Octal (s ++ b ∷ []) (based_more (codes "0o") is_octal_digit s b w)
-reached_more Point s b w = alive (is_digit b) Fraction (s ++ b ∷ []) (pointed_first s b w)
+reached_more Point s b w = alive (is_ascii_digit b) Fraction (s ++ b ∷ []) (pointed_first s b w)
 reached_more Fraction s b w = from_fraction s b w
 reached_more ExponentLetter s b w = from_letter s b w
-reached_more ExponentSign s b w = alive (is_digit b) Exponent (s ++ b ∷ []) (from_sign s b w)
-reached_more Exponent s b w = alive (is_digit b) Exponent (s ++ b ∷ []) (scaled_more s b w)
+reached_more ExponentSign s b w = alive (is_ascii_digit b) Exponent (s ++ b ∷ []) (from_sign s b w)
+reached_more Exponent s b w = alive (is_ascii_digit b) Exponent (s ++ b ∷ []) (scaled_more s b w)
 reached_more InText s b w = from_text s b w
 reached_more Escape s b w = alive (is_in_line b) InText (s ++ b ∷ []) (part_more (92 ∷ []) s b w)
 reached_more TextEnd s b w = tt

@@ -5,7 +5,8 @@ use Rattle.std.specs.List.{list_all}
 use Rattle.std.proofs.lemmas.Bool.{cond-true, cond-false, eqb-true, or_cases, and_parts, cases_Bool, not-true}
 use Rattle.std.proofs.lemmas.Bool.Decides.{nat_tests}
 use Rattle.std.proofs.lemmas.List.{append-nil}
-use Rattle.fzn_lexer.specs.Bytes.{is_digit, is_octal_digit, is_hex_digit, is_letter, is_word_byte, is_exponent_letter, is_blank_byte, is_in_line, is_plain}
+use Rattle.std.specs.Char.{is_ascii_digit, is_ascii_hexdigit}
+use Rattle.fzn_lexer.specs.Bytes.{is_octal_digit, is_letter, is_word_byte, is_exponent_letter, is_blank_byte, is_in_line, is_plain}
 use Rattle.fzn_lexer.specs.Spelling.{IsRow, IsWord, IsMinus, IsDecimal, IsPointed, IsExponentSign, IsScaled, is_text_part, joined, IsText, IsMark, IsBlank, IsComment, Spells}
 use Rattle.fzn_lexer.specs.Machine.{alive_if, start_step, step, accepted}
 use Rattle.fzn_lexer.specs.declared.Kind.TheVariants as kind
@@ -51,25 +52,25 @@ enters q r test h k (b ∷ bs) row =
 alive_at : (t : Bool) (q : State) → t ≡ true → alive_if t q ≡ q
 alive_at t q e = cond-true t q Dead e
 
-digit_no_letter : (b : ℕ) → is_digit b ≡ true → is_letter b ≡ false
+digit_no_letter : (b : ℕ) → is_ascii_digit b ≡ true → is_letter b ≡ false
 digit_no_letter b t = grind (arith, nat_tests)
 
-digit_not : (b k : ℕ) → is_digit b ≡ true → (k < 48) ⊎ (57 < k) → (b == k) ≡ false
+digit_not : (b k : ℕ) → is_ascii_digit b ≡ true → (k < 48) ⊎ (57 < k) → (b == k) ≡ false
 digit_not b k t h = grind (arith, nat_tests)
 
 -- a decimal number so far
 IsNumber : State → Type 0
 IsNumber q = (q ≡ Zero) ⊎ (q ≡ Digits)
 
-digits_digit : (b : ℕ) → is_digit b ≡ true → step Digits b ≡ Digits
-digits_digit b t = cond-true (is_digit b) _ _ t
+digits_digit : (b : ℕ) → is_ascii_digit b ≡ true → step Digits b ≡ Digits
+digits_digit b t = cond-true (is_ascii_digit b) _ _ t
 
-zero_digit : (b : ℕ) → is_digit b ≡ true → step Zero b ≡ Digits
+zero_digit : (b : ℕ) → is_ascii_digit b ≡ true → step Zero b ≡ Digits
 zero_digit b t =
     cond-false (b == 120) _ _ (digit_not b 120 t (inr (omega arith)))
     ∙ (cond-false (b == 111) _ _ (digit_not b 111 t (inr (omega arith))) ∙ digits_digit b t)
 
-start_digit : (b : ℕ) → is_digit b ≡ true → IsNumber (step Start b)
+start_digit : (b : ℕ) → is_ascii_digit b ≡ true → IsNumber (step Start b)
 unfolding IsNumber
 start_digit b t =
     let letter = digit_no_letter b t in
@@ -77,35 +78,35 @@ start_digit b t =
     let quote = digit_not b 34 t (inl (omega arith)) in
     let past : start_step b ≡ cond (b == 48) Zero Digits =
     cond-false (is_letter b) _ _ letter ∙ (cond-false (b == 45) _ _ minus ∙ (cond-false (b == 34) _ _ quote
-    ∙ ap (λ r. cond (b == 48) Zero r) (cond-true (is_digit b) _ _ t))) in
+    ∙ ap (λ r. cond (b == 48) Zero r) (cond-true (is_ascii_digit b) _ _ t))) in
     elim (cases_Bool (b == 48)) [
       | inl e ↦ inl (past ∙ cond-true (b == 48) _ _ e)
       | inr e ↦ inr (past ∙ cond-false (b == 48) _ _ e)
     ]
 
-minus_digit : (b : ℕ) → is_digit b ≡ true → IsNumber (step Minus b)
+minus_digit : (b : ℕ) → is_ascii_digit b ≡ true → IsNumber (step Minus b)
 unfolding IsNumber
 minus_digit b t =
     elim (cases_Bool (b == 48)) [
       | inl e ↦ inl (cond-true (b == 48) _ _ e)
-      | inr e ↦ inr (cond-false (b == 48) _ _ e ∙ cond-true (is_digit b) _ _ t)
+      | inr e ↦ inr (cond-false (b == 48) _ _ e ∙ cond-true (is_ascii_digit b) _ _ t)
     ]
 
-number_run : (q : State) → IsNumber q → (s : List ℕ) → list_all is_digit s ≡ true → IsNumber (run q s)
+number_run : (q : State) → IsNumber q → (s : List ℕ) → list_all is_ascii_digit s ≡ true → IsNumber (run q s)
 unfolding IsNumber
 number_run q w [] e = w
 number_run q (inl z) (b ∷ bs) e =
-    let parts = and_parts (is_digit b) (list_all is_digit bs) e in
-    inr (ap (λ r. run (step r b) bs) z ∙ (ap (λ r. run r bs) (zero_digit b parts.0) ∙ stays Digits is_digit digits_digit bs parts.1))
-number_run q (inr z) (b ∷ bs) e = inr (ap (λ r. run r (b ∷ bs)) z ∙ stays Digits is_digit digits_digit (b ∷ bs) e)
+    let parts = and_parts (is_ascii_digit b) (list_all is_ascii_digit bs) e in
+    inr (ap (λ r. run (step r b) bs) z ∙ (ap (λ r. run r bs) (zero_digit b parts.0) ∙ stays Digits is_ascii_digit digits_digit bs parts.1))
+number_run q (inr z) (b ∷ bs) e = inr (ap (λ r. run r (b ∷ bs)) z ∙ stays Digits is_ascii_digit digits_digit (b ∷ bs) e)
 
-digits_run : (q : State) → ((b : ℕ) → is_digit b ≡ true → IsNumber (step q b)) → (s : List ℕ) → IsRow is_digit s → IsNumber (run q s)
+digits_run : (q : State) → ((b : ℕ) → is_ascii_digit b ≡ true → IsNumber (step q b)) → (s : List ℕ) → IsRow is_ascii_digit s → IsNumber (run q s)
 digits_run q h [] row = absurd (omega (arith, row.some))
 digits_run q h (b ∷ bs) row =
-    let parts = and_parts (is_digit b) (list_all is_digit bs) row.each in
+    let parts = and_parts (is_ascii_digit b) (list_all is_ascii_digit bs) row.each in
     number_run (step q b) (h b parts.0) bs parts.1
 
-minus_run : (minus s : List ℕ) → IsMinus minus → IsRow is_digit s → IsNumber (run Start (minus ++ s))
+minus_run : (minus s : List ℕ) → IsMinus minus → IsRow is_ascii_digit s → IsNumber (run Start (minus ++ s))
 minus_run minus s (inl e) row = subst (λ u. IsNumber (run Start (u ++ s))) (sym e) (digits_run Start start_digit s row)
 minus_run minus s (inr e) row = subst (λ u. IsNumber (run Start (u ++ s))) (sym e) (digits_run Minus minus_digit s row)
 
@@ -117,9 +118,9 @@ unfolding IsNumber
 decimal_accepts q (inl e) = ap accepted e
 decimal_accepts q (inr e) = ap accepted e
 
-hex_run : (minus s : List ℕ) → IsMinus minus → IsRow is_hex_digit s → run Start (minus ++ (codes "0x" ++ s)) ≡ Hex
-hex_run minus s (inl e) row = ap (λ u. run Start (u ++ (codes "0x" ++ s))) e ∙ enters HexBase Hex is_hex_digit (λ b. alive_at (is_hex_digit b) Hex) (λ b. alive_at (is_hex_digit b) Hex) s row
-hex_run minus s (inr e) row = ap (λ u. run Start (u ++ (codes "0x" ++ s))) e ∙ enters HexBase Hex is_hex_digit (λ b. alive_at (is_hex_digit b) Hex) (λ b. alive_at (is_hex_digit b) Hex) s row
+hex_run : (minus s : List ℕ) → IsMinus minus → IsRow is_ascii_hexdigit s → run Start (minus ++ (codes "0x" ++ s)) ≡ Hex
+hex_run minus s (inl e) row = ap (λ u. run Start (u ++ (codes "0x" ++ s))) e ∙ enters HexBase Hex is_ascii_hexdigit (λ b. alive_at (is_ascii_hexdigit b) Hex) (λ b. alive_at (is_ascii_hexdigit b) Hex) s row
+hex_run minus s (inr e) row = ap (λ u. run Start (u ++ (codes "0x" ++ s))) e ∙ enters HexBase Hex is_ascii_hexdigit (λ b. alive_at (is_ascii_hexdigit b) Hex) (λ b. alive_at (is_ascii_hexdigit b) Hex) s row
 
 octal_run : (minus s : List ℕ) → IsMinus minus → IsRow is_octal_digit s → run Start (minus ++ (codes "0o" ++ s)) ≡ Octal
 octal_run minus s (inl e) row = ap (λ u. run Start (u ++ (codes "0o" ++ s))) e ∙ enters OctalBase Octal is_octal_digit (λ b. alive_at (is_octal_digit b) Octal) (λ b. alive_at (is_octal_digit b) Octal) s row
@@ -134,7 +135,7 @@ pointed_run : (s : List ℕ) → IsPointed s → run Start s ≡ Fraction
 pointed_run s w =
     ap (λ u. run Start u) w.spelled ∙ (run-append Start w.whole (46 ∷ w.fraction)
     ∙ (ap (λ r. run r w.fraction) (point_step (run Start w.whole) (decimal_run w.whole w.is_whole))
-    ∙ enters Point Fraction is_digit (λ b. alive_at (is_digit b) Fraction) (λ b t. cond-true (is_digit b) _ _ t) w.fraction w.is_fraction))
+    ∙ enters Point Fraction is_ascii_digit (λ b. alive_at (is_ascii_digit b) Fraction) (λ b t. cond-true (is_ascii_digit b) _ _ t) w.fraction w.is_fraction))
 
 letter_step_at : (q : State) (k : ℕ) → IsNumber q ⊎ (q ≡ Fraction) → (step Zero k ≡ ExponentLetter) → (step Digits k ≡ ExponentLetter) → (step Fraction k ≡ ExponentLetter) → step q k ≡ ExponentLetter
 unfolding IsNumber
@@ -153,13 +154,13 @@ mantissa_run : (s : List ℕ) → IsDecimal s ⊎ IsPointed s → IsNumber (run 
 mantissa_run s (inl w) = inl (decimal_run s w)
 mantissa_run s (inr w) = inr (pointed_run s w)
 
-exponent_digit : (b : ℕ) → is_digit b ≡ true → step Exponent b ≡ Exponent
-exponent_digit b t = alive_at (is_digit b) Exponent t
+exponent_digit : (b : ℕ) → is_ascii_digit b ≡ true → step Exponent b ≡ Exponent
+exponent_digit b t = alive_at (is_ascii_digit b) Exponent t
 
-sign_run : (sign s : List ℕ) → IsExponentSign sign → IsRow is_digit s → run ExponentLetter (sign ++ s) ≡ Exponent
-sign_run sign s (inl e) row = ap (λ u. run ExponentLetter (u ++ s)) e ∙ enters ExponentLetter Exponent is_digit (λ b t. cond-true (is_digit b) _ _ t) exponent_digit s row
-sign_run sign s (inr (inl e)) row = ap (λ u. run ExponentLetter (u ++ s)) e ∙ enters ExponentSign Exponent is_digit exponent_digit exponent_digit s row
-sign_run sign s (inr (inr e)) row = ap (λ u. run ExponentLetter (u ++ s)) e ∙ enters ExponentSign Exponent is_digit exponent_digit exponent_digit s row
+sign_run : (sign s : List ℕ) → IsExponentSign sign → IsRow is_ascii_digit s → run ExponentLetter (sign ++ s) ≡ Exponent
+sign_run sign s (inl e) row = ap (λ u. run ExponentLetter (u ++ s)) e ∙ enters ExponentLetter Exponent is_ascii_digit (λ b t. cond-true (is_ascii_digit b) _ _ t) exponent_digit s row
+sign_run sign s (inr (inl e)) row = ap (λ u. run ExponentLetter (u ++ s)) e ∙ enters ExponentSign Exponent is_ascii_digit exponent_digit exponent_digit s row
+sign_run sign s (inr (inr e)) row = ap (λ u. run ExponentLetter (u ++ s)) e ∙ enters ExponentSign Exponent is_ascii_digit exponent_digit exponent_digit s row
 
 scaled_run : (s : List ℕ) → IsScaled s → run Start s ≡ Exponent
 scaled_run s w =

@@ -1,25 +1,18 @@
--- The classes of bytes that the spellings of FlatZinc's tokens name.
+-- The classes of bytes that the spellings of FlatZinc's tokens name, beside std's.
 use Rattle.std.specs.Prelude.{ℕ, Bool, ◌==◌, ◌&&◌, ◌||◌, not, nat_le}
-
--- `0` to `9`
-abbrev pub is_digit : ℕ → Bool
-is_digit b = nat_le 48 b && nat_le b 57
+use Rattle.std.specs.Char.{is_ascii_digit, is_ascii_alphabetic}
 
 -- `0` to `7`
 abbrev pub is_octal_digit : ℕ → Bool
 is_octal_digit b = nat_le 48 b && nat_le b 55
 
--- `0` to `9`, `A` to `F`, `a` to `f`
-abbrev pub is_hex_digit : ℕ → Bool
-is_hex_digit b = is_digit b || (nat_le 65 b && nat_le b 70) || (nat_le 97 b && nat_le b 102)
-
 -- `A` to `Z`, `a` to `z`, `_`
 abbrev pub is_letter : ℕ → Bool
-is_letter b = (nat_le 65 b && nat_le b 90) || (nat_le 97 b && nat_le b 122) || (b == 95)
+is_letter b = is_ascii_alphabetic b || (b == 95)
 
 -- a letter or a digit
 abbrev pub is_word_byte : ℕ → Bool
-is_word_byte b = is_letter b || is_digit b
+is_word_byte b = is_letter b || is_ascii_digit b
 
 -- `e` or `E`
 abbrev pub is_exponent_letter : ℕ → Bool

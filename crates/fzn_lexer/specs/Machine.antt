@@ -1,6 +1,7 @@
 -- A machine over bytes that tells which pieces the bytes spell. The code follows it; the proofs tie it to the spellings.
 use Rattle.std.specs.Prelude.{ℕ, suc, Bool, ◌==◌, ◌||◌, if◌then◌else◌, List, [], ◌∷◌, Option, Some, None}
-use Rattle.fzn_lexer.specs.Bytes.{is_digit, is_octal_digit, is_hex_digit, is_letter, is_word_byte, is_exponent_letter, is_sign_byte, is_blank_byte, is_in_line}
+use Rattle.std.specs.Char.{is_ascii_digit, is_ascii_hexdigit}
+use Rattle.fzn_lexer.specs.Bytes.{is_octal_digit, is_letter, is_word_byte, is_exponent_letter, is_sign_byte, is_blank_byte, is_in_line}
 use Rattle.fzn_lexer.specs.declared.machine.Found.{Found}
 use Rattle.fzn_lexer.specs.declared.Kind.TheVariants as kind
 use Rattle.fzn_lexer.specs.declared.PieceKind.{PieceKind}
@@ -31,7 +32,7 @@ other_step b =
     else Dead))))
 
 abbrev pub minus_step : ℕ → State
-minus_step b = if b == 48 then Zero else (if is_digit b then Digits else Dead)
+minus_step b = if b == 48 then Zero else (if is_ascii_digit b then Digits else Dead)
 
 abbrev pub start_step : ℕ → State
 start_step b =
@@ -39,12 +40,12 @@ start_step b =
     else (if b == 45 then Minus
     else (if b == 34 then InText
     else (if b == 48 then Zero
-    else (if is_digit b then Digits
+    else (if is_ascii_digit b then Digits
     else other_step b))))
 
 abbrev pub digits_step : ℕ → State
 digits_step b =
-    if is_digit b then Digits
+    if is_ascii_digit b then Digits
     else (if b == 46 then Point
     else (if is_exponent_letter b then ExponentLetter
     else Dead))
@@ -53,10 +54,10 @@ abbrev pub zero_step : ℕ → State
 zero_step b = if b == 120 then HexBase else (if b == 111 then OctalBase else digits_step b)
 
 abbrev pub fraction_step : ℕ → State
-fraction_step b = if is_digit b then Fraction else (if is_exponent_letter b then ExponentLetter else Dead)
+fraction_step b = if is_ascii_digit b then Fraction else (if is_exponent_letter b then ExponentLetter else Dead)
 
 abbrev pub exponent_step : ℕ → State
-exponent_step b = if is_digit b then Exponent else (if is_sign_byte b then ExponentSign else Dead)
+exponent_step b = if is_ascii_digit b then Exponent else (if is_sign_byte b then ExponentSign else Dead)
 
 abbrev pub text_step : ℕ → State
 text_step b = if b == 34 then TextEnd else (if b == 92 then Escape else (if b == 10 then Dead else InText))
@@ -65,15 +66,15 @@ abbrev pub number_step : State → ℕ → State
 number_step Minus b = minus_step b
 number_step Zero b = zero_step b
 number_step Digits b = digits_step b
-number_step HexBase b = alive_if (is_hex_digit b) Hex
-number_step Hex b = alive_if (is_hex_digit b) Hex
+number_step HexBase b = alive_if (is_ascii_hexdigit b) Hex
+number_step Hex b = alive_if (is_ascii_hexdigit b) Hex
 number_step OctalBase b = alive_if (is_octal_digit b) Octal
 number_step Octal b = alive_if (is_octal_digit b) Octal
-number_step Point b = alive_if (is_digit b) Fraction
+number_step Point b = alive_if (is_ascii_digit b) Fraction
 number_step Fraction b = fraction_step b
 number_step ExponentLetter b = exponent_step b
-number_step ExponentSign b = alive_if (is_digit b) Exponent
-number_step Exponent b = alive_if (is_digit b) Exponent
+number_step ExponentSign b = alive_if (is_ascii_digit b) Exponent
+number_step Exponent b = alive_if (is_ascii_digit b) Exponent
 number_step _ b = Dead
 
 -- the state after one more byte

@@ -3,7 +3,8 @@
 -- `_` alone, and a string literal may have `\(` in it, with which MiniZinc begins an interpolation. Nothing is decoded.
 use Rattle.std.specs.Prelude.{◌≡◌, ◌<◌, ℕ, Bool, List, [], ◌∷◌, ◌++◌, ◌&&◌, ◌==◌, ◌⊎◌, length, IsTrue, codes, false}
 use Rattle.std.specs.List.{flat_map, list_all}
-use Rattle.fzn_lexer.specs.Bytes.{is_digit, is_octal_digit, is_hex_digit, is_letter, is_word_byte, is_exponent_letter, is_blank_byte, is_in_line, is_plain}
+use Rattle.std.specs.Char.{is_ascii_digit, is_ascii_hexdigit}
+use Rattle.fzn_lexer.specs.Bytes.{is_octal_digit, is_letter, is_word_byte, is_exponent_letter, is_blank_byte, is_in_line, is_plain}
 use Rattle.fzn_lexer.specs.declared.Kind.{Kind}
 use Rattle.fzn_lexer.specs.declared.Kind.TheVariants.{Word, Int, Float, Text, Mark}
 use Rattle.fzn_lexer.specs.declared.PieceKind.{PieceKind}
@@ -32,7 +33,7 @@ pub record IsDecimal (s : List ℕ) : Type 0 where
   pub digits : List ℕ
   pub spelled : s ≡ minus ++ digits
   pub is_minus : IsMinus minus
-  pub are_digits : IsRow is_digit digits
+  pub are_digits : IsRow is_ascii_digit digits
 
 -- `-` or nothing, then `0`, a letter that tells the base, and digits of that base
 pub record IsBased (base : List ℕ) (test : ℕ → Bool) (s : List ℕ) : Type 0 where
@@ -44,7 +45,7 @@ pub record IsBased (base : List ℕ) (test : ℕ → Bool) (s : List ℕ) : Type
 
 -- an integer literal in base 10, 16 or 8
 abbrev pub IsInt : List ℕ → Type 0
-IsInt s = IsDecimal s ⊎ (IsBased (codes "0x") is_hex_digit s ⊎ IsBased (codes "0o") is_octal_digit s)
+IsInt s = IsDecimal s ⊎ (IsBased (codes "0x") is_ascii_hexdigit s ⊎ IsBased (codes "0o") is_octal_digit s)
 
 -- decimal digits with a point inside
 pub record IsPointed (s : List ℕ) : Type 0 where
@@ -52,7 +53,7 @@ pub record IsPointed (s : List ℕ) : Type 0 where
   pub fraction : List ℕ
   pub spelled : s ≡ whole ++ (codes "." ++ fraction)
   pub is_whole : IsDecimal whole
-  pub is_fraction : IsRow is_digit fraction
+  pub is_fraction : IsRow is_ascii_digit fraction
 
 -- nothing, `+` or `-`
 abbrev pub IsExponentSign : List ℕ → Type 0
@@ -68,7 +69,7 @@ pub record IsScaled (s : List ℕ) : Type 0 where
   pub is_mantissa : IsDecimal mantissa ⊎ IsPointed mantissa
   pub is_letter_e : IsTrue (is_exponent_letter letter)
   pub is_sign : IsExponentSign sign
-  pub is_exponent : IsRow is_digit exponent
+  pub is_exponent : IsRow is_ascii_digit exponent
 
 -- a float literal
 abbrev pub IsFloat : List ℕ → Type 0

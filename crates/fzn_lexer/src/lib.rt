@@ -3,7 +3,7 @@
 
 mod machine;
 
-ghost use Rattle.std.specs.Prelude.{◌≡◌, ℕ, List, All, MatchResult, OnOk, IfErr, ◌++◌};
+ghost use Rattle.std.specs.Prelude.{◌≡◌, ℕ, List, All, MatchResult, OnOk, IfErr, ◌++◌, ◌⊎◌};
 ghost use Rattle.fzn_lexer.specs.Lexing.{LexesAs, FaultsAt, IsCause, LiesIn, RiseFrom, token_of};
 ghost use Rattle.fzn_lexer.specs.declared.Token.{Token};
 ghost use Rattle.fzn_lexer.specs.declared.LexError.TheVariants.{NoMemory};
@@ -37,7 +37,7 @@ pub struct Token {
 
 /// What a piece of a text is.
 #[derive(Clone, Copy, Debug, PartialEq, Eq)]
-pub enum PieceKind {
+pub(crate) enum PieceKind {
     /// A token of this kind.
     Token(Kind),
     /// One blank byte.
@@ -105,8 +105,9 @@ pub fn lex(alloc: Global, text: &[u8]) -> Result<Vec<Token>, LexError>
     Ok(tokens)
 }
 
-/// A text has one list of tokens or one fault, and never both.
+/// A text has one list of tokens or one fault, one of the two and never both.
 pub fn law_one_reading()
+    ensures lexes_or_faults { (text : List ℕ) → ((ts : List Token) × LexesAs text ts) ⊎ ((at : ℕ) × FaultsAt text at) }
     ensures one_list { (text : List ℕ) (ts us : List Token) → LexesAs text ts → LexesAs text us → ts ≡ us }
     ensures one_fault { (text : List ℕ) (at place : ℕ) → FaultsAt text at → FaultsAt text place → at ≡ place }
     ensures never_both { (text : List ℕ) (ts : List Token) (at : ℕ) → LexesAs text ts → FaultsAt text at → ⊥ }

@@ -43,34 +43,22 @@ pub struct Found {
     pub to: usize,
 }
 
-fn is_digit(b: u8) -> bool
-    ensures { result ≡ bytes.is_digit b }
-{
-    b'0' <= b && b <= b'9'
-}
-
 fn is_octal_digit(b: u8) -> bool
     ensures { result ≡ bytes.is_octal_digit b }
 {
-    b'0' <= b && b <= b'7'
-}
-
-fn is_hex_digit(b: u8) -> bool
-    ensures { result ≡ bytes.is_hex_digit b }
-{
-    is_digit(b) || (b'A' <= b && b <= b'F') || (b'a' <= b && b <= b'f')
+    matches!(b, b'0'..=b'7')
 }
 
 fn is_letter(b: u8) -> bool
     ensures { result ≡ bytes.is_letter b }
 {
-    (b'A' <= b && b <= b'Z') || (b'a' <= b && b <= b'z') || b == b'_'
+    b.is_ascii_alphabetic() || b == b'_'
 }
 
 fn is_word_byte(b: u8) -> bool
     ensures { result ≡ bytes.is_word_byte b }
 {
-    is_letter(b) || is_digit(b)
+    is_letter(b) || b.is_ascii_digit()
 }
 
 fn is_exponent_letter(b: u8) -> bool
@@ -134,7 +122,7 @@ fn start_step(b: u8) -> State
         State::InText
     } else if b == b'0' {
         State::Zero
-    } else if is_digit(b) {
+    } else if b.is_ascii_digit() {
         State::Digits
     } else {
         other_step(b)
@@ -146,7 +134,7 @@ fn minus_step(b: u8) -> State
 {
     if b == b'0' {
         State::Zero
-    } else if is_digit(b) {
+    } else if b.is_ascii_digit() {
         State::Digits
     } else {
         State::Dead
@@ -156,7 +144,7 @@ fn minus_step(b: u8) -> State
 fn digits_step(b: u8) -> State
     ensures { result ≡ machine.digits_step b }
 {
-    if is_digit(b) {
+    if b.is_ascii_digit() {
         State::Digits
     } else if b == b'.' {
         State::Point
@@ -182,7 +170,7 @@ fn zero_step(b: u8) -> State
 fn fraction_step(b: u8) -> State
     ensures { result ≡ machine.fraction_step b }
 {
-    if is_digit(b) {
+    if b.is_ascii_digit() {
         State::Fraction
     } else if is_exponent_letter(b) {
         State::ExponentLetter
@@ -194,7 +182,7 @@ fn fraction_step(b: u8) -> State
 fn exponent_step(b: u8) -> State
     ensures { result ≡ machine.exponent_step b }
 {
-    if is_digit(b) {
+    if b.is_ascii_digit() {
         State::Exponent
     } else if is_sign_byte(b) {
         State::ExponentSign
@@ -230,12 +218,12 @@ fn number_step(state: State, b: u8) -> State
         State::Minus => minus_step(b),
         State::Zero => zero_step(b),
         State::Digits => digits_step(b),
-        State::HexBase | State::Hex => alive_if(is_hex_digit(b), State::Hex),
+        State::HexBase | State::Hex => alive_if(b.is_ascii_hexdigit(), State::Hex),
         State::OctalBase | State::Octal => alive_if(is_octal_digit(b), State::Octal),
-        State::Point => alive_if(is_digit(b), State::Fraction),
+        State::Point => alive_if(b.is_ascii_digit(), State::Fraction),
         State::Fraction => fraction_step(b),
         State::ExponentLetter => exponent_step(b),
-        State::ExponentSign | State::Exponent => alive_if(is_digit(b), State::Exponent),
+        State::ExponentSign | State::Exponent => alive_if(b.is_ascii_digit(), State::Exponent),
         _ => State::Dead,
     }
 }

@@ -12,17 +12,19 @@ use Rattle.fzn_parser.specs.declared.tree.SetLit.{SetLit}
 use Rattle.fzn_parser.specs.declared.tree.Elem.{Elem}
 use Rattle.fzn_parser.specs.declared.tree.Expr.{Expr}
 use Rattle.fzn_parser.specs.Texts.{spelling}
-use Rattle.fzn_model.specs.declared.model.Term.{Term}
-use Rattle.fzn_model.specs.declared.model.VarDecl.{VarDecl}
-use Rattle.fzn_model.specs.declared.model.Constraint.{Constraint}
-use Rattle.fzn_model.specs.declared.scope.Scalar.{Scalar}
-use Rattle.fzn_model.specs.declared.scope.Meaning.{Meaning}
-use Rattle.fzn_model.specs.Numbers.{largest, IsInProfile, is_numeral, number_in, natural_of, number_of}
-use Rattle.fzn_model.specs.Ranges.{Range, AreApart, insert_number, rising, ranges_on, ranges_of_rising, ranges_of, range_of}
+use Rattle.constraint_model.specs.declared.model.Term.{Term}
+use Rattle.constraint_model.specs.declared.model.VarDecl.{VarDecl}
+use Rattle.constraint_model.specs.declared.model.Constraint.{Constraint}
+use Rattle.constraint_model.specs.declared.model.Output.{Output}
+use Rattle.constraint_model.specs.declared.meanings.Scalar.{Scalar}
+use Rattle.constraint_model.specs.declared.meanings.Meaning.{Meaning}
+use Rattle.constraint_model.specs.Numbers.{largest, IsInProfile}
+use Rattle.fzn_model.specs.Literals.{is_numeral, number_in, natural_of, number_of}
+use Rattle.constraint_model.specs.Ranges.{Range, AreApart, insert_number, rising, ranges_on, ranges_of_rising, ranges_of, range_of, HaveRanges, IntervalsHold}
 use Rattle.fzn_model.specs.Scopes.{Scope, meaning_of, number_at, set_at, scalar_of, entry_at, all_some, simple_at, expr_meaning, boolean, integer}
-use Rattle.fzn_model.specs.Faults.{most_entries, set_is_long, elem_is_long, expr_is_long}
-use Rattle.fzn_model.specs.WellFormed.{IsVariable, IsTermOf, IsScalarOf, IsMeaningOf, IsConstraintOf}
-use Rattle.fzn_model.proofs.RangeLaws.{have_ranges, intervals_hold}
+use Rattle.constraint_model.specs.Limits.{most_entries}
+use Rattle.fzn_model.specs.Faults.{set_is_long, elem_is_long, expr_is_long}
+use Rattle.constraint_model.specs.WellFormed.{IsVariable, IsTermOf, IsScalarOf, IsMeaningOf, IsConstraintOf, IsOutputOf}
 
 -- ---- lists and options
 
@@ -78,6 +80,11 @@ constraint_stays vars more c h = record {
   each = All-weaker (IsMeaningOf vars) (IsMeaningOf (vars ++ more)) (meaning_stays vars more) h.meanings h.each;
 }
 
+pub output_stays : (vars more : List VarDecl) (o : Output) → IsOutputOf vars o → IsOutputOf (vars ++ more) o
+output_stays vars more (Output.Scalar name is_bool value) h = term_stays vars more is_bool value h
+output_stays vars more (Output.Array name is_bool ranges entries) h =
+    (h.0, All-weaker (IsTermOf vars is_bool) (IsTermOf (vars ++ more) is_bool) (term_stays vars more is_bool) entries h.1, h.2, h.3, h.4)
+
 -- ---- numbers
 
 in_small : (base : ℕ) (s : List ℕ) → IfSome (number_in base s) (λ n. n ≤ largest)
@@ -100,7 +107,7 @@ pub opposite_in : (n : ℕ) → n ≤ largest → IsInProfile (neg_ℤ (pos n))
 opposite_in zero h = h
 opposite_in (suc n) h = h
 
-number_small : (s : List ℕ) → IfSome (number_of s) IsInProfile
+pub number_small : (s : List ℕ) → IfSome (number_of s) IsInProfile
 unfolding number_of
 number_small s = chosen IsInProfile (starts_with_minus s) (option_map (λ n. neg_ℤ (pos n)) (natural_of (drop 1 s))) (option_map pos (natural_of s))
     (mapped (λ n. neg_ℤ (pos n)) (λ n. n ≤ largest) IsInProfile opposite_in (natural_of (drop 1 s)) (natural_small (drop 1 s)))
@@ -188,19 +195,23 @@ pub numbers_each : (text : List ℕ) (values : List Token) → Each IsInProfile 
 numbers_each text [] = tt
 numbers_each text (t ∷ ts) = (number_in_profile text t, numbers_each text ts)
 
-interval_meaning : (vars : List VarDecl) (low high : ℤ) → IsInProfile low → IsInProfile high → IsMeaningOf vars (Meaning.Set (range_of low high))
-interval_meaning vars low high l h = by (int_le low high) (intervals_hold low high).0
+-- what is known of ranges
+abbrev pub SetLaws : Type 0
+SetLaws = HaveRanges × IntervalsHold
+
+interval_meaning : (laws : SetLaws) (vars : List VarDecl) (low high : ℤ) → IsInProfile low → IsInProfile high → IsMeaningOf vars (Meaning.Set (range_of low high))
+interval_meaning laws vars low high l h = by (int_le low high) (laws.1 low high).0
   where
     by : (b : Bool) → AreApart (cond b ((low, high) ∷ []) []) → IsMeaningOf vars (Meaning.Set (cond b ((low, high) ∷ []) []))
     by true a = (omega arith, a, All-from_recursion (Ends IsInProfile) ((low, high) ∷ []) ((l, h), tt))
     by false a = (omega arith, a, All-from_recursion (Ends IsInProfile) [] tt)
 
-pub set_meaning : (vars : List VarDecl) (text : List ℕ) (s : SetLit) → set_is_long s ≡ false → IsMeaningOf vars (Meaning.Set (set_at text s))
-set_meaning vars text (SetLit.Range low high) e = interval_meaning vars (number_at text low) (number_at text high) (number_in_profile text low) (number_in_profile text high)
-set_meaning vars text (SetLit.Braces values) e =
+pub set_meaning : (laws : SetLaws) (vars : List VarDecl) (text : List ℕ) (s : SetLit) → set_is_long s ≡ false → IsMeaningOf vars (Meaning.Set (set_at text s))
+set_meaning laws vars text (SetLit.Range low high) e = interval_meaning laws vars (number_at text low) (number_at text high) (number_in_profile text low) (number_in_profile text high)
+set_meaning laws vars text (SetLit.Braces values) e =
     let numbers : List ℤ = map (number_at text) values in
     let few : length values ≤ most_entries = ltb-false most_entries (length values) e in
-    (omega (arith, ranges_length numbers, length-map values (number_at text), few), (have_ranges numbers).apart, All-from_recursion (Ends IsInProfile) (ranges_of numbers) (ranges_each IsInProfile numbers (numbers_each text values)))
+    (omega (arith, ranges_length numbers, length-map values (number_at text), few), (laws.0 numbers).apart, All-from_recursion (Ends IsInProfile) (ranges_of numbers) (ranges_each IsInProfile numbers (numbers_each text values)))
 
 -- ---- expressions
 
@@ -208,7 +219,7 @@ set_meaning vars text (SetLit.Braces values) e =
 abbrev pub AreNames : List VarDecl → Scope → Type 0
 AreNames vars scope = Each (λ (e : List ℕ × Meaning). IsMeaningOf vars e.1) scope
 
-found : (vars : List VarDecl) (scope : Scope) (name : List ℕ) → AreNames vars scope → IfSome (meaning_of scope name) (IsMeaningOf vars)
+pub found : (vars : List VarDecl) (scope : Scope) (name : List ℕ) → AreNames vars scope → IfSome (meaning_of scope name) (IsMeaningOf vars)
 found vars [] name h = tt
 found vars (e ∷ es) name h = by (bytes_eq name e.0) (found vars es name h.1)
   where
@@ -251,17 +262,17 @@ entries_scalars vars text scope h (e ∷ es) = by (entry_at text scope e) (entry
     by None k rest = tt
     by (Some x) k rest = mapped (λ xs. x ∷ xs) (AreEntries vars es) (AreEntries vars (e ∷ es)) (λ xs m. (ap suc m.0, (k, m.1))) (all_some (map (entry_at text scope) es)) rest
 
-simple_meaning : (vars : List VarDecl) (text : List ℕ) (scope : Scope) → AreNames vars scope → (e : Elem) → elem_is_long e ≡ false → IfSome (simple_at text scope e) (IsMeaningOf vars)
-simple_meaning vars text scope h Elem.True l = boolean_one vars
-simple_meaning vars text scope h Elem.False l = boolean_zero vars
-simple_meaning vars text scope h (Elem.Int t) l = integer_scalar vars (number_at text t) (number_in_profile text t)
-simple_meaning vars text scope h (Elem.Float t) l = tt
-simple_meaning vars text scope h (Elem.Name t) l = found vars scope (spelling text t) h
-simple_meaning vars text scope h (Elem.Set s) l = set_meaning vars text s l
+simple_meaning : (laws : SetLaws) (vars : List VarDecl) (text : List ℕ) (scope : Scope) → AreNames vars scope → (e : Elem) → elem_is_long e ≡ false → IfSome (simple_at text scope e) (IsMeaningOf vars)
+simple_meaning laws vars text scope h Elem.True l = boolean_one vars
+simple_meaning laws vars text scope h Elem.False l = boolean_zero vars
+simple_meaning laws vars text scope h (Elem.Int t) l = integer_scalar vars (number_at text t) (number_in_profile text t)
+simple_meaning laws vars text scope h (Elem.Float t) l = tt
+simple_meaning laws vars text scope h (Elem.Name t) l = found vars scope (spelling text t) h
+simple_meaning laws vars text scope h (Elem.Set s) l = set_meaning laws vars text s l
 
-pub meaning : (vars : List VarDecl) (text : List ℕ) (scope : Scope) → AreNames vars scope → (e : Expr) → expr_is_long e ≡ false → IfSome (expr_meaning text scope e) (IsMeaningOf vars)
+pub meaning : (laws : SetLaws) (vars : List VarDecl) (text : List ℕ) (scope : Scope) → AreNames vars scope → (e : Expr) → expr_is_long e ≡ false → IfSome (expr_meaning text scope e) (IsMeaningOf vars)
 unfolding expr_meaning
-meaning vars text scope h (Expr.One e) l = simple_meaning vars text scope h e (each_false elem_is_long (e ∷ []) (or_parts (nat_lt most_entries 1) (list_any elem_is_long (e ∷ [])) l).1).0
-meaning vars text scope h (Expr.Row es) l =
+meaning laws vars text scope h (Expr.One e) l = simple_meaning laws vars text scope h e (each_false elem_is_long (e ∷ []) (or_parts (nat_lt most_entries 1) (list_any elem_is_long (e ∷ [])) l).1).0
+meaning laws vars text scope h (Expr.Row es) l =
     let few : length es ≤ most_entries = ltb-false most_entries (length es) (or_parts (nat_lt most_entries (length es)) (list_any elem_is_long es) l).0 in
     mapped Meaning.Row (AreEntries vars es) (IsMeaningOf vars) (λ xs k. (omega (arith, few, k.0), All-from_recursion (IsScalarOf vars) xs k.1)) (all_some (map (entry_at text scope) es)) (entries_scalars vars text scope h es)

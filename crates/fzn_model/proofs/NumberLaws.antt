@@ -8,7 +8,7 @@ use Rattle.std.specs.Str.Parse.{IsNumeral, AllDigits}
 use Rattle.std.proofs.lemmas.Str.{IsUtf8-from_ascii}
 use Rattle.std.proofs.lemmas.Bool.{false_from_ne_true}
 use Rattle.std.proofs.lemmas.Bool.Decides.{nat_tests, Decides-and, Decides-ltb}
-use Rattle.fzn_model.specs.Numbers.{is_numeral}
+use Rattle.fzn_model.specs.Literals.{is_numeral}
 
 -- a byte that is a digit of a base is ASCII, and no plus
 digit_small : (c base : ℕ) → base ≤ 16 → digit_value c < base → c < 128

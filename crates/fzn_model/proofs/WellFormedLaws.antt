@@ -11,19 +11,21 @@ use Rattle.std.proofs.lemmas.List.Sums.{fold-append, sum_by-append}
 use Rattle.std.proofs.lemmas.List.Elements.{All-from_recursion}
 use Rattle.fzn_parser.specs.Items.{predicate_item}
 use Rattle.fzn_parser.specs.Parsing.{ItemTree}
-use Rattle.fzn_model.specs.declared.model.VarDecl.{VarDecl}
-use Rattle.fzn_model.specs.declared.model.Constraint.{Constraint}
-use Rattle.fzn_model.specs.declared.model.Goal.{Goal}
-use Rattle.fzn_model.specs.declared.model.Phase.{Phase}
-use Rattle.fzn_model.specs.declared.model.FznModel.{FznModel}
-use Rattle.fzn_model.specs.declared.scope.Meaning.{Meaning}
+use Rattle.constraint_model.specs.declared.model.VarDecl.{VarDecl}
+use Rattle.constraint_model.specs.declared.model.Constraint.{Constraint}
+use Rattle.constraint_model.specs.declared.model.Goal.{Goal}
+use Rattle.constraint_model.specs.declared.model.Phase.{Phase}
+use Rattle.constraint_model.specs.declared.model.FznModel.{FznModel}
+use Rattle.constraint_model.specs.declared.meanings.Meaning.{Meaning}
 use Rattle.fzn_model.specs.declared.effect.Effect.{Effect}
-use Rattle.fzn_model.specs.Fits.{constants_in, add_once, kernels_of}
-use Rattle.fzn_model.specs.Effects.{Reading, nothing, joined, effect_of, with_item, reading_of, solved_constants, goal_constants}
-use Rattle.fzn_model.specs.Faults.{fault_of, has_long_list, is_too_large, most_vars, most_kernels, most_constants}
+use Rattle.constraint_model.specs.Fits.{constants_in, goal_constants, add_once, kernels_of}
+use Rattle.fzn_model.specs.Effects.{Reading, nothing, joined, effect_of, with_item, reading_of, solved_constants}
+use Rattle.fzn_model.specs.Faults.{fault_of, has_long_list, is_too_large}
+use Rattle.constraint_model.specs.Limits.{most_vars, most_kernels, most_constants}
 use Rattle.fzn_model.specs.Resolving.{AreLawful, IsModelOf, model_with}
-use Rattle.fzn_model.specs.WellFormed.{IsDeclaration, IsMeaningOf, IsConstraintOf, IsGoalOf, IsWellFormed}
-use Rattle.fzn_model.proofs.MeaningLaws.{each_append, each_weaker, each_option, meaning_stays, constraint_stays, AreNames}
+use Rattle.constraint_model.specs.WellFormed.{IsDeclaration, IsMeaningOf, IsConstraintOf, IsGoalOf, IsOutputOf, IsWellFormed}
+use Rattle.fzn_model.proofs.MeaningLaws.{SetLaws, each_append, each_weaker, each_option, meaning_stays, constraint_stays, output_stays, AreNames}
+use Rattle.fzn_model.proofs.PhaseLaws.{IsSearch, all_declared}
 use Rattle.fzn_model.proofs.EffectLaws.{Adds, passes, adds}
 use Rattle.fzn_model.proofs.Standing.{few_vars, few_kernels}
 
@@ -32,13 +34,15 @@ record Keeps (r : Reading) : Type 0 where
   pub scope : AreNames r.vars r.scope
   pub vars : Each IsDeclaration r.vars
   pub constraints : Each (IsConstraintOf r.vars) r.constraints
+  pub output : Each (IsOutputOf r.vars) r.output
   pub solved : IfSome r.solved (λ s. IsGoalOf r.vars s.1)
+  pub search : IfSome r.solved (λ s. IsSearch (length r.vars) s.0)
   pub constants : r.constants ≡ fold add_once [] (flat_map constants_in r.constraints ++ solved_constants r.solved)
   pub kernels : r.kernels ≡ sum_by kernels_of r.constraints
   pub fits : is_too_large r ≡ false
 
 keeps_none : Keeps nothing
-keeps_none = record { scope = tt; vars = tt; constraints = tt; solved = tt; constants = refl; kernels = refl; fits = refl }
+keeps_none = record { scope = tt; vars = tt; constraints = tt; output = tt; solved = tt; search = tt; constants = refl; kernels = refl; fits = refl }
 
 -- ---- one item more
 
@@ -69,34 +73,37 @@ keeps_more r more h e f a =
       vars = each_append IsDeclaration r.vars vars h.vars (each_option IsDeclaration more.var a.var);
       constraints = each_append (IsConstraintOf (r.vars ++ vars)) r.constraints more.constraints
           (each_weaker (IsConstraintOf r.vars) (IsConstraintOf (r.vars ++ vars)) (constraint_stays r.vars vars) r.constraints h.constraints) a.constraints;
+      output = each_append (IsOutputOf (r.vars ++ vars)) r.output (option_to_list more.output)
+          (each_weaker (IsOutputOf r.vars) (IsOutputOf (r.vars ++ vars)) (output_stays r.vars vars) r.output h.output) (each_option (IsOutputOf (r.vars ++ vars)) more.output a.output);
       solved = first_goal (λ s. IsGoalOf (r.vars ++ vars) s.1) r.solved more.solved e a.solved;
+      search = first_goal (λ s. IsSearch (length (r.vars ++ vars)) s.0) r.solved more.solved e a.search;
       constants = constants_joined r.constraints more.constraints r.solved more.solved r.constants e h.constants;
       kernels = omega (arith, sum_by-append kernels_of r.constraints more.constraints, h.kernels);
       fits = f;
     }
 
-keeps_item : (text : List ℕ) (r : Reading) (item : ItemTree) → Keeps r → fault_of text r item.what ≡ None → Keeps (with_item text r item)
-keeps_item text r item h e =
+keeps_item : (laws : SetLaws) (text : List ℕ) (r : Reading) (item : ItemTree) → Keeps r → fault_of text r item.what ≡ None → Keeps (with_item text r item)
+keeps_item laws text r item h e =
     let more : Effect = effect_of text r.scope (length r.vars) item.what in
     let p = passes text r item.what e in
-    keeps_more r more h p.open_yet (or_parts (has_long_list item.what) (is_too_large (joined r more)) p.limit).1 (adds text r item.what h.scope p)
+    keeps_more r more h p.open_yet (or_parts (has_long_list item.what) (is_too_large (joined r more)) p.limit).1 (adds laws text r item.what h.scope p)
 
 -- ---- all items
 
 some_item : ItemTree
 some_item = record { from = 0; what = predicate_item [] }
 
-keeps_front : (text : List ℕ) (items : List ItemTree) → AreLawful text items → (k : ℕ) → k ≤ length items → Keeps (reading_of text (take k items))
-keeps_front text items h zero l = keeps_none
-keeps_front text items h (suc k) l =
+keeps_front : (laws : SetLaws) (text : List ℕ) (items : List ItemTree) → AreLawful text items → (k : ℕ) → k ≤ length items → Keeps (reading_of text (take k items))
+keeps_front laws text items h zero l = keeps_none
+keeps_front laws text items h (suc k) l =
     let m : k < length items = omega arith in
     let item : ItemTree = get_or items k some_item in
     let one : reading_of text (take (suc k) items) ≡ with_item text (reading_of text (take k items)) item =
     ap (reading_of text) (take-suc items k some_item m) ∙ fold-append (with_item text) nothing (take k items) (item ∷ []) in
-    subst Keeps (sym one) (keeps_item text (reading_of text (take k items)) item (keeps_front text items h k (omega arith)) (h k some_item m))
+    subst Keeps (sym one) (keeps_item laws text (reading_of text (take k items)) item (keeps_front laws text items h k (omega arith)) (h k some_item m))
 
-keeps_all : (text : List ℕ) (items : List ItemTree) → AreLawful text items → Keeps (reading_of text items)
-keeps_all text items h = subst (λ xs. Keeps (reading_of text xs)) (take_all (length items) items (omega arith)) (keeps_front text items h (length items) (omega arith))
+keeps_all : (laws : SetLaws) (text : List ℕ) (items : List ItemTree) → AreLawful text items → Keeps (reading_of text items)
+keeps_all laws text items h = subst (λ xs. Keeps (reading_of text xs)) (take_all (length items) items (omega arith)) (keeps_front laws text items h (length items) (omega arith))
 
 -- ---- the model
 
@@ -111,17 +118,20 @@ model_is_well_formed : (r : Reading) (asked : List Phase × Goal) → r.solved �
 model_is_well_formed r asked e h =
     let same : r.constants ≡ fold add_once [] (flat_map constants_in r.constraints ++ goal_constants asked.1) =
     h.constants ∙ ap (λ o. fold add_once [] (flat_map constants_in r.constraints ++ solved_constants o)) e in
+    let phases : IsSearch (length r.vars) asked.0 = subst (λ o. IfSome o (λ (s : List Phase × Goal). IsSearch (length r.vars) s.0)) e h.search in
     record {
       vars = All-from_recursion IsDeclaration r.vars h.vars;
       constraints = All-from_recursion (IsConstraintOf r.vars) r.constraints h.constraints;
+      search = record { declared = all_declared (length r.vars) asked.0 phases.declared; front = phases.front; last = phases.last };
       objective = subst (λ o. IfSome o (λ (s : List Phase × Goal). IsGoalOf r.vars s.1)) e h.solved;
+      outputs = All-from_recursion (IsOutputOf r.vars) r.output h.output;
       vars_fit = few_vars r h.fits;
       constants_fit = subst (λ (xs : List ℤ). length xs ≤ most_constants) same (few_constants r h.fits);
       kernels_fit = subst (λ (n : ℕ). n ≤ most_kernels) h.kernels (few_kernels r h.fits);
     }
 
-pub well_formed : (text : List ℕ) (items : List ItemTree) (m : FznModel) → IsModelOf text items m → IsWellFormed m
-well_formed text items m h =
+pub well_formed : (laws : SetLaws) (text : List ℕ) (items : List ItemTree) (m : FznModel) → IsModelOf text items m → IsWellFormed m
+well_formed laws text items m h =
     let r : Reading = reading_of text items in
     let model = h.is_model in
-    subst IsWellFormed (sym model.is_model) (model_is_well_formed r model.asked model.solved (keeps_all text items h.lawful))
+    subst IsWellFormed (sym model.is_model) (model_is_well_formed r model.asked model.solved (keeps_all laws text items h.lawful))

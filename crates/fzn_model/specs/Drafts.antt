@@ -3,7 +3,7 @@ use Rattle.std.specs.Prelude.{◌≡◌, ◌+◌, ◌++◌, fold, flat_map, sum_
 use Rattle.std.specs.Option.{option_or}
 use Rattle.fzn_model.specs.declared.draft.Draft.{Draft}
 use Rattle.fzn_model.specs.declared.effect.Effect.{Effect}
-use Rattle.fzn_model.specs.Fits.{add_once, constants_in, kernels_of}
+use Rattle.constraint_model.specs.Fits.{add_once, constants_in, kernels_of}
 use Rattle.fzn_model.specs.Scopes.{Scope, meaning_of}
 use Rattle.fzn_model.specs.Effects.{Reading, solved_constants}
 

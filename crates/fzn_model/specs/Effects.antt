@@ -10,22 +10,23 @@ use Rattle.fzn_parser.specs.Notes.{AnnTree}
 use Rattle.fzn_parser.specs.Items.{WhatTree, predicate_item, scalar_item, array_item, constraint_item, solve_item}
 use Rattle.fzn_parser.specs.Parsing.{ItemTree}
 use Rattle.fzn_parser.specs.Texts.{spelling}
-use Rattle.fzn_model.specs.declared.model.Term.{Term}
-use Rattle.fzn_model.specs.declared.model.Operand.{Operand}
-use Rattle.fzn_model.specs.declared.model.Constraint.{Constraint}
-use Rattle.fzn_model.specs.declared.model.VarDecl.{VarDecl}
-use Rattle.fzn_model.specs.declared.model.Phase.{Phase}
-use Rattle.fzn_model.specs.declared.model.Goal.{Goal}
-use Rattle.fzn_model.specs.declared.model.Output.{Output}
-use Rattle.fzn_model.specs.declared.scope.Meaning.{Meaning}
-use Rattle.fzn_model.specs.declared.table.ConstraintName.{ConstraintName}
-use Rattle.fzn_model.specs.Numbers.{largest}
-use Rattle.fzn_model.specs.Ranges.{Range}
+use Rattle.constraint_model.specs.declared.model.Term.{Term}
+use Rattle.constraint_model.specs.declared.model.Operand.{Operand}
+use Rattle.constraint_model.specs.declared.model.Constraint.{Constraint}
+use Rattle.constraint_model.specs.declared.model.VarDecl.{VarDecl}
+use Rattle.constraint_model.specs.declared.model.Phase.{Phase}
+use Rattle.constraint_model.specs.declared.model.Goal.{Goal}
+use Rattle.constraint_model.specs.declared.model.Output.{Output}
+use Rattle.constraint_model.specs.declared.meanings.Meaning.{Meaning}
+use Rattle.constraint_model.specs.declared.table.ConstraintName.{ConstraintName}
+use Rattle.constraint_model.specs.Numbers.{largest}
+use Rattle.constraint_model.specs.Ranges.{Range}
 use Rattle.fzn_model.specs.Scopes.{Scope, set_at, number_at, expr_meaning}
 use Rattle.fzn_model.specs.declared.effect.Effect.{Effect}
-use Rattle.fzn_model.specs.Fits.{named, constraint_on, constant_of, constants_in, add_once, kernels_of}
+use Rattle.constraint_model.specs.Fits.{named, constraint_on, constant_of, constants_in, goal_constants, add_once, kernels_of}
 use Rattle.fzn_model.specs.Outputs.{has_output_var, output_ranges}
-use Rattle.fzn_model.specs.Searches.{phases_of, last_phase}
+use Rattle.constraint_model.specs.Searches.{last_phase}
+use Rattle.fzn_model.specs.Searches.{phases_of}
 
 -- what stands of a text after some of its items
 pub record Reading : Type 0 where
@@ -42,12 +43,7 @@ pub record Reading : Type 0 where
 abbrev pub nothing : Reading
 nothing = record { scope = []; vars = []; constraints = []; output = []; solved = None; constants = []; kernels = 0 }
 
--- the constant of the objective, where it has one
-abbrev pub goal_constants : Goal → List ℤ
-goal_constants Goal.Satisfy = []
-goal_constants (Goal.Minimize t) = constant_of t
-goal_constants (Goal.Maximize t) = constant_of t
-
+-- the constant of what is asked for, where it has one
 abbrev pub solved_constants : Option (List Phase × Goal) → List ℤ
 solved_constants (Some s) = goal_constants s.1
 solved_constants None = []

@@ -1,13 +1,9 @@
 pub mod Drafts
 pub mod Effects
+pub mod FaultKinds
 pub mod Faults
-pub mod Fits
-pub mod Numbers
+pub mod Literals
 pub mod Outputs
-pub mod Ranges
-pub mod Relations
 pub mod Resolving
 pub mod Scopes
 pub mod Searches
-pub mod Table
-pub mod WellFormed

@@ -7,11 +7,11 @@ use Rattle.fzn_parser.specs.declared.tree.SetLit.{SetLit}
 use Rattle.fzn_parser.specs.declared.tree.Elem.{Elem}
 use Rattle.fzn_parser.specs.declared.tree.Expr.{Expr}
 use Rattle.fzn_parser.specs.Texts.{spelling}
-use Rattle.fzn_model.specs.declared.model.Term.{Term}
-use Rattle.fzn_model.specs.declared.scope.Scalar.{Scalar}
-use Rattle.fzn_model.specs.declared.scope.Meaning.{Meaning}
-use Rattle.fzn_model.specs.Numbers.{number_of}
-use Rattle.fzn_model.specs.Ranges.{Range, ranges_of, range_of}
+use Rattle.constraint_model.specs.declared.model.Term.{Term}
+use Rattle.constraint_model.specs.declared.meanings.Scalar.{Scalar}
+use Rattle.constraint_model.specs.declared.meanings.Meaning.{Meaning}
+use Rattle.fzn_model.specs.Literals.{number_of}
+use Rattle.constraint_model.specs.Ranges.{Range, ranges_of, range_of}
 
 -- the declared names in order, each with what it stands for
 abbrev pub Scope : Type 0

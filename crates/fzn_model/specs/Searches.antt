@@ -1,16 +1,15 @@
 -- The phases of the search that annotations of the solve item ask for. An annotation of any other shape asks for none.
 -- (MiniZinc Handbook, FlatZinc: search annotations.)
 use Rattle.std.specs.Prelude.{ℕ, List, [], ◌∷◌, ◌++◌, Bool, cond, ◌||◌, codes, bytes_eq, filter_map, Option, Some, None, option_map, if◌then◌else◌}
-use Rattle.std.specs.List.{range_with_len}
 use Rattle.fzn_lexer.specs.declared.Token.{Token}
 use Rattle.fzn_parser.specs.Notes.{ArgTree, note_arg, row_arg, AnnTree, bare, called, ArgTrees, no_args, more_args}
 use Rattle.fzn_parser.specs.Texts.{spelling}
-use Rattle.fzn_model.specs.declared.model.Term.{Term}
-use Rattle.fzn_model.specs.declared.model.VarSel.{VarSel}
-use Rattle.fzn_model.specs.declared.model.ValSel.{ValSel}
-use Rattle.fzn_model.specs.declared.model.Phase.{Phase}
-use Rattle.fzn_model.specs.declared.scope.Scalar.{Scalar}
-use Rattle.fzn_model.specs.declared.scope.Meaning.{Meaning}
+use Rattle.constraint_model.specs.declared.model.Term.{Term}
+use Rattle.constraint_model.specs.declared.model.VarSel.{VarSel}
+use Rattle.constraint_model.specs.declared.model.ValSel.{ValSel}
+use Rattle.constraint_model.specs.declared.model.Phase.{Phase}
+use Rattle.constraint_model.specs.declared.meanings.Scalar.{Scalar}
+use Rattle.constraint_model.specs.declared.meanings.Meaning.{Meaning}
 use Rattle.fzn_model.specs.Scopes.{Scope, meaning_of}
 use Rattle.fzn_model.specs.Outputs.{is_spelled, both}
 
@@ -75,14 +74,15 @@ abbrev pub val_sel_of : List ℕ → ArgTree → ValSel
 val_sel_of text (note_arg (bare t)) = val_sel_named (spelling text t)
 val_sel_of text _ = ValSel.Min
 
+-- a phase over these variables, where they are there
+abbrev pub phase_on : Option (List ℕ) → VarSel → ValSel → List Phase
+phase_on (Some vars) var_sel val_sel = record { vars = vars; var_sel = var_sel; val_sel = val_sel } ∷ []
+phase_on None var_sel val_sel = []
+
 -- the phase of three arguments or more
 abbrev pub phase_of : List ℕ → Scope → ArgTrees → List Phase
 phase_of text scope (more_args vars (more_args var_sel (more_args val_sel rest))) =
-    one_phase (phase_variables text scope vars) (var_sel_of text var_sel) (val_sel_of text val_sel)
-  where
-    one_phase : Option (List ℕ) → VarSel → ValSel → List Phase
-    one_phase (Some vs) r s = record { vars = vs; var_sel = r; val_sel = s } ∷ []
-    one_phase None r s = []
+    phase_on (phase_variables text scope vars) (var_sel_of text var_sel) (val_sel_of text val_sel)
 phase_of text scope _ = []
 
 abbrev pub is_search : List ℕ → Token → Bool
@@ -115,7 +115,3 @@ abbrev mutual
 abbrev pub phases_of : List ℕ → Scope → List AnnTree → List Phase
 phases_of text scope [] = []
 phases_of text scope (note ∷ notes) = phases_in text scope note ++ phases_of text scope notes
-
--- behind the text's phases stands one over all declared variables
-abbrev pub last_phase : ℕ → Phase
-last_phase count = record { vars = range_with_len 0 count; var_sel = VarSel.InputOrder; val_sel = ValSel.Min }

@@ -5,18 +5,14 @@ ghost use Rattle.fzn_model.specs.Scopes as scopes;
 ghost use Rattle.fzn_model.specs.Effects as effects;
 
 use crate::exprs::{set_at, spelling};
-use crate::model::{Constraint, Operand, Term};
 use crate::numbers::number_of;
 use crate::stop::Stop;
-use crate::table::ConstraintName;
 use crate::types::equality_name;
+use constraint_model::{Constraint, ConstraintName, LARGEST, Operand, Term};
 use fzn_lexer::Token;
 use fzn_parser::tree::{SetLit, Shape};
 use list_of::ListOf;
 use std::alloc::Global;
-
-/// The largest number of a model; the least is its opposite.
-pub const LARGEST: i64 = 2_147_483_646;
 
 /// The number of a literal; 0 where it isn't in the profile.
 fn number_at(text: &[u8], literal: Token) -> i64
@@ -52,7 +48,7 @@ fn hull(ranges: &[(i64, i64)]) -> (i64, i64)
 }
 
 /// The bounds that a variable of this type starts with.
-#[tactic(auto, unfolding(crate::specs::Numbers::largest))]
+#[tactic(auto, unfolding(constraint_model::specs::Numbers::largest))]
 pub(crate) fn bounds_of(alloc: Global, text: &[u8], shape: &Shape) -> Result<(i64, i64), Stop>
     ensures { IfOk result (λ b. b ≡ effects.bounds_of text.now shape.now) }
 {

@@ -3,19 +3,22 @@
 ghost use Rattle.std.specs.Prelude.{◌≡◌, ◌+◌, ◌<◌, ◌≤◌, ◌++◌, not, true, false, nat_lt, length, fold, flat_map, sum_by, option_to_list, MatchOption, IfOk, IfErr, OnOk};
 ghost use Rattle.fzn_parser.specs.Items.{what_tree};
 ghost use Rattle.fzn_parser.specs.Parsing.{item_tree};
-ghost use Rattle.fzn_model.specs.Fits.{add_once, constants_in, kernels_of};
+ghost use Rattle.constraint_model.specs.Fits.{add_once, constants_in, kernels_of};
+ghost use Rattle.constraint_model.specs.Limits as limits;
+ghost use Rattle.fzn_model.specs.declared.fault_kinds.FaultKind.{FaultKind as Kind};
 ghost use Rattle.fzn_model.specs.Drafts.{seen, counted, put, IsNew};
 ghost use Rattle.fzn_model.specs.Effects as effects;
 ghost use Rattle.fzn_model.specs.Faults as faults;
 
 use crate::effect::Effect;
-use crate::kernels::{add_constant, add_constants, kernel_count};
-use crate::kinds::{AFTER_SOLVE, TOO_MANY};
+use crate::fault_kinds::FaultKind;
 use crate::limits::{MOST_CONSTANTS, MOST_KERNELS, MOST_VARS, has_long_list};
-use crate::model::{Constraint, Goal, Output, Phase, VarDecl};
 use crate::reads::read_item;
 use crate::scope::Scope;
 use crate::stop::Stop;
+use constraint_model::{
+    Constraint, Goal, Output, Phase, VarDecl, add_constant, add_constants, kernel_count,
+};
 use fzn_parser::tree::{Item, What};
 use indexmap::IndexSet;
 use list_of::ListOf;
@@ -41,11 +44,11 @@ pub(crate) struct Draft {
 }
 
 /// How many propagators there are with one more constraint, where these are not too many.
-#[tactic(auto, unfolding(crate::specs::Fits::kernels_of))]
+#[tactic(auto, unfolding(constraint_model::specs::Fits::kernels_of))]
 fn with_kernels(total: u64, constraint: &Constraint) -> Option<u64>
-    requires { total ≤ faults.most_kernels }
-    ensures { MatchOption result (faults.most_kernels < total + kernels_of constraint.now)
-        (λ t. (t ≡ total + kernels_of constraint.now) × (t ≤ faults.most_kernels)) }
+    requires { total ≤ limits.most_kernels }
+    ensures { MatchOption result (limits.most_kernels < total + kernels_of constraint.now)
+        (λ t. (t ≡ total + kernels_of constraint.now) × (t ≤ limits.most_kernels)) }
 {
     let more = kernel_count(constraint);
     if more > MOST_KERNELS - total {
@@ -57,9 +60,9 @@ fn with_kernels(total: u64, constraint: &Constraint) -> Option<u64>
 
 /// How many propagators there are with these constraints, where these are not too many.
 fn with_all_kernels(total: u64, constraints: &[Constraint]) -> Option<u64>
-    requires { total ≤ faults.most_kernels }
-    ensures { MatchOption result (faults.most_kernels < total + sum_by kernels_of constraints.now)
-        (λ t. (t ≡ total + sum_by kernels_of constraints.now) × (t ≤ faults.most_kernels)) }
+    requires { total ≤ limits.most_kernels }
+    ensures { MatchOption result (limits.most_kernels < total + sum_by kernels_of constraints.now)
+        (λ t. (t ≡ total + sum_by kernels_of constraints.now) × (t ≤ limits.most_kernels)) }
 {
     let mut kernels = total;
     for constraint in constraints {
@@ -123,31 +126,31 @@ impl Draft {
     }
 
     fn has_room(&self, effect: &Effect) -> bool
-        requires { length self.now.vars ≤ faults.most_vars }
-        ensures { result ≡ not (nat_lt faults.most_vars (length (self.now.vars ++ option_to_list effect.now.var))) }
+        requires { length self.now.vars ≤ limits.most_vars }
+        ensures { result ≡ not (nat_lt limits.most_vars (length (self.now.vars ++ option_to_list effect.now.var))) }
     {
         effect.var.is_none() || self.vars.len() < MOST_VARS
     }
 
     /// Counts what an item adds. Errors: a limit is passed with it; memory.
     fn count(&mut self, effect: &Effect) -> Result<(), Stop>
-        requires vars { length self.old.vars ≤ faults.most_vars }
-        requires kernels { self.old.kernels ≤ faults.most_kernels }
+        requires vars { length self.old.vars ≤ limits.most_vars }
+        requires kernels { self.old.kernels ≤ limits.most_kernels }
         ensures counted { OnOk result (seen self.new ≡ counted (seen self.old) effect.now) }
         ensures fits { OnOk result (faults.is_too_large (effects.joined (seen self.old) effect.now) ≡ false) }
-        ensures large { IfErr result (faults.OnlyFault faults.too_many (faults.is_too_large (effects.joined (seen self.old) effect.now) ≡ true)) }
+        ensures large { IfErr result (faults.OnlyFault Kind.TooMany (faults.is_too_large (effects.joined (seen self.old) effect.now) ≡ true)) }
     {
         if !self.has_room(effect) {
-            return Err(Stop::Fault(TOO_MANY));
+            return Err(Stop::Fault(FaultKind::TooMany));
         }
         let Some(kernels) = with_all_kernels(self.kernels, effect.constraints.as_slice()) else {
-            return Err(Stop::Fault(TOO_MANY));
+            return Err(Stop::Fault(FaultKind::TooMany));
         };
         self.kernels = kernels;
         add_all_constants(&mut self.constants, effect.constraints.as_slice())?;
         add_goal_constant(&mut self.constants, &effect.solved)?;
         if self.constants.len() > MOST_CONSTANTS {
-            return Err(Stop::Fault(TOO_MANY));
+            return Err(Stop::Fault(FaultKind::TooMany));
         }
         Ok(())
     }
@@ -181,22 +184,22 @@ impl Draft {
 
     /// Counts what an item adds. Errors: the item's least fault against all that stands; memory.
     fn place(&mut self, what: &What, effect: &Effect) -> Result<(), Stop>
-        requires vars { length self.old.vars ≤ faults.most_vars }
-        requires kernels { self.old.kernels ≤ faults.most_kernels }
+        requires vars { length self.old.vars ≤ limits.most_vars }
+        requires kernels { self.old.kernels ≤ limits.most_kernels }
         ensures counted { OnOk result (seen self.new ≡ counted (seen self.old) effect.now) }
         ensures lawful { OnOk result (faults.first_kind (faults.place_tests (seen self.old) (what_tree what.now) effect.now) ≡ None) }
         ensures fits { OnOk result (faults.is_too_large (effects.joined (seen self.old) effect.now) ≡ false) }
         ensures fault { IfErr result (λ s. faults.Refuses (faults.first_kind (faults.place_tests (seen self.old) (what_tree what.now) effect.now)) s) }
     {
         if has_long_list(what) {
-            return Err(Stop::Fault(TOO_MANY));
+            return Err(Stop::Fault(FaultKind::TooMany));
         }
         match self.count(effect) {
             Ok(()) => {}
             Err(stop) => return Err(stop),
         }
         if self.solved.is_some() {
-            return Err(Stop::Fault(AFTER_SOLVE));
+            return Err(Stop::Fault(FaultKind::AfterSolve));
         }
         Ok(())
     }
@@ -204,8 +207,8 @@ impl Draft {
     /// What an item adds, counted. Errors: its least fault against what stands; memory.
     #[tactic(auto, unfolding(crate::specs::Faults::fault_of))]
     fn judge(&mut self, alloc: Global, text: &[u8], what: &What) -> Result<Effect, Stop>
-        requires vars { length self.old.vars ≤ faults.most_vars }
-        requires kernels { self.old.kernels ≤ faults.most_kernels }
+        requires vars { length self.old.vars ≤ limits.most_vars }
+        requires kernels { self.old.kernels ≤ limits.most_kernels }
         ensures effect { IfOk result (λ e. e ≡ effects.effect_of text.now self.old.scope (length self.old.vars) (what_tree what.now)) }
         ensures new { IfOk result (λ e. IsNew self.old.scope e) }
         ensures counted { IfOk result (λ e. seen self.new ≡ counted (seen self.old) e) }
@@ -226,8 +229,8 @@ impl Draft {
 
     /// Adds an item. Errors: its least fault against what stands; memory.
     pub(crate) fn add(&mut self, alloc: Global, text: &[u8], item: &Item) -> Result<(), Stop>
-        requires vars { length self.old.vars ≤ faults.most_vars }
-        requires kernels { self.old.kernels ≤ faults.most_kernels }
+        requires vars { length self.old.vars ≤ limits.most_vars }
+        requires kernels { self.old.kernels ≤ limits.most_kernels }
         ensures added { OnOk result (seen self.new ≡ effects.with_item text.now (seen self.old) (item_tree item.now)) }
         ensures fits { OnOk result (faults.is_too_large (effects.with_item text.now (seen self.old) (item_tree item.now)) ≡ false) }
         ensures lawful { OnOk result (faults.fault_of text.now (seen self.old) (what_tree item.now.what) ≡ None) }

@@ -1,7 +1,6 @@
 //! What an item adds to the model.
 
-use crate::model::{Constraint, Goal, Output, Phase, VarDecl};
-use crate::scope::Meaning;
+use constraint_model::{Constraint, Goal, Meaning, Output, Phase, VarDecl};
 use list_of::ListOf;
 
 /// What an item adds to the model.

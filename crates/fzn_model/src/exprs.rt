@@ -4,10 +4,9 @@ ghost use Rattle.std.specs.Prelude.{◌≡◌, IfOk, map};
 ghost use Rattle.fzn_parser.specs.Texts.{spelling};
 ghost use Rattle.fzn_model.specs.Scopes.{number_at, set_at, boolean, integer, scalar_of, entry_at, all_some, simple_at, expr_meaning};
 
-use crate::model::Term;
 use crate::numbers::number_of;
-use crate::ranges::{range_of, ranges_of};
-use crate::scope::{Meaning, Scalar, Scope};
+use crate::scope::Scope;
+use constraint_model::{Meaning, Scalar, Term, range_of, ranges_of};
 use fzn_lexer::Token;
 use fzn_parser::tree::{Elem, Expr, SetLit};
 use list_of::ListOf;

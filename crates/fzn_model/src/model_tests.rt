@@ -1,7 +1,7 @@
 //! The parts of the models of a few texts, written out.
 
-use crate::model::{Constraint, FznModel, Goal, Operand, Output, Phase, Term, VarDecl};
 use crate::resolve_tests::resolved;
+use constraint_model::{Constraint, FznModel, Goal, Operand, Output, Phase, Term, VarDecl};
 use std::alloc::{AllocError, Global};
 use std::test::Fail;
 
@@ -128,7 +128,7 @@ fn variables_have_the_bounds_of_their_types(rt: HostRuntime) -> Result<(), Fail>
     let mut shown = String::new(rt.alloc());
     show_variables(&mut shown, model.vars.as_slice())?;
     let expected = "b true 0 1\n\
-                    i false -2147483646 2147483646\n\
+                    i false -140737488355327 140737488355327\n\
                     r false -3 4\n\
                     e false 5 3\n";
     assert_eq!(rt; shown.as_str(), expected);

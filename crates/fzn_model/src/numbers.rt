@@ -1,27 +1,27 @@
 //! The numbers that integer literals write.
 
-ghost use Rattle.std.specs.Prelude.{◌≡◌, ◌≤◌, Some, None, MatchOption};
-ghost use Rattle.fzn_model.specs.Numbers.{number_in, natural_of, number_of};
+ghost use Rattle.std.specs.Prelude.{◌≡◌, ◌≤◌, Some, None, MatchOption, IfSome};
+ghost use Rattle.constraint_model.specs.Numbers.{largest};
+ghost use Rattle.fzn_model.specs.Literals.{number_in, natural_of, number_of};
 
+use constraint_model::LARGEST;
 use std::str;
 
-/// The largest number of a model; the least is its opposite.
-const LARGEST: u32 = 2_147_483_646;
-
 /// The number that digits of this base write, where they are nothing else and the profile has it.
-#[tactic(auto, using(crate::proofs::NumberLaws::number_laws), unfolding(crate::specs::Numbers::number_in, crate::specs::Numbers::largest))]
-fn number_in(base: u32, digits: &[u8]) -> Option<u32>
+#[tactic(auto, using(crate::proofs::NumberLaws::number_laws), unfolding(crate::specs::Literals::number_in, constraint_model::specs::Numbers::largest))]
+fn number_in(base: u32, digits: &[u8]) -> Option<u64>
     requires low { 2 ≤ base }
     requires high { base ≤ 16 }
-    ensures { result ≡ number_in base digits.now }
+    ensures value { result ≡ number_in base digits.now }
+    ensures small { IfSome result (λ n. n ≤ largest) }
 {
     // `from_str_radix` takes a plus in front; a literal of a text has none.
     if digits.first().copied() == Some(b'+') {
         return None;
     }
     let text = str::from_utf8(digits).ok()?;
-    let number = u32::from_str_radix(text, base).ok()?;
-    if number <= LARGEST {
+    let number = u64::from_str_radix(text, base).ok()?;
+    if number <= LARGEST as u64 {
         Some(number)
     } else {
         None
@@ -29,9 +29,10 @@ fn number_in(base: u32, digits: &[u8]) -> Option<u32>
 }
 
 /// The number of a literal without its minus, where the profile has it.
-#[tactic(auto, unfolding(crate::specs::Numbers::natural_of))]
-fn natural_of(literal: &[u8]) -> Option<u32>
-    ensures { result ≡ natural_of literal.now }
+#[tactic(auto, unfolding(crate::specs::Literals::natural_of))]
+fn natural_of(literal: &[u8]) -> Option<u64>
+    ensures value { result ≡ natural_of literal.now }
+    ensures small { IfSome result (λ n. n ≤ largest) }
 {
     if let Some(digits) = literal.strip_prefix(b"0x") {
         number_in(16, digits)
@@ -43,12 +44,12 @@ fn natural_of(literal: &[u8]) -> Option<u32>
 }
 
 /// The number of an integer literal, where the profile has it.
-#[tactic(auto, unfolding(crate::specs::Numbers::number_of))]
+#[tactic(auto, unfolding(crate::specs::Literals::number_of, constraint_model::specs::Numbers::largest))]
 pub(crate) fn number_of(literal: &[u8]) -> Option<i64>
     ensures { MatchOption result (number_of literal.now ≡ None) (λ n. number_of literal.now ≡ Some n) }
 {
     match literal {
-        [b'-', digits @ ..] => Some(-i64::from(natural_of(digits)?)),
-        digits => Some(i64::from(natural_of(digits)?)),
+        [b'-', digits @ ..] => Some(-(natural_of(digits)? as i64)),
+        digits => Some(natural_of(digits)? as i64),
     }
 }

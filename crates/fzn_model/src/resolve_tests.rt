@@ -1,7 +1,7 @@
 //! Whole texts in tables: their faults, and that lawful ones have a model.
 
-use crate::model::FznModel;
 use crate::resolving::{ModelError, resolve};
+use constraint_model::FznModel;
 use fzn_lexer::lex;
 use fzn_parser::parse;
 use std::alloc::{AllocError, Global};
@@ -103,17 +103,25 @@ fn arguments_and_types_have_their_faults(rt: HostRuntime) -> Result<(), Fail> {
 #[test]
 fn numbers_and_ends_have_their_faults(rt: HostRuntime) -> Result<(), Fail> {
     for (kind, front, rest) in [
-        (8, "", "var 0..2147483647: x; solve satisfy;"),
-        (8, "", "int: a = -0x7fffffff; solve satisfy;"),
-        (8, "", "constraint int_le(0o17777777777, 1); solve satisfy;"),
-        (8, "", "var {1, 2147483647}: x; solve satisfy;"),
-        (8, "", "var int: x = 2147483647; solve satisfy;"),
-        (8, "", "array [1..0] of var {2147483647}: a = [];"),
-        (8, "", "set of int: s = {1, 2147483647}; solve satisfy;"),
+        (8, "", "var 0..140737488355328: x; solve satisfy;"),
+        (8, "", "int: a = -0x800000000000; solve satisfy;"),
         (
             8,
             "",
-            "array [1..1] of int: a = [2147483647]; solve satisfy;",
+            "constraint int_le(0o4000000000000000, 1); solve satisfy;",
+        ),
+        (8, "", "var {1, 140737488355328}: x; solve satisfy;"),
+        (8, "", "var int: x = 140737488355328; solve satisfy;"),
+        (8, "", "array [1..0] of var {140737488355328}: a = [];"),
+        (
+            8,
+            "",
+            "set of int: s = {1, 140737488355328}; solve satisfy;",
+        ),
+        (
+            8,
+            "",
+            "array [1..1] of int: a = [140737488355328]; solve satisfy;",
         ),
         (10, "", ""),
         (10, "var bool: b; % solve satisfy;", ""),
@@ -144,12 +152,20 @@ fn of_two_faults_in_an_item_the_least_counts(rt: HostRuntime) -> Result<(), Fail
         (3, "var 1..2: x; ", "var {1}: x; solve satisfy;"),
         (3, "int: x = 1; ", "int: x = true; solve satisfy;"),
         (3, "int: x = 1; ", "float: x = 1.5; solve satisfy;"),
-        (3, "int: x = 1; ", "int: x = 2147483647; solve satisfy;"),
+        (
+            3,
+            "int: x = 1; ",
+            "int: x = 140737488355328; solve satisfy;",
+        ),
         (3, "var bool: x; solve satisfy; ", "var bool: x;"),
         (4, "", "constraint no_such(q); solve satisfy;"),
         (4, "", "constraint int_le(q); solve satisfy;"),
         (4, "", "var float: f = q; solve satisfy;"),
-        (4, "", "constraint int_le(q, 2147483647); solve satisfy;"),
+        (
+            4,
+            "",
+            "constraint int_le(q, 140737488355328); solve satisfy;",
+        ),
         (4, "solve satisfy; ", "constraint int_le(q, 1);"),
     ] {
         let fault = fault_of(rt.alloc(), front, rest)?;
@@ -162,21 +178,21 @@ fn of_two_faults_in_an_item_the_least_counts(rt: HostRuntime) -> Result<(), Fail
 fn of_two_greater_faults_in_an_item_the_least_counts(rt: HostRuntime) -> Result<(), Fail> {
     for (kind, front, rest) in [
         (5, "solve satisfy; ", "constraint no_such(1);"),
-        (5, "", "constraint no_such(2147483647); solve satisfy;"),
-        (6, "", "var {2147483647}: x = true; solve satisfy;"),
+        (5, "", "constraint no_such(140737488355328); solve satisfy;"),
+        (6, "", "var {140737488355328}: x = true; solve satisfy;"),
         (
             6,
             "",
-            "array [1..2147483647] of int: a = [1]; solve satisfy;",
+            "array [1..140737488355328] of int: a = [1]; solve satisfy;",
         ),
         (6, "solve satisfy; ", "constraint int_le(1);"),
         (7, "", "float: f = true; solve satisfy;"),
         (7, "", "array [0..0] of float: a = [true]; solve satisfy;"),
         (7, "", "solve minimize true;"),
-        (7, "", "var set of 1..2147483647: s; solve satisfy;"),
+        (7, "", "var set of 1..140737488355328: s; solve satisfy;"),
         (7, "solve satisfy; ", "solve minimize 1;"),
-        (8, "solve satisfy; ", "int: a = 2147483647;"),
-        (8, "solve satisfy; ", "var {2147483647}: x;"),
+        (8, "solve satisfy; ", "int: a = 140737488355328;"),
+        (8, "solve satisfy; ", "var {140737488355328}: x;"),
         (11, "solve satisfy; ", "var {1}: x = 2;"),
     ] {
         let fault = fault_of(rt.alloc(), front, rest)?;
@@ -189,19 +205,32 @@ fn of_two_greater_faults_in_an_item_the_least_counts(rt: HostRuntime) -> Result<
 fn lawful_texts_have_a_model(rt: HostRuntime) -> Result<(), Fail> {
     for text in [
         "solve satisfy;",
-        "predicate p(2147483647: x); predicate p(); var bool: p; solve satisfy;",
-        "var 5..3: x; var -2147483646..2147483646: y; solve satisfy;",
+        "predicate p(140737488355328: x); predicate p(); var bool: p; solve satisfy;",
+        "var 5..3: x; var -140737488355327..140737488355327: y; solve satisfy;",
+        "var 0..140737488355327: x; constraint int_le(x, -0x7fffffffffff); solve satisfy;",
         "array [1..0] of var 1..2: a = []; solve satisfy;",
         "array [0x1..01] of var int: a = [0]; solve satisfy;",
         "int: c = 1; array [1..1] of var 1..2: a = [c]; solve satisfy;",
         "var bool: x; var bool: y = x; var {4, 2}: z; var int: v = 1; solve satisfy;",
         "constraint int_eq(1, 2); constraint set_in(3, {}); solve satisfy;",
         "constraint bool_xor(true, true); constraint bool_xor(true, false, true); solve satisfy;",
-        "var 1..2: x :: note(2147483647, q, 1.5); solve :: q satisfy;",
+        "var 1..2: x :: note(140737488355328, q, 1.5); solve :: q satisfy;",
         "set of int: s = {3, 1}; set of int: t = s; set of int: u = 2..1; solve satisfy;",
     ] {
         assert_eq!(rt; fault_of(rt.alloc(), text, "")?, None, "at {text}");
     }
+    Ok(())
+}
+
+#[test]
+fn an_int_of_100000_digits_is_out_of_range(rt: HostRuntime) -> Result<(), Fail> {
+    let alloc = rt.alloc();
+    let mut text = String::from_str(alloc, "var 0..")?;
+    for _ in 0..100_000 {
+        text.push('9')?;
+    }
+    text.push_str(": x; solve satisfy;")?;
+    assert_eq!(rt; fault_of(alloc, "", text.as_str())?, Some((8, 0)));
     Ok(())
 }
 
@@ -242,7 +271,12 @@ fn lists_have_65536_entries_and_no_more(rt: HostRuntime) -> Result<(), Fail> {
         (5, "", "constraint int_div(1, {1", "}); solve satisfy;"),
         (6, "", "constraint int_le(1, {1", "}); solve satisfy;"),
         (7, "", "var set of {1", "}: s; solve satisfy;"),
-        (8, "", "set of int: s = {2147483647", "}; solve satisfy;"),
+        (
+            8,
+            "",
+            "set of int: s = {140737488355328",
+            "}; solve satisfy;",
+        ),
         (9, "solve satisfy; ", "set of int: s = {1", "};"),
         (9, "", "var {1", "}: x; solve satisfy;"),
         (9, "", "array [1..0] of var {1", "}: a = []; solve satisfy;"),

@@ -4,31 +4,10 @@ ghost use Rattle.std.specs.Prelude.{◌≡◌, [], ◌∷◌, ◌++◌, None, is
 ghost use Rattle.std.specs.Option.{option_copied};
 ghost use Rattle.fzn_model.specs.Scopes.{meaning_of};
 
-use crate::model::Term;
+use constraint_model::Meaning;
 use indexmap::IndexMap;
-use list_of::ListOf;
 use std::alloc::{AllocError, Global};
 use std::marker::Model;
-
-/// A boolean or an integer, constant or variable.
-#[derive(Debug, Clone, Copy)]
-pub struct Scalar {
-    /// Whether it is a boolean.
-    pub is_bool: bool,
-    /// Its number, or its variable.
-    pub term: Term,
-}
-
-/// What a name or an expression stands for.
-#[derive(Drop)]
-pub enum Meaning {
-    /// A boolean or an integer.
-    One(Scalar),
-    /// An array of these.
-    Row(ListOf<Scalar>),
-    /// A set of integers, as its sorted greatest ranges.
-    Set(ListOf<(i64, i64)>),
-}
 
 /// The declared names, each with what it stands for. Contracts see them in the order of their declarations.
 #[derive(Drop)]

@@ -5,12 +5,13 @@ ghost use Rattle.std.specs.List.{range_with_len};
 ghost use Rattle.fzn_parser.specs.Notes.{arg_tree, ann_tree, args_of};
 ghost use Rattle.fzn_parser.specs.Texts.{spelling};
 ghost use Rattle.fzn_model.specs.Scopes.{meaning_of};
-ghost use Rattle.fzn_model.specs.Searches.{variable_in, variables_in, variables_of_row, entry_variables, entries_variables, phase_variables, var_sel_named, val_sel_named, var_sel_of, val_sel_of, phase_of, is_search, phases_in, phases_in_list, phases_in_row, phases_in_entries, phases_in_entry, phases_of, last_phase};
+ghost use Rattle.fzn_model.specs.Searches.{variable_in, variables_in, variables_of_row, entry_variables, entries_variables, phase_variables, var_sel_named, val_sel_named, var_sel_of, val_sel_of, phase_of, is_search, phases_in, phases_in_list, phases_in_row, phases_in_entries, phases_in_entry, phases_of};
+ghost use Rattle.constraint_model.specs.Searches.{last_phase};
 
 use crate::exprs::spelling;
-use crate::model::{Phase, Term, ValSel, VarSel};
 use crate::outputs::is_spelled;
-use crate::scope::{Meaning, Scalar, Scope};
+use crate::scope::Scope;
+use constraint_model::{Meaning, Phase, Scalar, Term, ValSel, VarSel};
 use fzn_lexer::Token;
 use fzn_parser::tree::{Ann, Arg};
 use list_of::ListOf;

@@ -1,10 +1,10 @@
 //! What is made of the annotations and of the values of items, in tables.
 
 use crate::exprs::expr_meaning;
-use crate::model::{Term, ValSel, VarSel};
 use crate::outputs::{has_output_var, output_ranges};
-use crate::scope::{Meaning, Scalar, Scope};
+use crate::scope::Scope;
 use crate::searches::{last_phase, phases_of};
+use constraint_model::{Meaning, Scalar, Term, ValSel, VarSel};
 use fzn_lexer::lex;
 use fzn_parser::parse;
 use fzn_parser::tree::{Ann, Item, What};
@@ -101,7 +101,15 @@ fn outputs_are_found_by_their_shape(rt: HostRuntime) -> Result<(), Fail> {
             (false, Some(1)),
         ),
         (
-            "array [1..0] of int: a :: output_array([1..2147483647]) = [];",
+            "array [1..0] of int: a :: output_array([1..140737488355327]) = [];",
+            (false, Some(1)),
+        ),
+        (
+            "array [1..0] of int: a :: output_array([-140737488355328..1]) = [];",
+            (false, None),
+        ),
+        (
+            "array [1..0] of int: a :: output_array([1..140737488355328]) = [];",
             (false, None),
         ),
         (

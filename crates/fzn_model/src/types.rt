@@ -5,12 +5,10 @@ ghost use Rattle.std.specs.List.{list_all};
 ghost use Rattle.fzn_parser.specs.Items.{what_tree};
 ghost use Rattle.fzn_model.specs.Effects as effects;
 ghost use Rattle.fzn_model.specs.Faults as faults;
-ghost use Rattle.fzn_model.specs.Fits as fitting;
+ghost use Rattle.constraint_model.specs.Fits as fitting;
 
 use crate::exprs::spelling;
-use crate::model::Term;
-use crate::scope::{Meaning, Scalar};
-use crate::table::ConstraintName;
+use constraint_model::{ConstraintName, Meaning, Scalar, Term};
 use fzn_parser::tree::{Aim, Shape, What};
 
 /// Whether it is a boolean's type.

@@ -5,11 +5,11 @@
 -- each solution, and a mark at the end.
 use Rattle.std.specs.Prelude.{ℕ, ℤ, pos, List, [], ◌∷◌, ◌++◌, map, length, Bool, true, false, flat_map, if◌then◌else◌, int_le, codes}
 use Rattle.std.specs.Fmt.{decimal, signed_decimal}
-use Rattle.fzn_model.specs.declared.model.Term.{Term}
-use Rattle.fzn_model.specs.declared.model.Output.{Output}
-use Rattle.fzn_model.specs.declared.model.FznModel.{FznModel}
-use Rattle.fzn_model.specs.Ranges.{Range}
-use Rattle.fzn_model.specs.Relations.{value}
+use Rattle.constraint_model.specs.declared.model.Term.{Term}
+use Rattle.constraint_model.specs.declared.model.Output.{Output}
+use Rattle.constraint_model.specs.declared.model.FznModel.{FznModel}
+use Rattle.constraint_model.specs.Ranges.{Range}
+use Rattle.constraint_model.specs.Relations.{value}
 use Rattle.fzn_print.specs.declared.marks.Mark.{Mark}
 
 -- the end of a line

@@ -5,7 +5,7 @@ ghost use Rattle.std.specs.Fmt.{decimal};
 ghost use Rattle.fzn_print.specs.AnswerText.{arguments_text, array_text, comma, joined, list_text, range_text, term_text};
 
 use crate::values::{push_number, push_term};
-use fzn_model::Term;
+use constraint_model::Term;
 use itoa::Buffer;
 use std::alloc::AllocError;
 

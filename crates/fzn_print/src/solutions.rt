@@ -5,7 +5,7 @@ ghost use Rattle.fzn_print.specs.AnswerText.{output_line, output_text, solution_
 
 use crate::arrays::push_array;
 use crate::values::push_term;
-use fzn_model::{FznModel, Output};
+use constraint_model::{FznModel, Output};
 use interval::NoMemory;
 use std::alloc::{AllocError, Global};
 

@@ -1,7 +1,7 @@
 //! The texts of solutions and of marks, worked out by hand.
 
 use crate::{Mark, mark_text, print_solution};
-use fzn_model::{FznModel, Goal, Output, Term};
+use constraint_model::{FznModel, Goal, Output, Term};
 use list_of::ListOf;
 use std::alloc::{AllocError, Global};
 use std::test::Fail;
@@ -97,8 +97,8 @@ fn scalars_are_written(rt: HostRuntime) -> Result<(), Fail> {
         (
             "top",
             false,
-            Term::Number(2147483646),
-            "top = 2147483646;\n----------\n",
+            Term::Number(140737488355327),
+            "top = 140737488355327;\n----------\n",
         ),
         (
             "least",

@@ -2,10 +2,10 @@
 
 ghost use Rattle.std.specs.Prelude.{◌≡◌, ◌++◌, OnOk};
 ghost use Rattle.std.specs.Fmt.{signed_decimal};
-ghost use Rattle.fzn_model.specs.Relations.{value};
+ghost use Rattle.constraint_model.specs.Relations.{value};
 ghost use Rattle.fzn_print.specs.AnswerText.{value_text, term_text};
 
-use fzn_model::Term;
+use constraint_model::Term;
 use itoa::Buffer;
 use std::alloc::AllocError;
 

@@ -4,8 +4,8 @@ use Rattle.std.proofs.lemmas.Bool.{cases_lt, cases_eq}
 use Rattle.interval.specs.Boxes.{Bounds}
 use Rattle.guarded_tell.specs.declared.kernel.Kernel.{Kernel}
 use Rattle.fixpoint_laws.specs.Fixpoints.{IsGreatest, OneFixpoint}
-use Rattle.fzn_model.specs.declared.model.FznModel.{FznModel}
-use Rattle.branching.specs.Selection.{IsSearchOf}
+use Rattle.constraint_model.specs.declared.model.FznModel.{FznModel}
+use Rattle.constraint_model.specs.Searches.{IsSearchOf}
 use Rattle.branching.specs.Parts.{IsBranch}
 use Rattle.branching.specs.Tree.{AreFixed, values_of, BranchLaws}
 use Rattle.search.specs.Machine.{State, Node, is_dropped, is_solved, is_parted, Step, GoesOn, Reached, begun, stepped, IsSpent, IsDone, IsEnd}

@@ -4,7 +4,7 @@ use Rattle.std.specs.Prelude.{Result, Ok, Err, OnOk}
 use Rattle.interval.specs.Boxes.{Bounds}
 use Rattle.guarded_tell.specs.declared.kernel.Kernel.{Kernel}
 use Rattle.fixpoint_laws.specs.Fixpoints.{IsGreatest, Fails}
-use Rattle.fzn_model.specs.declared.model.FznModel.{FznModel}
+use Rattle.constraint_model.specs.declared.model.FznModel.{FznModel}
 use Rattle.branching.specs.Tree.{values_of}
 use Rattle.search.specs.Machine.{is_dropped, is_solved, is_parted}
 use Rattle.search.specs.Nodes.{IsSettled, IsNode}

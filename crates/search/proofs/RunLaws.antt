@@ -9,21 +9,20 @@ use Rattle.std.proofs.lemmas.List.Elements.{All-head, All-tail}
 use Rattle.interval.specs.Boxes.{Bounds, IsInRange, InsideOrder}
 use Rattle.guarded_tell.specs.declared.kernel.Kernel.{Kernel}
 use Rattle.guarded_tell.specs.Kernels.{IsKernel}
-use Rattle.fzn_model.specs.declared.model.FznModel.{FznModel}
-use Rattle.branching.specs.Selection.{IsSearchOf}
+use Rattle.constraint_model.specs.declared.model.FznModel.{FznModel}
+use Rattle.constraint_model.specs.Searches.{IsSearchOf}
 use Rattle.branching.specs.Tree.{values_of, SolutionsIn, failed, fixed, parted, BranchLaws, EveryList}
 use Rattle.search.specs.Machine.{State, Node, is_dropped, is_solved, is_parted, Reached, begun, stepped, IsDone}
 use Rattle.search.specs.Ends.{head_of, EndsDone, EndsSpent, IsFirstDone, IsAllDone}
+use Rattle.search.specs.Prefixes.{SolutionsOn, PrefixLaws}
 use Rattle.search.proofs.StackLaws.{Fits, reached_fits}
 
 pub of_false : (b : Bool) (P : Type 0) → b ≡ false → OnFalse b P → P
 of_false b P e h = subst (λ (t : Bool). OnFalse t P) e h
 
 module _ (model : FznModel) (kernels : List Kernel) where
-  -- the solutions in the boxes of a stack, those of the last box first
   abbrev pub Lists : List Bounds → List (List ℤ) → Type 0
-  Lists [] found = found ≡ []
-  Lists (b ∷ bs) found = (xs : List (List ℤ)) × ((ys : List (List ℤ)) × (Lists bs xs × (SolutionsIn model kernels b ys × (found ≡ xs ++ ys))))
+  Lists bs found = SolutionsOn model kernels bs found
 
   none_left : (bs : List Bounds) (xs : List (List ℤ)) → bs ≡ [] → Lists bs xs → xs ≡ []
   none_left bs xs e h = subst (λ (cs : List Bounds). Lists cs xs) e h
@@ -157,3 +156,13 @@ module _ (model : FznModel) (kernels : List Kernel) where
   pub first_spent : (limit : ℕ) (sub : Bounds) (nodes : ℕ) (found : List (List ℤ)) → EndsSpent model kernels limit true sub nodes found → EndsSpent model kernels limit true sub nodes []
   first_spent limit sub nodes found h =
       record { state = h.state; reached = h.reached; spent = h.spent; is_count = h.is_count; is_found = sym (h.spent.sought refl) }
+
+-- ---- what is found and what is left
+
+pub prefix_laws : InsideOrder → BranchLaws → EveryList → PrefixLaws
+prefix_laws order branches every = record {
+  all = λ model kernels limit is_first sub s rest r h. of_reached model kernels limit is_first sub s r rest h;
+  some = λ model kernels limit is_first sub s rule long range can_run r.
+      lists_of model kernels every rule (length sub) long can_run s.stack
+      (reached_fits order branches model rule kernels (length sub) long limit is_first sub s (record { same_length = refl; range = range }) r);
+}

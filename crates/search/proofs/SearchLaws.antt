@@ -4,8 +4,8 @@ use Rattle.std.specs.List.{All, sum_by}
 use Rattle.interval.specs.Boxes.{Bounds, IsInRange, InsideOrder}
 use Rattle.guarded_tell.specs.declared.kernel.Kernel.{Kernel}
 use Rattle.guarded_tell.specs.Kernels.{IsKernel}
-use Rattle.fzn_model.specs.declared.model.FznModel.{FznModel}
-use Rattle.branching.specs.Selection.{IsSearchOf}
+use Rattle.constraint_model.specs.declared.model.FznModel.{FznModel}
+use Rattle.constraint_model.specs.Searches.{IsSearchOf}
 use Rattle.branching.specs.Tree.{BranchLaws}
 use Rattle.search.specs.Machine.{State, Reached, stepped}
 use Rattle.search.specs.Nodes.{IsNode}

@@ -6,8 +6,8 @@ use Rattle.std.proofs.lemmas.List.Elements.{All-nil, All-cons, All-head, All-tai
 use Rattle.interval.specs.Boxes.{Bounds, IsInRange, InsideOrder, width_sum_of}
 use Rattle.guarded_tell.specs.declared.kernel.Kernel.{Kernel}
 use Rattle.fixpoint_laws.specs.Fixpoints.{IsGreatest}
-use Rattle.fzn_model.specs.declared.model.FznModel.{FznModel}
-use Rattle.branching.specs.Selection.{IsSearchOf}
+use Rattle.constraint_model.specs.declared.model.FznModel.{FznModel}
+use Rattle.constraint_model.specs.Searches.{IsSearchOf}
 use Rattle.branching.specs.Parts.{IsBranch, AreParts}
 use Rattle.branching.specs.Tree.{BranchLaws}
 use Rattle.search.specs.Machine.{State, Node, is_dropped, is_solved, is_parted, Reached, begun, stepped}

@@ -2,7 +2,7 @@
 use Rattle.std.specs.Prelude.{ℕ, Bool, List}
 use Rattle.interval.specs.Boxes.{Bounds}
 use Rattle.guarded_tell.specs.declared.kernel.Kernel.{Kernel}
-use Rattle.fzn_model.specs.declared.model.FznModel.{FznModel}
+use Rattle.constraint_model.specs.declared.model.FznModel.{FznModel}
 use Rattle.search.specs.declared.runs.Closing.{Closing}
 use Rattle.search.specs.Ends.{EndsDone, EndsSpent}
 use Rattle.std.specs.Bool.{OnTrue, OnFalse}

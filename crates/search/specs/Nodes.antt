@@ -2,7 +2,7 @@
 use Rattle.std.specs.Prelude.{◌≡◌, ◌⊎◌, ℤ, List, [], ◌∷◌, ◌++◌}
 use Rattle.interval.specs.Boxes.{Bounds}
 use Rattle.guarded_tell.specs.declared.kernel.Kernel.{Kernel}
-use Rattle.fzn_model.specs.declared.model.FznModel.{FznModel}
+use Rattle.constraint_model.specs.declared.model.FznModel.{FznModel}
 use Rattle.branching.specs.Parts.{IsBranch}
 use Rattle.branching.specs.Tree.{AreFixed, values_of}
 use Rattle.search.specs.Machine.{Node}

@@ -9,5 +9,5 @@ mod runs;
 mod tests;
 
 pub use ends::{AllEnd, FirstEnd};
-pub use laws::law_one_end;
+pub use laws::{law_found_first, law_one_end};
 pub use runs::{Run, run_all, run_first};

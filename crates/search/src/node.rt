@@ -3,13 +3,14 @@
 ghost use Rattle.std.specs.Prelude.{◌≡◌, ◌<◌, List, [], ◌∷◌, ◌++◌, length, take, drop, All, IfOk, OnOk};
 ghost use Rattle.interval.specs.Boxes.{IsProper};
 ghost use Rattle.guarded_tell.specs.Kernels.{IsKernel};
-ghost use Rattle.branching.specs.Selection.{IsSearchOf, HasUnfixed};
+ghost use Rattle.branching.specs.Selection.{HasUnfixed};
+ghost use Rattle.constraint_model.specs.Searches.{IsSearchOf};
 ghost use Rattle.branching.specs.Tree.{values_of};
 ghost use Rattle.search.specs.Nodes.{IsParted, IsSettled, IsNode};
 
 use branching::{are_fixed, choose};
+use constraint_model::FznModel;
 use fixpoint_laws::{Settled, settle_alone};
-use fzn_model::FznModel;
 use guarded_tell::Kernel;
 use interval::{BoxOf, NoMemory};
 use list_of::ListOf;

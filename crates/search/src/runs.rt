@@ -2,17 +2,18 @@
 
 ghost use Rattle.std.specs.Prelude.{◌≡◌, ◌≢◌, ◌⊎◌, ◌<◌, ◌+◌, [], ◌∷◌, length, true, All, IfOk};
 ghost use Rattle.std.specs.Bool.{OnTrue, OnFalse};
+ghost use Rattle.interval.specs.Boxes.{IsInside};
 ghost use Rattle.guarded_tell.specs.Kernels.{IsKernel};
 ghost use Rattle.decompose.specs.Program.{IsProgramOf};
-ghost use Rattle.branching.specs.Selection.{IsSearchOf};
+ghost use Rattle.constraint_model.specs.Searches.{IsSearchOf};
 ghost use Rattle.search.specs.Ends.{IsFirstEnd, IsAllEnd};
 ghost use Rattle.search.specs.Closings.{IsClosing};
 
 use crate::ends::{AllEnd, FirstEnd};
 use crate::node::node;
 use branching::{law_branches, law_every_list};
+use constraint_model::FznModel;
 use decompose::Program;
-use fzn_model::FznModel;
 use guarded_tell::Kernel;
 use interval::{BoxOf, NoMemory, law_inside_order};
 use list_of::ListOf;
@@ -180,7 +181,7 @@ pub(crate) fn all_in(
 pub fn run_first(alloc: Global, run: &Run<'_>, sub: &BoxOf) -> Result<FirstEnd, NoMemory>
     requires program { IsProgramOf run.now.model.now run.now.program.now }
     requires phases { IsSearchOf run.now.model.now }
-    requires length { length sub.now ≡ length run.now.program.now.start }
+    requires inside { IsInside sub.now run.now.program.now.start }
     ensures { IfOk result (λ end. IsFirstEnd run.now.model.now run.now.program.now.kernels run.now.limit sub.now end) }
 {
     let kernels = run.program.kernels.as_slice();
@@ -191,7 +192,7 @@ pub fn run_first(alloc: Global, run: &Run<'_>, sub: &BoxOf) -> Result<FirstEnd, 
 pub fn run_all(alloc: Global, run: &Run<'_>, sub: &BoxOf) -> Result<AllEnd, NoMemory>
     requires program { IsProgramOf run.now.model.now run.now.program.now }
     requires phases { IsSearchOf run.now.model.now }
-    requires length { length sub.now ≡ length run.now.program.now.start }
+    requires inside { IsInside sub.now run.now.program.now.start }
     ensures { IfOk result (λ end. IsAllEnd run.now.model.now run.now.program.now.kernels run.now.limit sub.now end) }
 {
     let kernels = run.program.kernels.as_slice();

@@ -1,37 +1,45 @@
 //! Models of two variables, searched by hand.
 
 ghost use Rattle.std.specs.Prelude.{◌≡◌, ◌<◌, length, All, IfOk};
+ghost use Rattle.search.specs.Examples.{small_variable, small_order, small_model};
 ghost use Rattle.guarded_tell.specs.Kernels.{IsKernel};
-ghost use Rattle.fzn_model.specs.Searches.{last_phase};
-ghost use Rattle.branching.specs.Selection.{IsSearchOf};
+ghost use Rattle.constraint_model.specs.Searches.{last_phase};
 
 use crate::runs::{all_in, first_in};
-use crate::{AllEnd, FirstEnd};
-use fzn_model::{FznModel, Goal, Phase, ValSel, VarDecl, VarSel};
+use crate::{AllEnd, FirstEnd, Run, run_all, run_first};
+use constraint_model::{
+    Constraint, ConstraintName, FznModel, Goal, Operand, Phase, Term, ValSel, VarDecl, VarSel,
+};
+use decompose::compile;
 use guarded_tell::{Kernel, Lit};
-use interval::{BoxOf, NoMemory, clamp_bound};
+use interval::{BoxOf, NoMemory, clamp_bound, law_inside_order};
 use list_of::ListOf;
 use std::alloc::{AllocError, Global};
 use std::test::Fail;
 
-/// A variable; its declaration says nothing here.
-fn declared(alloc: Global) -> VarDecl {
+/// A variable of the values 0, 1 and 2.
+fn declared(alloc: Global) -> VarDecl
+    ensures { result ≡ small_variable }
+{
     VarDecl {
         name: ListOf::new(alloc),
         is_bool: false,
         low: 0,
-        high: 0,
+        high: 2,
     }
 }
 
-/// Two variables.
-fn two_declared(alloc: Global) -> Result<ListOf<VarDecl>, AllocError>
-    ensures { IfOk result (λ vars. length vars ≡ 2) }
+/// The first variable is below the second.
+fn order(alloc: Global) -> Result<Constraint, AllocError>
+    ensures { IfOk result (λ made. made ≡ small_order) }
 {
-    let mut vars = ListOf::new(alloc);
-    vars.push(declared(alloc))?;
-    vars.push(declared(alloc))?;
-    Ok(vars)
+    let mut operands = ListOf::new(alloc);
+    operands.push(Operand::One(Term::Var(0)))?;
+    operands.push(Operand::One(Term::Var(1)))?;
+    Ok(Constraint {
+        name: ConstraintName::IntLt,
+        operands,
+    })
 }
 
 /// The phase of both variables.
@@ -48,17 +56,20 @@ fn both_of_them(alloc: Global) -> Result<Phase, AllocError>
     })
 }
 
-/// Two variables x and y that are searched in this order, the least value first.
+/// Two variables x and y, x below y, that are searched in this order, the least value first.
 fn two_variables(alloc: Global) -> Result<FznModel, AllocError>
-    ensures vars { IfOk result (λ model. length model.vars ≡ 2) }
-    ensures phases { IfOk result (λ model. IsSearchOf model) }
+    ensures { IfOk result (λ model. model ≡ small_model) }
 {
-    let declarations = two_declared(alloc)?;
+    let mut vars = ListOf::new(alloc);
+    vars.push(declared(alloc))?;
+    vars.push(declared(alloc))?;
+    let mut constraints = ListOf::new(alloc);
+    constraints.push(order(alloc)?)?;
     let mut phases = ListOf::new(alloc);
     phases.push(both_of_them(alloc)?)?;
     Ok(FznModel {
-        vars: declarations,
-        constraints: ListOf::new(alloc),
+        vars,
+        constraints,
         search: phases,
         goal: Goal::Satisfy,
         output: ListOf::new(alloc),
@@ -217,5 +228,35 @@ fn nothing_is_found_in_one_node(rt: HostRuntime) -> Result<(), Fail> {
     assert!(rt; is_first(&first(alloc, [(0, 3), (0, 3)], &kernels, 1)?, None));
     assert!(rt; is_all(&all(alloc, [(2, 1), (0, 3)], &[], 1)?, &[]));
     assert!(rt; is_first(&first(alloc, [(2, 1), (0, 3)], &[], 0)?, None));
+    Ok(())
+}
+
+/// Whether the first solution is the head of all.
+fn is_head(first: &FirstEnd, all: &AllEnd) -> bool {
+    match (first, all) {
+        (FirstEnd::Done(Some(values)), AllEnd::Done(solutions)) => match solutions.as_slice() {
+            [head, ..] => head.as_slice() == values.as_slice(),
+            [] => false,
+        },
+        (FirstEnd::Done(None), AllEnd::Done(solutions)) => solutions.is_empty(),
+        _ => false,
+    }
+}
+
+#[test]
+fn the_first_solution_of_a_model_is_the_head_of_all(rt: HostRuntime) -> Result<(), Fail> {
+    law_inside_order();
+    let alloc = rt.alloc();
+    let model = two_variables(alloc)?;
+    let program = compile(alloc, &model)?;
+    let run = Run {
+        model: &model,
+        program: &program,
+        limit: 0,
+    };
+    let first = run_first(alloc, &run, &program.start)?;
+    let all = run_all(alloc, &run, &program.start)?;
+    assert!(rt; is_head(&first, &all));
+    assert!(rt; is_all(&all, &[[0, 1], [0, 2], [1, 2]]));
     Ok(())
 }

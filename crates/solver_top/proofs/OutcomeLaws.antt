@@ -2,7 +2,7 @@
 use Rattle.std.proofs.Common.{◌≡◌, ◌⊎◌, inl, inr, ℕ, zero, suc, ◌+◌, ◌<◌, List, [], ◌∷◌, length, Option, None, Some, Result, Ok, Err, IfErr, subst, sym, ap, refl, ◌∙◌, ◌↔◌, arith}
 use Rattle.fzn_io.specs.Faults.{CountRose}
 use Rattle.fzn_io.specs.Streams.{IsHeld, IsLonger, IsNextName}
-use Rattle.fzn_model.specs.declared.model.FznModel.{FznModel}
+use Rattle.constraint_model.specs.declared.model.FznModel.{FznModel}
 use Rattle.solver_top.specs.Texts.{IsTextOf, IsFaultOf, HasFaultOn, fault_line, most_bytes, too_long}
 use Rattle.solver_top.specs.Outcome.{held_under, IsFaultOfFile, IsFileAlone, ToldHasFault, ToldHasModel, IsAnswerOfFile, IsTextCause, IsFileCause, IsRefused}
 use Rattle.solver_top.specs.declared.status.Status.{Status}

@@ -3,7 +3,7 @@ use Rattle.std.proofs.Common.{◌≡◌, ℕ, List, inl, inr, sym, subst, ◌∙
 use Rattle.fzn_lexer.specs.declared.Token.{Token}
 use Rattle.fzn_lexer.specs.Lexing.{LexesAs, FaultsAt as IsNoToken}
 use Rattle.fzn_parser.specs.Parsing.{ItemTree, ReadsAs, FaultsAt as IsNoItem}
-use Rattle.fzn_model.specs.declared.model.FznModel.{FznModel}
+use Rattle.constraint_model.specs.declared.model.FznModel.{FznModel}
 use Rattle.fzn_model.specs.Resolving.{IsModelOf, HasFault}
 use Rattle.solver_top.specs.Texts.{HasItems, IsTextOf, LacksItem, IsFaultOf}
 

@@ -226,44 +226,44 @@ fn corners(rt: HostRuntime) -> Result<(), Fail> {
     assert_answers(&rt, rt.alloc(), CORNERS)
 }
 
-/// At the ends of the range; 46340 squared is the greatest square in it.
+/// At the ends of the range; 11863283 squared is the greatest square in it.
 const ENDS: &[(&str, &str)] = &[
     (
-        "var int: x :: output_var; constraint int_times(46340, 46340, x); solve satisfy;",
-        "x = 2147395600;\n----------\n",
+        "var int: x :: output_var; constraint int_times(11863283, 11863283, x); solve satisfy;",
+        "x = 140737483538089;\n----------\n",
     ),
     (
-        "var int: x; constraint int_times(46341, 46341, x); solve satisfy;",
+        "var int: x; constraint int_times(11863284, 11863284, x); solve satisfy;",
         "=====UNSATISFIABLE=====\n",
     ),
     (
-        "var int: x; constraint int_times(2147483646, 2147483646, x); solve satisfy;",
+        "var int: x; constraint int_times(140737488355327, 140737488355327, x); solve satisfy;",
         "=====UNSATISFIABLE=====\n",
     ),
     (
-        "var int: x; constraint int_plus(2147483646, 1, x); solve satisfy;",
+        "var int: x; constraint int_plus(140737488355327, 1, x); solve satisfy;",
         "=====UNSATISFIABLE=====\n",
     ),
     (
-        "var int: x :: output_var; constraint int_abs(-2147483646, x); solve satisfy;",
-        "x = 2147483646;\n----------\n",
+        "var int: x :: output_var; constraint int_abs(-140737488355327, x); solve satisfy;",
+        "x = 140737488355327;\n----------\n",
     ),
     (
-        "var int: x :: output_var; constraint int_lt(2147483645, x); solve satisfy;",
-        "x = 2147483646;\n----------\n",
+        "var int: x :: output_var; constraint int_lt(140737488355326, x); solve satisfy;",
+        "x = 140737488355327;\n----------\n",
     ),
     (
-        "var int: x; constraint int_lt(2147483646, x); solve satisfy;",
+        "var int: x; constraint int_lt(140737488355327, x); solve satisfy;",
         "=====UNSATISFIABLE=====\n",
     ),
     (
-        "var int: x; constraint int_lin_le([2147483646, 2147483646], [x, x], -2147483646); \
+        "var int: x; constraint int_lin_le([140737488355327, 140737488355327], [x, x], -140737488355327); \
          constraint int_le(0, x); solve satisfy;",
         "=====UNSATISFIABLE=====\n",
     ),
     (
         "var int: x :: output_var; constraint int_le(x, x); solve satisfy;",
-        "x = -2147483646;\n----------\n",
+        "x = -140737488355327;\n----------\n",
     ),
 ];
 

@@ -3,7 +3,7 @@
 ghost use Rattle.std.specs.Prelude.{◌≡◌, ◌≤◌, ◌==◌, count_by, ℕ, List, length, map, MatchResult, IfOk, IfErr};
 ghost use Rattle.fzn_lexer.specs.Lexing.{LexesAs};
 ghost use Rattle.fzn_parser.specs.Parsing.{item_tree};
-ghost use Rattle.fzn_model.specs.declared.model.FznModel.{FznModel};
+ghost use Rattle.constraint_model.specs.declared.model.FznModel.{FznModel};
 ghost use Rattle.solver_top.specs.Texts.{most_bytes, HasItems, IsTextOf, IsFaultOf, IsCause, LacksModel, line_at};
 
 use fzn_lexer::{LexError, Token, lex};

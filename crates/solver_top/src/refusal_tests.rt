@@ -103,13 +103,13 @@ const KINDS: &[(&str, u8, u64, &str)] = &[
         "refused 7 Unsupported line 1\n",
     ),
     (
-        "var 0..2147483647: x; solve satisfy;",
+        "var 0..140737488355328: x; solve satisfy;",
         8,
         1,
         "refused 8 OutOfRange line 1\n",
     ),
     (
-        "constraint int_le(-2147483647,0); solve satisfy;",
+        "constraint int_le(-140737488355328,0); solve satisfy;",
         8,
         1,
         "refused 8 OutOfRange line 1\n",

@@ -22,9 +22,9 @@ const SMALL: &[(&str, &str)] = &[
         "----------\n",
     ),
     (
-        "var -3..007: a :: output_var;\nvar 0..9: b;\nvar -2147483646..2147483646: c :: output_var;\n\
+        "var -3..007: a :: output_var;\nvar 0..9: b;\nvar -140737488355327..140737488355327: c :: output_var;\n\
          constraint int_le(b, a);\nconstraint int_le(c, -4);\nsolve satisfy;\n",
-        "a = 0;\nc = -2147483646;\n----------\n",
+        "a = 0;\nc = -140737488355327;\n----------\n",
     ),
     (
         "var 0..4: early :: output_var; var 6..9: late; constraint int_le(late,early); solve satisfy;",
@@ -55,7 +55,7 @@ const SMALL: &[(&str, &str)] = &[
         "x = 4;\n----------\n",
     ),
     (
-        "var 2147483646..2147483646: x; var int: y; constraint int_plus(x,1,y); solve satisfy;",
+        "var 140737488355327..140737488355327: x; var int: y; constraint int_plus(x,1,y); solve satisfy;",
         "=====UNSATISFIABLE=====\n",
     ),
     (

@@ -1,5 +1,8 @@
-use Rattle.fzn_lexer.proofs.Cuts.{one_list, one_fault, never_both}
+use Rattle.fzn_lexer.proofs.Cuts.{reading, one_list, one_fault, never_both}
 use Rattle.fzn_lexer.proofs.law_one_reading.Goals as goal
+
+pub returns-clause-lexes_or_faults : goal.returns-clause-lexes_or_faults
+returns-clause-lexes_or_faults c = reading
 
 pub returns-clause-one_list : goal.returns-clause-one_list
 returns-clause-one_list c = one_list

@@ -1,5 +1,5 @@
 use Rattle.std.proofs.Common.{◌<◌, List, [], ◌∷◌, ◌++◌, All, sym, ap, subst, ◌∙◌}
-use Rattle.fzn_model.specs.declared.model.Phase.{Phase}
+use Rattle.constraint_model.specs.declared.model.Phase.{Phase}
 use Rattle.branching.proofs.Examples.{small_search}
 use Rattle.branching.proofs.tests.searched_by.Goals as goal
 

@@ -1,5 +1,5 @@
 use Rattle.std.proofs.Common.{◌≡◌, [], fold, flat_map, take}
-use Rattle.fzn_model.specs.Fits.{add_once, constants_in}
+use Rattle.constraint_model.specs.Fits.{add_once, constants_in}
 use Rattle.decompose.proofs.constants.constraint_constants.Given as goal
 
 -- the constants of the constraints so far

@@ -8,7 +8,7 @@ use Rattle.fixpoint_laws.proofs.settle.settle_alone.Goals as goal
 
 pub overflow_add-rounds : goal.overflow_add-rounds
 overflow_add-rounds c =
-    let fits : width_sum_of c.args.b.now < 2 ^ 60 = widths_fit c.args.b.now c.len-length.ensures.in_range in
+    let fits : width_sum_of c.args.b.now < 2 ^ 100 = widths_fit c.args.b.now c.len-length.ensures.in_range in
     grind (arith, c.rounds.invariant.goes.widths)
 
 pub returns-then-not-run_round-clause-fixed : goal.returns-then-not-run_round-clause-fixed

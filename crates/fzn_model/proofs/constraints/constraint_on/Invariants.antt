@@ -1,5 +1,5 @@
 use Rattle.std.proofs.Common.{◌≡◌, map, take}
-use Rattle.fzn_model.specs.Fits.{operand_of}
+use Rattle.constraint_model.specs.Fits.{operand_of}
 use Rattle.fzn_model.proofs.constraints.constraint_on.Given as goal
 
 -- the operands so far

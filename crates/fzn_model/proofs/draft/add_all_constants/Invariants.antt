@@ -1,6 +1,6 @@
 use Rattle.std.proofs.Common.{◌≡◌, take}
 use Rattle.std.specs.List.{fold, flat_map}
-use Rattle.fzn_model.specs.Fits.{add_once, constants_in}
+use Rattle.constraint_model.specs.Fits.{add_once, constants_in}
 use Rattle.fzn_model.proofs.draft.add_all_constants.Given as goal
 
 -- the constants of the constraints so far

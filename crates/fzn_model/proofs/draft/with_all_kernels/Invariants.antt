@@ -1,7 +1,7 @@
 use Rattle.std.proofs.Common.{◌≡◌, ◌+◌, ◌≤◌, take}
 use Rattle.std.specs.List.{sum_by}
-use Rattle.fzn_model.specs.Fits.{kernels_of}
-use Rattle.fzn_model.specs.Faults.{most_kernels}
+use Rattle.constraint_model.specs.Fits.{kernels_of}
+use Rattle.constraint_model.specs.Limits.{most_kernels}
 use Rattle.fzn_model.proofs.draft.with_all_kernels.Given as goal
 
 -- the propagators of the constraints so far, which are not too many

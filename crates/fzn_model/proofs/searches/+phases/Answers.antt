@@ -1,5 +1,5 @@
 use Rattle.std.proofs.Common.{◌≡◌, List, ◌++◌, OnOk, sym, ap, ◌∙◌, append-nil, subst, arith}
-use Rattle.fzn_model.specs.declared.model.Phase.{Phase}
+use Rattle.constraint_model.specs.declared.model.Phase.{Phase}
 use Rattle.fzn_model.proofs.NoteLaws.{one_argument, more_arguments}
 use Rattle.fzn_model.proofs.searches.+phases.Goals as goal
 

@@ -1,0 +1,169 @@
+-- What the constraints hold of an assignment, and which assignments are solutions.
+-- (MiniZinc Handbook: FlatZinc builtins.) One line for each constraint.
+use Rattle.std.specs.Prelude.{◌≡◌, ◌≢◌, ◌⊎◌, ◌↔◌, ℕ, ◌+◌, ◌<◌, ℤ, pos, neg_ℤ, unsigned_abs, ◌+ℤ◌, ◌*ℤ◌, ◌≤ℤ◌, ◌<ℤ◌, List, [], ◌∷◌, length, map, All, Any, Contains, slice_index_or, Option, Some, None}
+use Rattle.std.specs.Int.{int_min, int_max}
+use Rattle.constraint_model.specs.declared.model.Term.{Term}
+use Rattle.constraint_model.specs.declared.model.Operand.{Operand}
+use Rattle.constraint_model.specs.declared.model.Constraint.{Constraint}
+use Rattle.constraint_model.specs.declared.model.VarDecl.{VarDecl}
+use Rattle.constraint_model.specs.declared.model.Goal.{Goal}
+use Rattle.constraint_model.specs.declared.model.FznModel.{FznModel}
+use Rattle.constraint_model.specs.declared.table.ConstraintName.{ConstraintName}
+use Rattle.constraint_model.specs.Ranges.{Range, IsIn}
+
+-- the number of a term: its own, or the one that the assignment gives to its variable
+abbrev pub value : List ℤ → Term → ℤ
+value a (Term.Number n) = n
+value a (Term.Var v) = slice_index_or a v (pos 0)
+
+-- a boolean is a number, 1 for true and 0 for false
+abbrev pub IsTrueNumber : ℤ → Type 0
+IsTrueNumber z = pos 1 ≤ℤ z
+
+-- ---- the shapes of arguments
+
+abbrev pub One2 : (ℤ → ℤ → Type 0) → List ℤ → List Operand → Type 0
+One2 R a (Operand.One x ∷ Operand.One y ∷ []) = R (value a x) (value a y)
+One2 R a _ = ⊥
+
+abbrev pub One3 : (ℤ → ℤ → ℤ → Type 0) → List ℤ → List Operand → Type 0
+One3 R a (Operand.One x ∷ Operand.One y ∷ Operand.One z ∷ []) = R (value a x) (value a y) (value a z)
+One3 R a _ = ⊥
+
+abbrev pub OneRow : (ℤ → List ℤ → Type 0) → List ℤ → List Operand → Type 0
+OneRow R a (Operand.One x ∷ Operand.Row ys ∷ []) = R (value a x) (map (value a) ys)
+OneRow R a _ = ⊥
+
+abbrev pub RowOne : (List ℤ → ℤ → Type 0) → List ℤ → List Operand → Type 0
+RowOne R a (Operand.Row xs ∷ Operand.One y ∷ []) = R (map (value a) xs) (value a y)
+RowOne R a _ = ⊥
+
+abbrev pub Row2 : (List ℤ → List ℤ → Type 0) → List ℤ → List Operand → Type 0
+Row2 R a (Operand.Row xs ∷ Operand.Row ys ∷ []) = R (map (value a) xs) (map (value a) ys)
+Row2 R a _ = ⊥
+
+abbrev pub Row2One : (List ℤ → List ℤ → ℤ → Type 0) → List ℤ → List Operand → Type 0
+Row2One R a (Operand.Row xs ∷ Operand.Row ys ∷ Operand.One z ∷ []) = R (map (value a) xs) (map (value a) ys) (value a z)
+Row2One R a _ = ⊥
+
+abbrev pub OneRowOne : (ℤ → List ℤ → ℤ → Type 0) → List ℤ → List Operand → Type 0
+OneRowOne R a (Operand.One x ∷ Operand.Row ys ∷ Operand.One z ∷ []) = R (value a x) (map (value a) ys) (value a z)
+OneRowOne R a _ = ⊥
+
+abbrev pub OneSet : (ℤ → List Range → Type 0) → List ℤ → List Operand → Type 0
+OneSet R a (Operand.One x ∷ Operand.Set s ∷ []) = R (value a x) s
+OneSet R a _ = ⊥
+
+-- behind the arguments of a constraint stands a boolean, which is true exactly where the constraint holds
+abbrev pub Reified : (List Operand → Type 0) → List ℤ → List Operand → Type 0
+Reified Holds a [] = ⊥
+Reified Holds a (Operand.One r ∷ []) = IsTrueNumber (value a r) ↔ Holds []
+Reified Holds a (o ∷ os) = Reified (λ rest. Holds (o ∷ rest)) a os
+
+-- ---- the relations
+
+-- the sum of the products of coefficients and numbers
+abbrev pub dot : List ℤ → List ℤ → ℤ
+dot (c ∷ cs) (x ∷ xs) = (c *ℤ x) +ℤ dot cs xs
+dot _ _ = pos 0
+
+abbrev pub Linear : (ℤ → ℤ → Type 0) → List ℤ → List Operand → Type 0
+Linear R a operands = Row2One (λ cs xs c. R (dot cs xs) c) a operands
+
+-- the entry at place x, counted from 1, is c
+pub record IsEntry (x : ℤ) (entries : List ℤ) (c : ℤ) : Type 0 where
+  pub place : ℕ
+  pub inside : place < length entries
+  pub counted : x ≡ pos (place + 1)
+  pub entry : slice_index_or entries place (pos 0) ≡ c
+
+-- m is an entry and none is greater, or less
+abbrev pub IsMaximum : ℤ → List ℤ → Type 0
+IsMaximum m xs = Contains xs m × All (λ x. x ≤ℤ m) xs
+
+abbrev pub IsMinimum : ℤ → List ℤ → Type 0
+IsMinimum m xs = Contains xs m × All (λ x. m ≤ℤ x) xs
+
+-- r is true exactly where all are true, or where some is
+abbrev pub IsConjunction : List ℤ → ℤ → Type 0
+IsConjunction xs r = IsTrueNumber r ↔ All IsTrueNumber xs
+
+abbrev pub IsDisjunction : List ℤ → ℤ → Type 0
+IsDisjunction xs r = IsTrueNumber r ↔ Any IsTrueNumber xs
+
+-- one of the first is true or one of the second is false
+abbrev pub IsClause : List ℤ → List ℤ → Type 0
+IsClause ps ns = Any IsTrueNumber ps ⊎ Any (λ x. IsTrueNumber x → ⊥) ns
+
+-- two arguments differ; or the third is true exactly where they do
+abbrev pub Differs : List ℤ → List Operand → Type 0
+Differs a (Operand.One x ∷ Operand.One y ∷ []) = value a x ≢ value a y
+Differs a (Operand.One x ∷ Operand.One y ∷ Operand.One r ∷ []) = IsTrueNumber (value a r) ↔ (value a x ≢ value a y)
+Differs a _ = ⊥
+
+-- the constraint of this name holds of its arguments under an assignment
+unfoldable pub HoldsOn : ConstraintName → List ℤ → List Operand → Type 0
+HoldsOn ConstraintName.IntEq a = One2 (λ x y. x ≡ y) a
+HoldsOn ConstraintName.IntNe a = One2 (λ x y. x ≢ y) a
+HoldsOn ConstraintName.IntLe a = One2 (λ x y. x ≤ℤ y) a
+HoldsOn ConstraintName.IntLt a = One2 (λ x y. x <ℤ y) a
+HoldsOn ConstraintName.IntLinEq a = Linear (λ s c. s ≡ c) a
+HoldsOn ConstraintName.IntLinNe a = Linear (λ s c. s ≢ c) a
+HoldsOn ConstraintName.IntLinLe a = Linear (λ s c. s ≤ℤ c) a
+HoldsOn ConstraintName.IntEqReif a = Reified (One2 (λ x y. x ≡ y) a) a
+HoldsOn ConstraintName.IntNeReif a = Reified (One2 (λ x y. x ≢ y) a) a
+HoldsOn ConstraintName.IntLeReif a = Reified (One2 (λ x y. x ≤ℤ y) a) a
+HoldsOn ConstraintName.IntLtReif a = Reified (One2 (λ x y. x <ℤ y) a) a
+HoldsOn ConstraintName.IntLinEqReif a = Reified (Linear (λ s c. s ≡ c) a) a
+HoldsOn ConstraintName.IntLinNeReif a = Reified (Linear (λ s c. s ≢ c) a) a
+HoldsOn ConstraintName.IntLinLeReif a = Reified (Linear (λ s c. s ≤ℤ c) a) a
+HoldsOn ConstraintName.IntPlus a = One3 (λ x y z. x +ℤ y ≡ z) a
+HoldsOn ConstraintName.IntTimes a = One3 (λ x y z. x *ℤ y ≡ z) a
+HoldsOn ConstraintName.IntAbs a = One2 (λ x y. pos (unsigned_abs x) ≡ y) a
+HoldsOn ConstraintName.IntMax a = One3 (λ x y z. int_max x y ≡ z) a
+HoldsOn ConstraintName.IntMin a = One3 (λ x y z. int_min x y ≡ z) a
+HoldsOn ConstraintName.ArrayIntMaximum a = OneRow IsMaximum a
+HoldsOn ConstraintName.ArrayIntMinimum a = OneRow IsMinimum a
+HoldsOn ConstraintName.ArrayIntElement a = OneRowOne IsEntry a
+HoldsOn ConstraintName.ArrayVarIntElement a = OneRowOne IsEntry a
+HoldsOn ConstraintName.ArrayBoolElement a = OneRowOne IsEntry a
+HoldsOn ConstraintName.ArrayVarBoolElement a = OneRowOne IsEntry a
+HoldsOn ConstraintName.SetIn a = OneSet (λ x s. IsIn s x) a
+HoldsOn ConstraintName.SetInReif a = Reified (OneSet (λ x s. IsIn s x) a) a
+HoldsOn ConstraintName.BoolToInt a = One2 (λ x y. x ≡ y) a
+HoldsOn ConstraintName.BoolEq a = One2 (λ x y. x ≡ y) a
+HoldsOn ConstraintName.BoolLe a = One2 (λ x y. x ≤ℤ y) a
+HoldsOn ConstraintName.BoolLt a = One2 (λ x y. x <ℤ y) a
+HoldsOn ConstraintName.BoolEqReif a = Reified (One2 (λ x y. x ≡ y) a) a
+HoldsOn ConstraintName.BoolLeReif a = Reified (One2 (λ x y. x ≤ℤ y) a) a
+HoldsOn ConstraintName.BoolLtReif a = Reified (One2 (λ x y. x <ℤ y) a) a
+HoldsOn ConstraintName.BoolNot a = One2 (λ x y. x ≢ y) a
+HoldsOn ConstraintName.BoolXor a = Differs a
+HoldsOn ConstraintName.BoolAnd a = One3 (λ x y r. IsConjunction (x ∷ y ∷ []) r) a
+HoldsOn ConstraintName.BoolOr a = One3 (λ x y r. IsDisjunction (x ∷ y ∷ []) r) a
+HoldsOn ConstraintName.ArrayBoolAnd a = RowOne IsConjunction a
+HoldsOn ConstraintName.ArrayBoolOr a = RowOne IsDisjunction a
+HoldsOn ConstraintName.BoolClause a = Row2 IsClause a
+HoldsOn ConstraintName.BoolClauseReif a = Reified (Row2 IsClause a) a
+HoldsOn ConstraintName.BoolLinLe a = Linear (λ s c. s ≤ℤ c) a
+HoldsOn ConstraintName.BoolLinEq a = Linear (λ s c. s ≡ c) a
+
+abbrev pub Holds : Constraint → List ℤ → Type 0
+Holds c a = HoldsOn c.name a c.operands
+
+-- the assignment keeps a variable within the bounds that it starts with
+abbrev pub IsWithin : List ℤ → List VarDecl → Type 0
+IsWithin [] [] = Unit {0}
+IsWithin (z ∷ zs) (d ∷ ds) = (d.low ≤ℤ z) × (z ≤ℤ d.high) × IsWithin zs ds
+IsWithin _ _ = ⊥
+
+-- an assignment of the declared variables, within their bounds, of which every constraint holds
+pub record IsSolution (model : FznModel) (a : List ℤ) : Type 0 where
+  pub within : IsWithin a model.vars
+  pub holds : All (λ c. Holds c a) model.constraints
+
+-- what a solution costs: the objective to be minimized, or the negation of the one to be maximized
+abbrev pub cost_of : Goal → List ℤ → Option ℤ
+cost_of Goal.Satisfy a = None
+cost_of (Goal.Minimize t) a = Some (value a t)
+cost_of (Goal.Maximize t) a = Some (neg_ℤ (value a t))

@@ -1,0 +1,21 @@
+//! A model: variables, constraints, what is asked for and what is written. Which constraints there are, what they take
+//! and hold, and what makes a model well-formed.
+#![tactic(auto)]
+
+mod kernels;
+pub mod meanings;
+pub mod model;
+mod numbers;
+mod ranges;
+pub mod table;
+#[cfg(test)]
+mod tests;
+
+pub use kernels::{add_constant, add_constants, kernel_count};
+pub use meanings::{Meaning, Scalar};
+pub use model::{
+    Constraint, FznModel, Goal, Operand, Output, Phase, Term, ValSel, VarDecl, VarSel,
+};
+pub use numbers::LARGEST;
+pub use ranges::{law_ranges, range_of, ranges_of};
+pub use table::{ConstraintName, Letter, fits, fits_some_row, law_table};

@@ -1,0 +1,24 @@
+//! What a name or an argument stands for.
+
+use crate::model::Term;
+use list_of::ListOf;
+
+/// A boolean or an integer, constant or variable.
+#[derive(Debug, Clone, Copy)]
+pub struct Scalar {
+    /// Whether it is a boolean.
+    pub is_bool: bool,
+    /// Its number, or its variable.
+    pub term: Term,
+}
+
+/// What a name or an expression stands for.
+#[derive(Drop)]
+pub enum Meaning {
+    /// A boolean or an integer.
+    One(Scalar),
+    /// An array of these.
+    Row(ListOf<Scalar>),
+    /// A set of integers, as its sorted greatest ranges.
+    Set(ListOf<(i64, i64)>),
+}

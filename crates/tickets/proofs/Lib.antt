@@ -1,0 +1,3 @@
+pub mod CountingLemmas
+pub mod ViewLaws
+pub mod Moves

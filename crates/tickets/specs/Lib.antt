@@ -1,0 +1,4 @@
+pub mod Counting
+pub mod Rule
+pub mod Seats
+pub mod Alike

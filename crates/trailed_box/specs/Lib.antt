@@ -1,0 +1,3 @@
+pub mod Trailed
+pub mod Trail
+pub mod Invariant

@@ -3,3 +3,4 @@ pub mod PartLaws
 pub mod Examples
 pub mod TreeLaws
 pub mod ListLaws
+pub mod PointCounting

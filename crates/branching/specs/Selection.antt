@@ -2,7 +2,7 @@
 -- pair 0 is the constant 1.
 --
 -- Source: the FlatZinc chapter of the MiniZinc Handbook, its search annotations.
-use Rattle.std.specs.Prelude.{◌≡◌, ℕ, suc, ℤ, pos, neg_ℤ, ◌-ℤ◌, ◌≤ℤ◌, ◌<ℤ◌, ◌<◌, List, [], ◌∷◌, ◌++◌, length, All}
+use Rattle.std.specs.Prelude.{◌≡◌, ℕ, suc, ℤ, pos, neg_ℤ, ◌-ℤ◌, ◌≤ℤ◌, ◌<ℤ◌, ◌<◌, List, ◌∷◌, ◌++◌, length, All}
 use Rattle.interval.specs.Boxes.{Bounds, low_of, high_of}
 use Rattle.constraint_model.specs.declared.model.VarSel.{VarSel}
 use Rattle.constraint_model.specs.declared.model.Phase.{Phase}

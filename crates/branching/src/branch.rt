@@ -9,8 +9,8 @@ ghost use Rattle.constraint_model.specs.Searches.{IsSearchOf};
 ghost use Rattle.branching.specs.Parts.{cut_of, is_upper_first, left_of, right_of, IsBranch, AreParts};
 
 use crate::select::{choice, pair_of};
-use fixpoint_laws::law_tightens_one;
 use constraint_model::{FznModel, ValSel};
+use fixpoint_laws::law_tightens_one;
 use interval::{BoxOf, floor_div, law_inside_order, law_quotient_order};
 
 /// Parts the box at the variable, and in the order, that the model's search asks for.

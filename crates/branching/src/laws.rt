@@ -1,5 +1,6 @@
 //! Laws of branches and of the lists of solutions, as functions that do nothing.
 
+ghost use Rattle.branching.specs.Points.{PointCounts};
 ghost use Rattle.branching.specs.Tree.{BranchLaws, OneList, EveryList, EachOnce};
 
 use fixpoint_laws::{law_one_fixpoint, law_tightens_one};
@@ -38,4 +39,11 @@ pub fn law_each_once()
     law_inside_order();
     law_quotient_order();
     law_tightens_one();
+}
+
+/// The two parts of a box have its points between them.
+pub fn law_points()
+    ensures { PointCounts }
+{
+    law_quotient_order();
 }

@@ -8,5 +8,5 @@ mod select;
 mod tests;
 
 pub use branch::choose;
-pub use laws::{law_branches, law_each_once, law_every_list, law_one_list};
+pub use laws::{law_branches, law_each_once, law_every_list, law_one_list, law_points};
 pub use select::are_fixed;

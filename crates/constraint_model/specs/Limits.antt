@@ -9,6 +9,10 @@ most_vars = 65536
 abbrev pub most_entries : ℕ
 most_entries = 65536
 
+-- the most index sets of an array that is written
+abbrev pub most_index_sets : ℕ
+most_index_sets = 6
+
 -- the most propagators that the constraints are run as
 abbrev pub most_kernels : ℕ
 most_kernels = 1048576

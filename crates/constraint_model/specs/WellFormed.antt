@@ -1,17 +1,20 @@
 -- What holds of the model of every text: declared bounds and numbers are in the profile, terms are declared variables of
--- the right type, each constraint has arguments that fit it, and no limit is passed.
+-- the right type, each constraint has arguments that fit it, the search has all declared variables and no others, and no
+-- limit is passed.
 use Rattle.std.specs.Prelude.{◌≡◌, ◌⊎◌, ℕ, ◌≤◌, ◌<◌, ℤ, pos, List, [], ◌++◌, length, fold, flat_map, sum_by, slice_index_or, All, Bool, false, IsTrue, IsSome}
 use Rattle.constraint_model.specs.declared.model.Term.{Term}
 use Rattle.constraint_model.specs.declared.model.VarDecl.{VarDecl}
 use Rattle.constraint_model.specs.declared.model.Constraint.{Constraint}
 use Rattle.constraint_model.specs.declared.model.Goal.{Goal}
+use Rattle.constraint_model.specs.declared.model.Output.{Output}
 use Rattle.constraint_model.specs.declared.model.FznModel.{FznModel}
 use Rattle.constraint_model.specs.declared.meanings.Scalar.{Scalar}
 use Rattle.constraint_model.specs.declared.meanings.Meaning.{Meaning}
 use Rattle.constraint_model.specs.Numbers.{IsInProfile}
 use Rattle.constraint_model.specs.Ranges.{Range, AreApart}
 use Rattle.constraint_model.specs.Fits.{row_for, constraint_on, constants_in, goal_constants, add_once, kernels_of}
-use Rattle.constraint_model.specs.Limits.{most_vars, most_entries, most_kernels, most_constants}
+use Rattle.constraint_model.specs.Searches.{IsSearchOf}
+use Rattle.constraint_model.specs.Limits.{most_vars, most_entries, most_index_sets, most_kernels, most_constants}
 
 -- the bounds of a variable are in the profile, those of a boolean are 0 and 1
 pub record IsDeclaration (d : VarDecl) : Type 0 where
@@ -52,6 +55,13 @@ IsGoalOf vars Goal.Satisfy = Unit {0}
 IsGoalOf vars (Goal.Minimize t) = IsScalarOf vars (record { is_bool = false; term = t })
 IsGoalOf vars (Goal.Maximize t) = IsScalarOf vars (record { is_bool = false; term = t })
 
+-- what is written of a solution: terms of the declared type; an array isn't too long, and has one to six index sets, whose
+-- ends are numbers of the profile
+abbrev pub IsOutputOf : List VarDecl → Output → Type 0
+IsOutputOf vars (Output.Scalar name is_bool value) = IsTermOf vars is_bool value
+IsOutputOf vars (Output.Array name is_bool ranges entries) =
+    (length entries ≤ most_entries) × All (IsTermOf vars is_bool) entries × (1 ≤ length ranges) × (length ranges ≤ most_index_sets) × All (λ (r : Range). IsInProfile r.0 × IsInProfile r.1) ranges
+
 -- the numbers other than 1 that stand where variables may, each once, in the order in which they first stand: in the
 -- constraints, then in the objective
 abbrev pub constants_of : FznModel → List ℤ
@@ -60,7 +70,9 @@ constants_of model = fold add_once [] (flat_map constants_in model.constraints +
 pub record IsWellFormed (model : FznModel) : Type 0 where
   pub vars : All IsDeclaration model.vars
   pub constraints : All (IsConstraintOf model.vars) model.constraints
+  pub search : IsSearchOf model
   pub objective : IsGoalOf model.vars model.goal
+  pub outputs : All (IsOutputOf model.vars) model.output
   pub vars_fit : length model.vars ≤ most_vars
   pub constants_fit : length (constants_of model) ≤ most_constants
   pub kernels_fit : sum_by kernels_of model.constraints ≤ most_kernels

@@ -38,10 +38,7 @@ fn ranges_of_rising(alloc: Global, numbers: &[i64]) -> Result<ListOf<(i64, i64)>
 
 /// The ranges of the set of these numbers.
 #[tactic(auto, using(crate::proofs::RangeLaws::sorted_ranges))]
-pub fn ranges_of(
-    alloc: Global,
-    mut numbers: Vec<i64>,
-) -> Result<ListOf<(i64, i64)>, AllocError>
+pub fn ranges_of(alloc: Global, mut numbers: Vec<i64>) -> Result<ListOf<(i64, i64)>, AllocError>
     ensures { IfOk result (λ r. r ≡ ranges_of numbers.items) }
 {
     numbers.sort_unstable();

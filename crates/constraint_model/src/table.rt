@@ -5,8 +5,8 @@ ghost use Rattle.constraint_model.specs.Table.{spelled, signatures};
 ghost use Rattle.constraint_model.specs.Fits.{named, is_constant, is_integer, is_boolean, fits, all_fit, has_equal_lengths, fits_row, row_for, NamesAreFound, LettersAreThose};
 ghost use Rattle.std.specs.List.{list_all};
 
-use crate::model::Term;
 use crate::meanings::{Meaning, Scalar};
+use crate::model::Term;
 
 /// The name of a constraint of FlatZinc.
 #[derive(Debug, Clone, Copy, PartialEq, Eq)]

@@ -1,14 +1,16 @@
 -- The small model is well-formed.
-use Rattle.std.proofs.Common.{◌≡◌, ℤ, pos, negsuc, ◌≤◌, unsigned_abs, true, false, [], ◌∷◌, refl, sym, subst, lit≤, lit<, arith}
+use Rattle.std.proofs.Common.{◌≡◌, ℤ, pos, negsuc, ◌≤◌, ◌<◌, unsigned_abs, true, false, [], ◌∷◌, refl, sym, subst, lit≤, lit<, arith}
 use Rattle.std.specs.List.{All}
 use Rattle.std.proofs.lemmas.List.Elements.{All-nil, All-cons}
 use Rattle.constraint_model.specs.declared.model.Term.{Term}
+use Rattle.constraint_model.specs.declared.model.Phase.{Phase}
 use Rattle.constraint_model.specs.declared.model.FznModel.{FznModel}
 use Rattle.constraint_model.specs.declared.meanings.Scalar.{Scalar}
 use Rattle.constraint_model.specs.declared.meanings.Meaning.{Meaning}
 use Rattle.constraint_model.specs.Numbers.{IsInProfile, largest}
+use Rattle.constraint_model.specs.Searches.{last_phase, IsSearchOf}
 use Rattle.constraint_model.specs.Fits.{row_for, constants_in, kernels_of as kernel_count}
-use Rattle.constraint_model.specs.WellFormed.{IsDeclaration, IsScalarOf, IsMeaningOf, IsConstraintOf, IsWellFormed}
+use Rattle.constraint_model.specs.WellFormed.{IsDeclaration, IsScalarOf, IsMeaningOf, IsConstraintOf, IsOutputOf, IsWellFormed}
 use Rattle.guarded_tell.specs.declared.kernel.Kernel.TheVariants.{Le}
 use Rattle.decompose.specs.Kernels.{row_of, kernels_of}
 use Rattle.decompose.specs.Examples.{small_x, small_b, small_variables, small_model, small_reified, small_less, small_sum}
@@ -77,6 +79,13 @@ sum_is = record {
       (integer_is (pos 7) (lit≤ tt));
 }
 
+small_search : IsSearchOf small_model
+small_search = record {
+  declared = All-cons (λ (p : Phase). All (λ v. v < 2) p.vars) (last_phase 2) [] (two (λ v. v < 2) 0 1 (lit< tt) (lit< tt)) (All-nil (λ (p : Phase). All (λ v. v < 2) p.vars));
+  front = [];
+  last = refl;
+}
+
 small_is_well_formed : IsWellFormed small_model
 unfolding constants_in kernel_count
 small_is_well_formed = record {
@@ -84,7 +93,9 @@ small_is_well_formed = record {
       (record { low = small_number (negsuc 2) (lit≤ tt); high = small_number (pos 5) (lit≤ tt); boolean = λ (e : false ≡ true). absurd (let f : false ≡ true = e in cc) })
       (record { low = small_number (pos 0) (lit≤ tt); high = small_number (pos 1) (lit≤ tt); boolean = λ e. (refl, refl) });
   constraints = three (IsConstraintOf small_variables) small_reified small_less small_sum reified_is less_is sum_is;
+  search = small_search;
   objective = integer_is (pos 9) (lit≤ tt);
+  outputs = All-nil (IsOutputOf small_variables);
   vars_fit = lit≤ tt;
   constants_fit = lit≤ tt;
   kernels_fit = lit≤ tt;

@@ -7,6 +7,7 @@ use Rattle.constraint_model.specs.declared.model.Constraint.{Constraint}
 use Rattle.constraint_model.specs.declared.model.Goal.{Goal}
 use Rattle.constraint_model.specs.declared.model.FznModel.{FznModel}
 use Rattle.constraint_model.specs.declared.table.ConstraintName.{ConstraintName}
+use Rattle.constraint_model.specs.Searches.{last_phase}
 
 -- x is -3..5, b is a boolean
 abbrev pub small_x : Term
@@ -38,4 +39,4 @@ small_constraints = small_reified ∷ small_less ∷ small_sum ∷ []
 
 -- the constant 9 is to be minimized
 abbrev pub small_model : FznModel
-small_model = record { vars = small_variables; constraints = small_constraints; search = []; goal = Goal.Minimize (Term.Number (pos 9)); output = [] }
+small_model = record { vars = small_variables; constraints = small_constraints; search = last_phase 2 ∷ []; goal = Goal.Minimize (Term.Number (pos 9)); output = [] }

@@ -1,10 +1,13 @@
 //! The program of a small model, worked out by hand.
 
-ghost use Rattle.std.specs.Prelude.{◌≡◌, IfOk};
+ghost use Rattle.std.specs.Prelude.{◌≡◌, ◌∷◌, [], IfOk};
+ghost use Rattle.constraint_model.specs.Searches.{last_phase};
 ghost use Rattle.decompose.specs.Examples.{small_variables, small_constraints, small_model};
 
 use crate::{Program, compile};
-use constraint_model::{Constraint, ConstraintName, FznModel, Goal, Operand, Term, VarDecl};
+use constraint_model::{
+    Constraint, ConstraintName, FznModel, Goal, Operand, Phase, Term, ValSel, VarDecl, VarSel,
+};
 use guarded_tell::{Kernel, Lit};
 use list_of::ListOf;
 use std::alloc::{AllocError, Global};
@@ -69,6 +72,22 @@ fn constraint(name: ConstraintName, operands: ListOf<Operand>) -> Constraint
     Constraint { name, operands }
 }
 
+/// The phase of both variables.
+fn phases(alloc: Global) -> Result<ListOf<Phase>, AllocError>
+    ensures { IfOk result (λ made. made ≡ last_phase 2 ∷ []) }
+{
+    let mut vars = ListOf::new(alloc);
+    vars.push(0)?;
+    vars.push(1)?;
+    let mut phases = ListOf::new(alloc);
+    phases.push(Phase {
+        vars,
+        var_sel: VarSel::InputOrder,
+        val_sel: ValSel::Min,
+    })?;
+    Ok(phases)
+}
+
 /// These variables and constraints, and the constant 9 is to be minimized.
 fn small_model(alloc: Global) -> Result<FznModel, AllocError>
     ensures { IfOk result (λ made. made ≡ small_model) }
@@ -76,7 +95,7 @@ fn small_model(alloc: Global) -> Result<FznModel, AllocError>
     Ok(FznModel {
         vars: variables(alloc)?,
         constraints: constraints(alloc)?,
-        search: ListOf::new(alloc),
+        search: phases(alloc)?,
         goal: Goal::Minimize(Term::Number(9)),
         output: ListOf::new(alloc),
     })

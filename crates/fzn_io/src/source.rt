@@ -25,7 +25,8 @@ pub trait Source {
     // How many faults there were. It never falls, and stands still at the greatest `u64`.
     ghost faults: { Self → ℕ };
 
-    /// Opens the text of a name in place of the one that was open. A name that isn't there is a fault.
+    /// Opens the text of a name in place of the one that was open. A name that isn't there is a fault. After a refusal
+    /// no text is open.
     fn open_named(&mut self, name: &str) -> Result<(), Failed>
         requires { IsNextName (names self.old) name.now }
         ensures opened { is_open self.new ≡ is_ok result }
@@ -35,7 +36,8 @@ pub trait Source {
         ensures never_falls { faults self.old ≤ faults self.new }
         ensures cause { OnErr result (CountRose (faults self.old) (faults self.new)) };
 
-    /// Reads into the front of `buf` and answers how many bytes. None into a buffer that isn't empty is the end.
+    /// Reads into the front of `buf` and answers how many bytes. None into a buffer that isn't empty is the end. What stands
+    /// in the rest of `buf`, and after a refusal in all of it, is left open, as the system leaves it.
     fn read(&mut self, buf: &mut [u8]) -> Result<usize, Failed>
         requires { is_open self.old ≡ true }
         ensures within { IfOk result (λ n. n ≤ length buf.new) }

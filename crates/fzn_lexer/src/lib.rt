@@ -37,7 +37,7 @@ pub struct Token {
 
 /// What a piece of a text is.
 #[derive(Clone, Copy, Debug, PartialEq, Eq)]
-pub enum PieceKind {
+pub(crate) enum PieceKind {
     /// A token of this kind.
     Token(Kind),
     /// One blank byte.

@@ -1,5 +1,5 @@
 -- The constraints that declarations add are on arguments that fit, and the bounds of variables are in the profile.
-use Rattle.std.proofs.Common.{◌≡◌, ℕ, List, [], ◌∷◌, map, Bool, true, false, Option, Some, None, refl, subst, arith, ℤ}
+use Rattle.std.proofs.Common.{◌≡◌, ℕ, List, [], ◌∷◌, map, Bool, true, false, not, Option, Some, None, refl, subst, arith, ℤ}
 use Rattle.std.specs.Prelude.{fold}
 use Rattle.std.specs.List.{AllByRecursion as Each, list_all}
 use Rattle.std.specs.Option.{IfSome}
@@ -14,7 +14,7 @@ use Rattle.constraint_model.specs.declared.meanings.Meaning.{Meaning}
 use Rattle.constraint_model.specs.Numbers.{largest, IsInProfile}
 use Rattle.constraint_model.specs.Ranges.{Range, ranges_of}
 use Rattle.fzn_model.specs.Scopes.{number_at, set_at}
-use Rattle.constraint_model.specs.Fits.{row_for}
+use Rattle.constraint_model.specs.Fits.{row_for, is_constant}
 use Rattle.fzn_model.specs.Effects.{hull, variable, declares_variable, is_bool_shape, membership, equality, domain_constraints, value_constraints, element_constraints, terms_in}
 use Rattle.fzn_model.specs.Faults.{scalar_fits, fits_scalar_type, fits_array_type, set_is_long, shape_is_long}
 use Rattle.constraint_model.specs.WellFormed.{IsDeclaration, IsTermOf, IsScalarOf, IsMeaningOf, IsConstraintOf}
@@ -65,19 +65,21 @@ domain_fits laws vars text (Shape.VarIn (SetLit.Braces values)) x l h = (in_set 
 domain_fits laws vars text (Shape.VarIn (SetLit.Range low high)) x l h = tt
 domain_fits laws vars text shape x l h = tt
 
--- a value of a variable's type is a boolean exactly where the variable is
-same_type : (shape : Shape) (s : Scalar) → declares_variable shape ≡ true → scalar_fits shape s ≡ true → s.is_bool ≡ is_bool_shape shape
-same_type Shape.VarBool s d e = e
-same_type Shape.VarInt s d e = not-true s.is_bool e
-same_type (Shape.VarIn set) s d e = not-true s.is_bool e
-same_type shape s d e = absurd (false≢true d)
+-- a value of a type is a boolean exactly where the type is a boolean's
+pub same_type : (shape : Shape) (s : Scalar) → scalar_fits shape s ≡ true → s.is_bool ≡ is_bool_shape shape
+same_type Shape.Bool s e = (and_parts s.is_bool (is_constant s) e).0
+same_type Shape.Int s e = not-true s.is_bool (and_parts (not s.is_bool) (is_constant s) e).0
+same_type Shape.VarBool s e = e
+same_type Shape.VarInt s e = not-true s.is_bool e
+same_type (Shape.VarIn set) s e = not-true s.is_bool e
+same_type shape s e = absurd (false≢true e)
 
-pub value_equal : (vars : List VarDecl) (shape : Shape) (x : Term) (value : Option Meaning) → declares_variable shape ≡ true → IsTermOf vars (is_bool_shape shape) x
+pub value_equal : (vars : List VarDecl) (shape : Shape) (x : Term) (value : Option Meaning) → IsTermOf vars (is_bool_shape shape) x
     → IfSome value (IsMeaningOf vars) → IfSome value (λ m. fits_scalar_type shape m ≡ true) → Each (IsConstraintOf vars) (value_constraints shape x value)
-value_equal vars shape x None d h k f = tt
-value_equal vars shape x (Some (Meaning.One s)) d h k f = (equal vars (is_bool_shape shape) x s.term h (subst (λ b. IsTermOf vars b s.term) (same_type shape s d f) k), tt)
-value_equal vars shape x (Some (Meaning.Row entries)) d h k f = tt
-value_equal vars shape x (Some (Meaning.Set ranges)) d h k f = tt
+value_equal vars shape x None h k f = tt
+value_equal vars shape x (Some (Meaning.One s)) h k f = (equal vars (is_bool_shape shape) x s.term h (subst (λ b. IsTermOf vars b s.term) (same_type shape s f) k), tt)
+value_equal vars shape x (Some (Meaning.Row entries)) h k f = tt
+value_equal vars shape x (Some (Meaning.Set ranges)) h k f = tt
 
 -- ---- elements
 

@@ -1,10 +1,10 @@
 -- What an item without a fault adds is well-formed.
-use Rattle.std.proofs.Common.{◌≡◌, ℕ, List, [], ◌∷◌, ◌++◌, length, Bool, true, false, cond, ◌&&◌, not, is_some, Option, Some, None, refl, ap, arith}
+use Rattle.std.proofs.Common.{◌≡◌, ℕ, List, [], ◌∷◌, ◌++◌, length, Bool, true, false, cond, ◌&&◌, not, is_some, Option, Some, None, refl, ap, sym, subst, arith}
 use Rattle.std.specs.Prelude.{option_map, option_to_list}
 use Rattle.std.specs.List.{AllByRecursion as Each, list_any, cons_option}
 use Rattle.std.specs.Option.{IfSome}
 use Rattle.std.proofs.lemmas.Bool.{and_parts, or_parts, not-false, true≢false, false≢true}
-use Rattle.std.proofs.lemmas.List.{get_or_push, length_push}
+use Rattle.std.proofs.lemmas.List.{append-nil, get_or_push, length_push}
 use Rattle.std.proofs.lemmas.List.Elements.{All-from_recursion}
 use Rattle.fzn_lexer.specs.declared.Token.{Token}
 use Rattle.fzn_parser.specs.declared.tree.Expr.{Expr}
@@ -15,15 +15,21 @@ use Rattle.fzn_parser.specs.Items.{WhatTree, predicate_item, scalar_item, array_
 use Rattle.fzn_parser.specs.Texts.{spelling}
 use Rattle.constraint_model.specs.declared.model.Term.{Term}
 use Rattle.constraint_model.specs.declared.model.VarDecl.{VarDecl}
+use Rattle.constraint_model.specs.declared.model.Phase.{Phase}
 use Rattle.constraint_model.specs.declared.meanings.Meaning.{Meaning}
 use Rattle.constraint_model.specs.declared.table.ConstraintName.{ConstraintName}
+use Rattle.fzn_model.specs.declared.fault_kinds.FaultKind.{FaultKind}
 use Rattle.fzn_model.specs.declared.effect.Effect.{Effect}
+use Rattle.constraint_model.specs.Searches.{last_phase}
+use Rattle.fzn_model.specs.Searches.{phases_of}
 use Rattle.fzn_model.specs.Scopes.{Scope, expr_meaning}
 use Rattle.constraint_model.specs.Fits.{named, row_for, constraint_on}
 use Rattle.fzn_model.specs.Effects.{Reading, joined, effect_of, no_effect, variable, variable_effect, parameter_effect, scalar_effect, array_effect, constraint_alone, constraint_effect, solve_effect, meanings_of, value_of, declares_variable, is_bool_shape, domain_constraints, value_constraints}
 use Rattle.fzn_model.specs.Faults.{if_some, all_mean, arguments_fit, fits_scalar_type, fits_array_type, value_fits, has_index_set, is_wrong_value, is_wrong_row, has_wrong_argument, is_unsupported, is_taken, expr_is_long, shape_is_long, type_is_long, has_long_list, expressions, is_too_large, passes_limit, first_kind, own_tests, place_tests, fault_of}
-use Rattle.constraint_model.specs.WellFormed.{IsDeclaration, IsVariable, IsMeaningOf, IsConstraintOf, IsGoalOf}
+use Rattle.constraint_model.specs.WellFormed.{IsDeclaration, IsVariable, IsMeaningOf, IsConstraintOf, IsGoalOf, IsOutputOf}
 use Rattle.fzn_model.proofs.MeaningLaws.{SetLaws, each_append, each_false, meaning_stays, constraint_stays, AreNames, meaning}
+use Rattle.fzn_model.proofs.OutputLaws.{scalar_outputs, value_outputs, array_outputs}
+use Rattle.fzn_model.proofs.PhaseLaws.{IsSearch, search_declared}
 use Rattle.fzn_model.proofs.AddedLaws.{declaration, domain_fits, value_equal, elements_fit}
 
 -- what stands behind the declared variables
@@ -31,10 +37,12 @@ pub record Adds (vars : List VarDecl) (more : Effect) : Type 0 where
   pub declared : IfSome more.declared (λ d. IsMeaningOf (vars ++ option_to_list more.var) d.1)
   pub var : IfSome more.var IsDeclaration
   pub constraints : Each (IsConstraintOf (vars ++ option_to_list more.var)) more.constraints
+  pub output : IfSome more.output (IsOutputOf (vars ++ option_to_list more.var))
   pub solved : IfSome more.solved (λ s. IsGoalOf (vars ++ option_to_list more.var) s.1)
+  pub search : IfSome more.solved (λ s. IsSearch (length (vars ++ option_to_list more.var)) s.0)
 
 adds_nothing : (vars : List VarDecl) → Adds vars no_effect
-adds_nothing vars = record { declared = tt; var = tt; constraints = tt; solved = tt }
+adds_nothing vars = record { declared = tt; var = tt; constraints = tt; output = tt; solved = tt; search = tt }
 
 value_stays : (vars more : List VarDecl) (value : Option Meaning) → IfSome value (IsMeaningOf vars) → IfSome value (IsMeaningOf (vars ++ more))
 value_stays vars more None h = tt
@@ -64,7 +72,7 @@ adds_constraint laws vars text scope h word args = by (named word)
           fits = (and_parts (all_mean text scope args) (is_some (row_for known (meanings_of text scope args))) fit).1;
           each = All-from_recursion (IsMeaningOf vars) (meanings_of text scope args) (meanings_each laws vars text scope h args (each_false expr_is_long args l));
         } in
-        record { declared = tt; var = tt; constraints = (constraint_stays vars [] (constraint_on known (meanings_of text scope args)) c, tt); solved = tt }
+        record { declared = tt; var = tt; constraints = (constraint_stays vars [] (constraint_on known (meanings_of text scope args)) c, tt); output = tt; solved = tt; search = tt }
 
 -- ---- scalars
 
@@ -81,8 +89,10 @@ adds_variable laws vars text shape word notes value d l k f =
       declared = here;
       var = declaration text shape word d;
       constraints = each_append (IsConstraintOf (vars ++ x ∷ [])) (domain_constraints text shape t) (value_constraints shape t value)
-          (domain_fits laws (vars ++ x ∷ []) text shape t l here) (value_equal (vars ++ x ∷ []) shape t value d here (value_stays vars (x ∷ []) value k) f);
+          (domain_fits laws (vars ++ x ∷ []) text shape t l here) (value_equal (vars ++ x ∷ []) shape t value here (value_stays vars (x ∷ []) value k) f);
+      output = scalar_outputs (vars ++ x ∷ []) text notes (is_bool_shape shape) word t here;
       solved = tt;
+      search = tt;
     }
 
 value_meaning : (laws : SetLaws) (vars : List VarDecl) (text : List ℕ) (scope : Scope) → AreNames vars scope → (value : Option Expr) → list_any expr_is_long (option_to_list value) ≡ false → IfSome (value_of text scope value) (IsMeaningOf vars)
@@ -103,8 +113,10 @@ names_value : (vars : List VarDecl) (word : List ℕ) (value : Option Meaning) �
 names_value vars word None k = tt
 names_value vars word (Some m) k = meaning_stays vars [] m k
 
-adds_parameter : (vars : List VarDecl) (text : List ℕ) (shape : Shape) (word : List ℕ) (notes : List AnnTree) (value : Option Meaning) → IfSome value (IsMeaningOf vars) → Adds vars (parameter_effect text shape word notes value)
-adds_parameter vars text shape word notes value k = record { declared = names_value vars word value k; var = tt; constraints = tt; solved = tt }
+adds_parameter : (vars : List VarDecl) (text : List ℕ) (shape : Shape) (word : List ℕ) (notes : List AnnTree) (value : Option Meaning) → IfSome value (IsMeaningOf vars) → IfSome value (λ m. fits_scalar_type shape m ≡ true)
+    → Adds vars (parameter_effect text shape word notes value)
+adds_parameter vars text shape word notes value k f =
+    record { declared = names_value vars word value k; var = tt; constraints = tt; output = value_outputs (vars ++ []) text notes shape word value (value_stays vars [] value k) f; solved = tt; search = tt }
 
 adds_scalar : (laws : SetLaws) (vars : List VarDecl) (text : List ℕ) (scope : Scope) → AreNames vars scope → (shape : Shape) (word : List ℕ) (notes : List AnnTree) (value : Option Expr)
     → is_wrong_value text scope shape value ≡ false → shape_is_long shape ≡ false → list_any expr_is_long (option_to_list value) ≡ false → Adds vars (scalar_effect text (length vars) shape word notes (value_of text scope value))
@@ -115,7 +127,7 @@ adds_scalar laws vars text scope h shape word notes value w s l = by (declares_v
 
     by : (b : Bool) → declares_variable shape ≡ b → Adds vars (cond b (variable_effect text (length vars) shape word notes (value_of text scope value)) (parameter_effect text shape word notes (value_of text scope value)))
     by true d = adds_variable laws vars text shape word notes (value_of text scope value) d s stands (value_typed text scope shape value w)
-    by false d = adds_parameter vars text shape word notes (value_of text scope value) stands
+    by false d = adds_parameter vars text shape word notes (value_of text scope value) stands (value_typed text scope shape value w)
 
 -- ---- arrays
 
@@ -132,15 +144,22 @@ adds_array laws vars text scope h shape word notes value f s l =
       declared = names_value vars word (expr_meaning text scope value) stands;
       var = tt;
       constraints = elements_fit laws (vars ++ []) text shape (expr_meaning text scope value) s (value_stays vars [] (expr_meaning text scope value) stands) f;
+      output = array_outputs (vars ++ []) text notes shape word (expr_meaning text scope value) (value_stays vars [] (expr_meaning text scope value) stands) f;
       solved = tt;
+      search = tt;
     }
 
 -- ---- the solve item
 
-adds_goal : (vars : List VarDecl) (text : List ℕ) (scope : Scope) (notes : List AnnTree) (aim : Aim) → not (is_taken aim) ≡ false → Adds vars (solve_effect text scope (length vars) notes aim)
-adds_goal vars text scope notes Aim.Satisfy t = record { declared = tt; var = tt; constraints = tt; solved = tt }
-adds_goal vars text scope notes (Aim.Minimize e) t = absurd (true≢false t)
-adds_goal vars text scope notes (Aim.Maximize e) t = absurd (true≢false t)
+-- nothing is declared by it
+search_stays : (vars : List VarDecl) (phases : List Phase) → IsSearch (length vars) phases → IsSearch (length (vars ++ [])) phases
+search_stays vars phases h = subst (λ (xs : List VarDecl). IsSearch (length xs) phases) (sym (append-nil vars)) h
+
+adds_goal : (vars : List VarDecl) (text : List ℕ) (scope : Scope) → AreNames vars scope → (notes : List AnnTree) (aim : Aim) → not (is_taken aim) ≡ false → Adds vars (solve_effect text scope (length vars) notes aim)
+adds_goal vars text scope h notes Aim.Satisfy t =
+    record { declared = tt; var = tt; constraints = tt; output = tt; solved = tt; search = search_stays vars (phases_of text scope notes ++ last_phase (length vars) ∷ []) (search_declared vars text scope h notes) }
+adds_goal vars text scope h notes (Aim.Minimize e) t = absurd (true≢false t)
+adds_goal vars text scope h notes (Aim.Maximize e) t = absurd (true≢false t)
 
 -- ---- any item
 
@@ -151,11 +170,11 @@ pub record Passes (text : List ℕ) (before : Reading) (what : WhatTree) : Type 
   pub limit : passes_limit before what (effect_of text before.scope (length before.vars) what) ≡ false
   pub open_yet : is_some before.solved ≡ false
 
-none_first : (tests : List (ℕ × Bool)) → first_kind tests ≡ None → Each (λ (t : ℕ × Bool). t.1 ≡ false) tests
+none_first : (tests : List (FaultKind × Bool)) → first_kind tests ≡ None → Each (λ (t : FaultKind × Bool). t.1 ≡ false) tests
 none_first [] e = tt
 none_first (t ∷ ts) e = by t.1 refl (none_first ts) e
   where
-    by : (b : Bool) → t.1 ≡ b → (first_kind ts ≡ None → Each (λ (t : ℕ × Bool). t.1 ≡ false) ts) → cond b (Some t.0) (first_kind ts) ≡ None → Each (λ (t : ℕ × Bool). t.1 ≡ false) (t ∷ ts)
+    by : (b : Bool) → t.1 ≡ b → (first_kind ts ≡ None → Each (λ (t : FaultKind × Bool). t.1 ≡ false) ts) → cond b (Some t.0) (first_kind ts) ≡ None → Each (λ (t : FaultKind × Bool). t.1 ≡ false) (t ∷ ts)
     by true same f k = absurd (true≢false (ap is_some k))
     by false same f k = (same, f k)
 
@@ -182,4 +201,4 @@ adds laws text before what h p = by what (supported (is_unsupported what) (has_w
     by (scalar_item shape name notes value) w t s l = adds_scalar laws before.vars text before.scope h shape (spelling text name) notes value w s l
     by (array_item low high shape name notes value) w t s l = adds_array laws before.vars text before.scope h shape (spelling text name) notes value (row_typed text before.scope low high shape value w) s l
     by (constraint_item name args notes) w t s l = adds_constraint laws before.vars text before.scope h (spelling text name) args w l
-    by (solve_item notes aim) w t s l = adds_goal before.vars text before.scope notes aim t
+    by (solve_item notes aim) w t s l = adds_goal before.vars text before.scope h notes aim t

@@ -4,7 +4,10 @@ pub mod FaultLaws
 pub mod MeaningLaws
 pub mod NoteLaws
 pub mod NumberLaws
+pub mod OutputLaws
+pub mod PhaseLaws
 pub mod ScopeLaws
+pub mod SomeModel
 pub mod Standing
 pub mod Turns
 pub mod WellFormedLaws

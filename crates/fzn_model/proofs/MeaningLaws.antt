@@ -15,6 +15,7 @@ use Rattle.fzn_parser.specs.Texts.{spelling}
 use Rattle.constraint_model.specs.declared.model.Term.{Term}
 use Rattle.constraint_model.specs.declared.model.VarDecl.{VarDecl}
 use Rattle.constraint_model.specs.declared.model.Constraint.{Constraint}
+use Rattle.constraint_model.specs.declared.model.Output.{Output}
 use Rattle.constraint_model.specs.declared.meanings.Scalar.{Scalar}
 use Rattle.constraint_model.specs.declared.meanings.Meaning.{Meaning}
 use Rattle.constraint_model.specs.Numbers.{largest, IsInProfile}
@@ -23,7 +24,7 @@ use Rattle.constraint_model.specs.Ranges.{Range, AreApart, insert_number, rising
 use Rattle.fzn_model.specs.Scopes.{Scope, meaning_of, number_at, set_at, scalar_of, entry_at, all_some, simple_at, expr_meaning, boolean, integer}
 use Rattle.constraint_model.specs.Limits.{most_entries}
 use Rattle.fzn_model.specs.Faults.{set_is_long, elem_is_long, expr_is_long}
-use Rattle.constraint_model.specs.WellFormed.{IsVariable, IsTermOf, IsScalarOf, IsMeaningOf, IsConstraintOf}
+use Rattle.constraint_model.specs.WellFormed.{IsVariable, IsTermOf, IsScalarOf, IsMeaningOf, IsConstraintOf, IsOutputOf}
 
 -- ---- lists and options
 
@@ -79,6 +80,11 @@ constraint_stays vars more c h = record {
   each = All-weaker (IsMeaningOf vars) (IsMeaningOf (vars ++ more)) (meaning_stays vars more) h.meanings h.each;
 }
 
+pub output_stays : (vars more : List VarDecl) (o : Output) → IsOutputOf vars o → IsOutputOf (vars ++ more) o
+output_stays vars more (Output.Scalar name is_bool value) h = term_stays vars more is_bool value h
+output_stays vars more (Output.Array name is_bool ranges entries) h =
+    (h.0, All-weaker (IsTermOf vars is_bool) (IsTermOf (vars ++ more) is_bool) (term_stays vars more is_bool) entries h.1, h.2, h.3, h.4)
+
 -- ---- numbers
 
 in_small : (base : ℕ) (s : List ℕ) → IfSome (number_in base s) (λ n. n ≤ largest)
@@ -101,7 +107,7 @@ pub opposite_in : (n : ℕ) → n ≤ largest → IsInProfile (neg_ℤ (pos n))
 opposite_in zero h = h
 opposite_in (suc n) h = h
 
-number_small : (s : List ℕ) → IfSome (number_of s) IsInProfile
+pub number_small : (s : List ℕ) → IfSome (number_of s) IsInProfile
 unfolding number_of
 number_small s = chosen IsInProfile (starts_with_minus s) (option_map (λ n. neg_ℤ (pos n)) (natural_of (drop 1 s))) (option_map pos (natural_of s))
     (mapped (λ n. neg_ℤ (pos n)) (λ n. n ≤ largest) IsInProfile opposite_in (natural_of (drop 1 s)) (natural_small (drop 1 s)))
@@ -213,7 +219,7 @@ set_meaning laws vars text (SetLit.Braces values) e =
 abbrev pub AreNames : List VarDecl → Scope → Type 0
 AreNames vars scope = Each (λ (e : List ℕ × Meaning). IsMeaningOf vars e.1) scope
 
-found : (vars : List VarDecl) (scope : Scope) (name : List ℕ) → AreNames vars scope → IfSome (meaning_of scope name) (IsMeaningOf vars)
+pub found : (vars : List VarDecl) (scope : Scope) (name : List ℕ) → AreNames vars scope → IfSome (meaning_of scope name) (IsMeaningOf vars)
 found vars [] name h = tt
 found vars (e ∷ es) name h = by (bytes_eq name e.0) (found vars es name h.1)
   where

@@ -23,8 +23,9 @@ use Rattle.fzn_model.specs.Effects.{Reading, nothing, joined, effect_of, with_it
 use Rattle.fzn_model.specs.Faults.{fault_of, has_long_list, is_too_large}
 use Rattle.constraint_model.specs.Limits.{most_vars, most_kernels, most_constants}
 use Rattle.fzn_model.specs.Resolving.{AreLawful, IsModelOf, model_with}
-use Rattle.constraint_model.specs.WellFormed.{IsDeclaration, IsMeaningOf, IsConstraintOf, IsGoalOf, IsWellFormed}
-use Rattle.fzn_model.proofs.MeaningLaws.{SetLaws, each_append, each_weaker, each_option, meaning_stays, constraint_stays, AreNames}
+use Rattle.constraint_model.specs.WellFormed.{IsDeclaration, IsMeaningOf, IsConstraintOf, IsGoalOf, IsOutputOf, IsWellFormed}
+use Rattle.fzn_model.proofs.MeaningLaws.{SetLaws, each_append, each_weaker, each_option, meaning_stays, constraint_stays, output_stays, AreNames}
+use Rattle.fzn_model.proofs.PhaseLaws.{IsSearch, all_declared}
 use Rattle.fzn_model.proofs.EffectLaws.{Adds, passes, adds}
 use Rattle.fzn_model.proofs.Standing.{few_vars, few_kernels}
 
@@ -33,13 +34,15 @@ record Keeps (r : Reading) : Type 0 where
   pub scope : AreNames r.vars r.scope
   pub vars : Each IsDeclaration r.vars
   pub constraints : Each (IsConstraintOf r.vars) r.constraints
+  pub output : Each (IsOutputOf r.vars) r.output
   pub solved : IfSome r.solved (λ s. IsGoalOf r.vars s.1)
+  pub search : IfSome r.solved (λ s. IsSearch (length r.vars) s.0)
   pub constants : r.constants ≡ fold add_once [] (flat_map constants_in r.constraints ++ solved_constants r.solved)
   pub kernels : r.kernels ≡ sum_by kernels_of r.constraints
   pub fits : is_too_large r ≡ false
 
 keeps_none : Keeps nothing
-keeps_none = record { scope = tt; vars = tt; constraints = tt; solved = tt; constants = refl; kernels = refl; fits = refl }
+keeps_none = record { scope = tt; vars = tt; constraints = tt; output = tt; solved = tt; search = tt; constants = refl; kernels = refl; fits = refl }
 
 -- ---- one item more
 
@@ -70,7 +73,10 @@ keeps_more r more h e f a =
       vars = each_append IsDeclaration r.vars vars h.vars (each_option IsDeclaration more.var a.var);
       constraints = each_append (IsConstraintOf (r.vars ++ vars)) r.constraints more.constraints
           (each_weaker (IsConstraintOf r.vars) (IsConstraintOf (r.vars ++ vars)) (constraint_stays r.vars vars) r.constraints h.constraints) a.constraints;
+      output = each_append (IsOutputOf (r.vars ++ vars)) r.output (option_to_list more.output)
+          (each_weaker (IsOutputOf r.vars) (IsOutputOf (r.vars ++ vars)) (output_stays r.vars vars) r.output h.output) (each_option (IsOutputOf (r.vars ++ vars)) more.output a.output);
       solved = first_goal (λ s. IsGoalOf (r.vars ++ vars) s.1) r.solved more.solved e a.solved;
+      search = first_goal (λ s. IsSearch (length (r.vars ++ vars)) s.0) r.solved more.solved e a.search;
       constants = constants_joined r.constraints more.constraints r.solved more.solved r.constants e h.constants;
       kernels = omega (arith, sum_by-append kernels_of r.constraints more.constraints, h.kernels);
       fits = f;
@@ -112,10 +118,13 @@ model_is_well_formed : (r : Reading) (asked : List Phase × Goal) → r.solved �
 model_is_well_formed r asked e h =
     let same : r.constants ≡ fold add_once [] (flat_map constants_in r.constraints ++ goal_constants asked.1) =
     h.constants ∙ ap (λ o. fold add_once [] (flat_map constants_in r.constraints ++ solved_constants o)) e in
+    let phases : IsSearch (length r.vars) asked.0 = subst (λ o. IfSome o (λ (s : List Phase × Goal). IsSearch (length r.vars) s.0)) e h.search in
     record {
       vars = All-from_recursion IsDeclaration r.vars h.vars;
       constraints = All-from_recursion (IsConstraintOf r.vars) r.constraints h.constraints;
+      search = record { declared = all_declared (length r.vars) asked.0 phases.declared; front = phases.front; last = phases.last };
       objective = subst (λ o. IfSome o (λ (s : List Phase × Goal). IsGoalOf r.vars s.1)) e h.solved;
+      outputs = All-from_recursion (IsOutputOf r.vars) r.output h.output;
       vars_fit = few_vars r h.fits;
       constants_fit = subst (λ (xs : List ℤ). length xs ≤ most_constants) same (few_constants r h.fits);
       kernels_fit = subst (λ (n : ℕ). n ≤ most_kernels) h.kernels (few_kernels r h.fits);

@@ -8,6 +8,7 @@ use Rattle.fzn_parser.specs.declared.tree.SetLit.{SetLit}
 use Rattle.fzn_parser.specs.Notes.{ArgTree, set_arg, row_arg, AnnTree, bare, called, ArgTrees, no_args, more_args}
 use Rattle.fzn_parser.specs.Texts.{spelling}
 use Rattle.fzn_model.specs.Literals.{number_of}
+use Rattle.constraint_model.specs.Limits.{most_index_sets}
 use Rattle.constraint_model.specs.Ranges.{Range}
 
 -- the token is spelled so
@@ -38,7 +39,7 @@ index_sets text (more_args a rest) = option_map (λ p. p.0 ∷ p.1) (both (index
 
 -- one to six index sets
 abbrev pub lawful : List Range → Option (List Range)
-lawful ranges = cond (nat_le 1 (length ranges) && nat_le (length ranges) 6) (Some ranges) None
+lawful ranges = cond (nat_le 1 (length ranges) && nat_le (length ranges) most_index_sets) (Some ranges) None
 
 -- the index sets of the one argument of a lawful `output_array`
 abbrev pub array_argument : List ℕ → ArgTree → Option (List Range)

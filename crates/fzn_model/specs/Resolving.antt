@@ -5,9 +5,11 @@ use Rattle.constraint_model.specs.declared.model.Phase.{Phase}
 use Rattle.constraint_model.specs.declared.model.Goal.{Goal}
 use Rattle.constraint_model.specs.declared.model.FznModel.{FznModel}
 use Rattle.fzn_model.specs.declared.resolving.ModelError.{ModelError}
+use Rattle.fzn_model.specs.declared.fault_kinds.FaultKind.{FaultKind}
 use Rattle.fzn_model.specs.declared.stop.Stop.{Stop}
+use Rattle.fzn_model.specs.FaultKinds.{kind_number}
 use Rattle.fzn_model.specs.Effects.{Reading, reading_of}
-use Rattle.fzn_model.specs.Faults.{fault_of, no_solve}
+use Rattle.fzn_model.specs.Faults.{fault_of}
 
 -- no item has a fault against the items before it
 abbrev pub AreLawful : List ℕ → List ItemTree → Type 0
@@ -33,18 +35,35 @@ pub record IsFirstFault (text : List ℕ) (items : List ItemTree) (kind at : ℕ
   pub place : ℕ
   pub inside : place < length items
   pub lawful : AreLawful text (take place items)
-  pub fault : (d : ItemTree) → fault_of text (reading_of text (take place items)) (slice_index_or items place d).what ≡ Some kind
+  pub which : FaultKind
+  pub fault : (d : ItemTree) → fault_of text (reading_of text (take place items)) (slice_index_or items place d).what ≡ Some which
+  pub is_kind : kind ≡ kind_number which
   pub first_byte : (d : ItemTree) → at ≡ (slice_index_or items place d).from
 
 -- no item has a fault, and none is a solve item; the fault stands at the end of the text
 pub record LacksSolve (text : List ℕ) (items : List ItemTree) (kind at : ℕ) : Type 0 where
   pub lawful : AreLawful text items
   pub unsolved : (reading_of text items).solved ≡ None
-  pub is_kind : kind ≡ no_solve
+  pub is_kind : kind ≡ kind_number FaultKind.NoSolve
   pub at_end : at ≡ length text
 
 abbrev pub HasFault : List ℕ → List ItemTree → ℕ → ℕ → Type 0
 HasFault text items kind at = IsFirstFault text items kind at ⊎ LacksSolve text items kind at
+
+-- the items have a model
+pub record HasModel (text : List ℕ) (items : List ItemTree) : Type 0 where
+  pub model : FznModel
+  pub is_model : IsModelOf text items model
+
+-- the items have a fault
+pub record IsRefused (text : List ℕ) (items : List ItemTree) : Type 0 where
+  pub kind : ℕ
+  pub at : ℕ
+  pub fault : HasFault text items kind at
+
+-- the items have a model or a fault
+abbrev pub IsRead : List ℕ → List ItemTree → Type 0
+IsRead text items = HasModel text items ⊎ IsRefused text items
 
 -- why `resolve` may answer this error; memory may be refused at any time
 abbrev pub IsCause : List ℕ → List ItemTree → ModelError → Type 0
@@ -53,5 +72,5 @@ IsCause text items ModelError.NoMemory = Unit {0}
 
 -- the error where the item at this byte isn't taken
 abbrev pub stopped_at : Stop → ℕ → ModelError
-stopped_at (Stop.Fault kind) at = ModelError.Fault kind at
+stopped_at (Stop.Fault kind) at = ModelError.Fault (kind_number kind) at
 stopped_at Stop.NoMemory at = ModelError.NoMemory

@@ -74,14 +74,15 @@ abbrev pub val_sel_of : List ℕ → ArgTree → ValSel
 val_sel_of text (note_arg (bare t)) = val_sel_named (spelling text t)
 val_sel_of text _ = ValSel.Min
 
+-- a phase over these variables, where they are there
+abbrev pub phase_on : Option (List ℕ) → VarSel → ValSel → List Phase
+phase_on (Some vars) var_sel val_sel = record { vars = vars; var_sel = var_sel; val_sel = val_sel } ∷ []
+phase_on None var_sel val_sel = []
+
 -- the phase of three arguments or more
 abbrev pub phase_of : List ℕ → Scope → ArgTrees → List Phase
 phase_of text scope (more_args vars (more_args var_sel (more_args val_sel rest))) =
-    one_phase (phase_variables text scope vars) (var_sel_of text var_sel) (val_sel_of text val_sel)
-  where
-    one_phase : Option (List ℕ) → VarSel → ValSel → List Phase
-    one_phase (Some vs) r s = record { vars = vs; var_sel = r; val_sel = s } ∷ []
-    one_phase None r s = []
+    phase_on (phase_variables text scope vars) (var_sel_of text var_sel) (val_sel_of text val_sel)
 phase_of text scope _ = []
 
 abbrev pub is_search : List ℕ → Token → Bool

@@ -105,11 +105,19 @@ fn numbers_and_ends_have_their_faults(rt: HostRuntime) -> Result<(), Fail> {
     for (kind, front, rest) in [
         (8, "", "var 0..140737488355328: x; solve satisfy;"),
         (8, "", "int: a = -0x800000000000; solve satisfy;"),
-        (8, "", "constraint int_le(0o4000000000000000, 1); solve satisfy;"),
+        (
+            8,
+            "",
+            "constraint int_le(0o4000000000000000, 1); solve satisfy;",
+        ),
         (8, "", "var {1, 140737488355328}: x; solve satisfy;"),
         (8, "", "var int: x = 140737488355328; solve satisfy;"),
         (8, "", "array [1..0] of var {140737488355328}: a = [];"),
-        (8, "", "set of int: s = {1, 140737488355328}; solve satisfy;"),
+        (
+            8,
+            "",
+            "set of int: s = {1, 140737488355328}; solve satisfy;",
+        ),
         (
             8,
             "",
@@ -144,12 +152,20 @@ fn of_two_faults_in_an_item_the_least_counts(rt: HostRuntime) -> Result<(), Fail
         (3, "var 1..2: x; ", "var {1}: x; solve satisfy;"),
         (3, "int: x = 1; ", "int: x = true; solve satisfy;"),
         (3, "int: x = 1; ", "float: x = 1.5; solve satisfy;"),
-        (3, "int: x = 1; ", "int: x = 140737488355328; solve satisfy;"),
+        (
+            3,
+            "int: x = 1; ",
+            "int: x = 140737488355328; solve satisfy;",
+        ),
         (3, "var bool: x; solve satisfy; ", "var bool: x;"),
         (4, "", "constraint no_such(q); solve satisfy;"),
         (4, "", "constraint int_le(q); solve satisfy;"),
         (4, "", "var float: f = q; solve satisfy;"),
-        (4, "", "constraint int_le(q, 140737488355328); solve satisfy;"),
+        (
+            4,
+            "",
+            "constraint int_le(q, 140737488355328); solve satisfy;",
+        ),
         (4, "solve satisfy; ", "constraint int_le(q, 1);"),
     ] {
         let fault = fault_of(rt.alloc(), front, rest)?;
@@ -255,7 +271,12 @@ fn lists_have_65536_entries_and_no_more(rt: HostRuntime) -> Result<(), Fail> {
         (5, "", "constraint int_div(1, {1", "}); solve satisfy;"),
         (6, "", "constraint int_le(1, {1", "}); solve satisfy;"),
         (7, "", "var set of {1", "}: s; solve satisfy;"),
-        (8, "", "set of int: s = {140737488355328", "}; solve satisfy;"),
+        (
+            8,
+            "",
+            "set of int: s = {140737488355328",
+            "}; solve satisfy;",
+        ),
         (9, "solve satisfy; ", "set of int: s = {1", "};"),
         (9, "", "var {1", "}: x; solve satisfy;"),
         (9, "", "array [1..0] of var {1", "}: a = []; solve satisfy;"),

@@ -1,7 +1,7 @@
 //! Reads the tokens of a FlatZinc text as its items.
 #![tactic(auto)]
 
-pub mod cursor;
+mod cursor;
 mod items;
 pub mod laws;
 mod notes;

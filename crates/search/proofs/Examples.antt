@@ -16,7 +16,7 @@ use Rattle.constraint_model.specs.declared.meanings.Scalar.{Scalar}
 use Rattle.constraint_model.specs.declared.meanings.Meaning.{Meaning}
 use Rattle.constraint_model.specs.Numbers.{IsInProfile, largest}
 use Rattle.constraint_model.specs.Fits.{row_for, constants_in, kernels_of as kernel_count}
-use Rattle.constraint_model.specs.WellFormed.{IsDeclaration, IsScalarOf, IsMeaningOf, IsConstraintOf, IsWellFormed}
+use Rattle.constraint_model.specs.WellFormed.{IsDeclaration, IsScalarOf, IsMeaningOf, IsConstraintOf, IsOutputOf, IsWellFormed}
 use Rattle.constraint_model.specs.declared.model.FznModel.{FznModel}
 use Rattle.constraint_model.specs.Searches.{last_phase}
 use Rattle.constraint_model.specs.Searches.{IsSearchOf}
@@ -87,7 +87,9 @@ unfolding constants_in kernel_count
 small_is_well_formed = record {
   vars = two IsDeclaration small_variable small_variable declared_is declared_is;
   constraints = All-cons (IsConstraintOf vars) small_order [] order_is (All-nil (IsConstraintOf vars));
+  search = small_search;
   objective = tt;
+  outputs = All-nil (IsOutputOf vars);
   vars_fit = lit≤ tt;
   constants_fit = lit≤ tt;
   kernels_fit = lit≤ tt;

@@ -164,5 +164,5 @@ prefix_laws order branches every = record {
   all = λ model kernels limit is_first sub s rest r h. of_reached model kernels limit is_first sub s r rest h;
   some = λ model kernels limit is_first sub s rule long range can_run r.
       lists_of model kernels every rule (length sub) long can_run s.stack
-          (reached_fits order branches model rule kernels (length sub) long limit is_first sub s (record { same_length = refl; range = range }) r);
+      (reached_fits order branches model rule kernels (length sub) long limit is_first sub s (record { same_length = refl; range = range }) r);
 }

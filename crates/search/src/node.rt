@@ -9,8 +9,8 @@ ghost use Rattle.branching.specs.Tree.{values_of};
 ghost use Rattle.search.specs.Nodes.{IsParted, IsSettled, IsNode};
 
 use branching::{are_fixed, choose};
-use fixpoint_laws::{Settled, settle_alone};
 use constraint_model::FznModel;
+use fixpoint_laws::{Settled, settle_alone};
 use guarded_tell::Kernel;
 use interval::{BoxOf, NoMemory};
 use list_of::ListOf;

@@ -7,10 +7,10 @@ ghost use Rattle.constraint_model.specs.Searches.{last_phase};
 
 use crate::runs::{all_in, first_in};
 use crate::{AllEnd, FirstEnd, Run, run_all, run_first};
-use decompose::compile;
 use constraint_model::{
     Constraint, ConstraintName, FznModel, Goal, Operand, Phase, Term, ValSel, VarDecl, VarSel,
 };
+use decompose::compile;
 use guarded_tell::{Kernel, Lit};
 use interval::{BoxOf, NoMemory, clamp_bound, law_inside_order};
 use list_of::ListOf;

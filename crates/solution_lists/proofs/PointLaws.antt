@@ -1,23 +1,21 @@
 -- The closed points inside the start are the model's solutions.
-use Rattle.std.proofs.Common.{◌≡◌, ◌↔◌, ℕ, zero, suc, ℤ, pos, ◌+◌, ◌<◌, ◌≤◌, ◌≤ℤ◌, List, [], ◌∷◌, ◌++◌, length, get_or, take, drop, refl, sym, ap, subst, ◌∙◌, arith}
-use Rattle.std.specs.List.{All, Contains}
+use Rattle.std.proofs.Common.{◌≡◌, ◌↔◌, ℕ, suc, ℤ, ◌<◌, ◌≤ℤ◌, List, [], ◌∷◌, ◌++◌, length, get_or, take, drop, refl, sym, ap, subst, ◌∙◌, arith}
+use Rattle.std.specs.List.{All}
 use Rattle.std.proofs.lemmas.Int.{ints}
-use Rattle.std.proofs.lemmas.List.{take-append}
 use Rattle.interval.specs.Limits.{IsNumber}
 use Rattle.interval.specs.Boxes.{Bounds, low_of, high_of, IsInRange, IsInside, IsPoint, IsProper, InsideOrder}
 use Rattle.guarded_tell.specs.declared.kernel.Kernel.{Kernel}
-use Rattle.guarded_tell.specs.Words.{value_of, point_of}
+use Rattle.guarded_tell.specs.Words.{point_of}
 use Rattle.guarded_tell.specs.Kernels.{Holds, IsKernel, IsClosedUnder}
 use Rattle.fixpoint_laws.specs.Fixpoints.{IsClosed}
 use Rattle.constraint_model.specs.declared.model.VarDecl.{VarDecl}
 use Rattle.constraint_model.specs.declared.model.FznModel.{FznModel}
-use Rattle.constraint_model.specs.Relations.{IsWithin, IsSolution}
+use Rattle.constraint_model.specs.Relations.{IsWithin}
 use Rattle.constraint_model.specs.WellFormed.{constants_of}
 use Rattle.decompose.specs.declared.program.Program.{Program}
 use Rattle.decompose.specs.Program.{fixed_box, extended, Extends, IsProgramOf}
-use Rattle.constraint_model.specs.Searches.{IsSearchOf}
-use Rattle.branching.specs.Tree.{values_of, SolutionsIn, IsSolutionIn, ListsSolutions, EachOnce}
-use Rattle.solution_lists.specs.Solutions.{LiesIn, SolvesInside, ListsSolutionsInside, PointSolves, SolutionsAreListed}
+use Rattle.branching.specs.Tree.{values_of, IsSolutionIn, ListsSolutions, EachOnce}
+use Rattle.solution_lists.specs.Solutions.{SolvesInside, PointSolves, SolutionsAreListed}
 use Rattle.solution_lists.proofs.StartLaws.{low_fixed, high_fixed, long_inside, constants_inside}
 
 -- a point within the range is closed under a kernel exactly where the kernel holds on it

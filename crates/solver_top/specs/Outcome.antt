@@ -7,20 +7,18 @@ use Rattle.fzn_io.specs.Streams.{Adds, IsHeld}
 use Rattle.std.specs.Fmt.{decimal}
 use Rattle.constraint_model.specs.declared.model.FznModel.{FznModel}
 use Rattle.solver_top.specs.Texts.{IsTextOf, HasFaultOn}
-use Rattle.solver_top.specs.Solutions.{Assignment, IsAnswer}
-use Rattle.solver_top.specs.SearchTree.{IsHeadOfSolutions}
-use Rattle.solver_top.specs.AnswerText.{answer_text, line_end}
+use Rattle.fzn_print.specs.AnswerText.{line_end}
+use Rattle.solver_top.specs.Answers.{Assignment, IsAnswer, answer_text}
 use Rattle.solver_top.specs.declared.status.Status.{Status}
 use Rattle.solver_top.specs.declared.status.Status.TheVariants.{Answered, Usage, Refused, ReadFault, WriteFault, NoMemory}
 
--- These bytes are the answer of the text: they print the least solution of its model, or that there is none. That is
--- the head of the list of solutions that one thread finds by propagation and branching alone.
+-- These bytes are the answer of the text: they print the first solution of its model in the order of the search tree, or
+-- that there is none.
 pub record IsAnswerOf (text bytes : List ℕ) : Type 0 where
   pub model : FznModel
   pub is_model : IsTextOf text model
   pub answer : Option Assignment
   pub is_answer : IsAnswer model answer
-  pub is_head : IsHeadOfSolutions model answer
   pub printed : bytes ≡ answer_text model answer
 
 -- What a source tells of the file that the words name: nothing (`None`), that it isn't there (`Some None`), or its bytes.

@@ -226,7 +226,7 @@ fn corners(rt: HostRuntime) -> Result<(), Fail> {
     assert_answers(&rt, rt.alloc(), CORNERS)
 }
 
-/// At the ends of the range; 46340 squared is the greatest square in it.
+/// At the ends of the range; 11863283 squared is the greatest square in it.
 const ENDS: &[(&str, &str)] = &[
     (
         "var int: x :: output_var; constraint int_times(11863283, 11863283, x); solve satisfy;",

@@ -10,7 +10,6 @@ mod corner_tests;
 mod laws;
 #[cfg(test)]
 mod limit_tests;
-mod printing;
 #[cfg(test)]
 mod program_tests;
 pub mod reader;

@@ -30,10 +30,11 @@ fn assert_refused(
     Ok(())
 }
 
-/// So many declarations, a line each.
+/// So many declarations, a line each, of names that are numbered from 1.
 fn declarations(alloc: Global, count: usize) -> Result<String, AllocError> {
     let mut text = String::new(alloc);
     for number in 0..count {
+        let number = number + 1;
         let line = format!(in alloc; "var 1..1: b{number};\n")?;
         text.push_str(line.as_str())?;
     }

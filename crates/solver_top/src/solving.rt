@@ -1,49 +1,67 @@
-//! The least solution of a model.
+//! The first solution of a model.
 
-ghost use Rattle.std.specs.Prelude.{◌≤◌, IfOk, length};
-ghost use Rattle.constraint_model.specs.Limits.{most_vars};
+ghost use Rattle.std.specs.Prelude.{◌≡◌, IfOk};
+ghost use Rattle.constraint_model.specs.Searches.{IsSearchOf};
 ghost use Rattle.constraint_model.specs.WellFormed.{IsWellFormed};
 ghost use Rattle.decompose.specs.Program.{IsProgramOf};
-ghost use Rattle.solver_top.specs.Solutions.{IsAnswer};
-ghost use Rattle.solver_top.specs.SearchTree.{IsHeadOfSolutions};
-
-mod search;
+ghost use Rattle.solver_top.specs.Answers.{IsAnswer, answer_text};
 
 use decompose::{Program, compile};
-use fixpoint_laws::law_one_fixpoint;
-use constraint_model::FznModel;
-use guarded_tell::law_point;
+use fzn_model::FznModel;
+use fzn_print::{Mark, mark_text, print_solution};
 use interval::{NoMemory, law_inside_order};
 use list_of::ListOf;
-use search::search;
-use std::alloc::{AllocError, Global};
+use search::{FirstEnd, Run, run_first};
+use solution_lists::law_solutions_listed;
+use std::alloc::Global;
 
-/// The least solution of the model, or none where it has none: the head of the list of its solutions in the order of the
-/// search tree.
-pub(crate) fn solve(alloc: Global, model: &FznModel) -> Result<Option<ListOf<i64>>, AllocError>
-    requires { IsWellFormed model.now }
-    ensures least { IfOk result (λ answer. IsAnswer model.now answer) }
-    ensures head { IfOk result (λ answer. IsHeadOfSolutions model.now answer) }
+/// The first solution of the model in the order of its search tree, or none where it has none.
+pub(crate) fn solve(alloc: Global, model: &FznModel) -> Result<Option<ListOf<i64>>, NoMemory>
+    requires model { IsWellFormed model.now }
+    requires search { IsSearchOf model.now }
+    ensures { IfOk result (λ answer. IsAnswer model.now answer) }
 {
-    match compile(alloc, model) {
-        Ok(program) => solve_program(alloc, model, program),
-        Err(NoMemory) => Err(AllocError),
-    }
+    let program = compile(alloc, model)?;
+    first_solution(alloc, model, &program)
 }
 
 /// The same, where the model's program is there.
-fn solve_program(
+fn first_solution(
     alloc: Global,
     model: &FznModel,
-    program: Program,
-) -> Result<Option<ListOf<i64>>, AllocError>
-    requires few { length model.now.vars ≤ most_vars }
-    requires program { IsProgramOf model.now program }
-    ensures least { IfOk result (λ answer. IsAnswer model.now answer) }
-    ensures head { IfOk result (λ answer. IsHeadOfSolutions model.now answer) }
+    program: &Program,
+) -> Result<Option<ListOf<i64>>, NoMemory>
+    requires search { IsSearchOf model.now }
+    requires program { IsProgramOf model.now program.now }
+    ensures { IfOk result (λ answer. IsAnswer model.now answer) }
 {
     law_inside_order();
-    law_point();
-    law_one_fixpoint();
-    search(alloc, model, program)
+    law_solutions_listed();
+    let run = Run {
+        model,
+        program,
+        limit: 0,
+    };
+    match run_first(alloc, &run, &program.start)? {
+        FirstEnd::Done(answer) => Ok(answer),
+        // Without a limit no search is stopped by it.
+        FirstEnd::Spent { .. } => unreachable!(),
+    }
+}
+
+/// The text of an answer: a solution of the model, or that none exists.
+pub(crate) fn print_answer(
+    alloc: Global,
+    model: &FznModel,
+    answer: &Option<ListOf<i64>>,
+) -> Result<Vec<u8>, NoMemory>
+    ensures { IfOk result (λ text. text.items ≡ answer_text model.now answer.now) }
+{
+    match answer {
+        Some(values) => print_solution(alloc, model, values.as_slice()),
+        None => Ok(Vec::from_slice(
+            alloc,
+            mark_text(Mark::Unsatisfiable).as_bytes(),
+        )?),
+    }
 }

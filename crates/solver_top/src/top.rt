@@ -8,9 +8,8 @@ ghost use Rattle.solver_top.specs.Texts.{IsCause, fault_line};
 ghost use Rattle.solver_top.specs.Outcome.{IsAnswerOf, IsAnswerOfFile, WroteAnswer, WroteFront, IsFaultOfFile, ToldHasFault, ToldHasModel, held_under, IsFileAlone, CanOpen, IsTextCause, IsFileCause, status_line};
 
 use crate::laws::law_one_text;
-use crate::printing::print_answer;
 use crate::reader::{MOST_BYTES, TOO_LONG, TextError, line_of, read_model};
-use crate::solving::solve;
+use crate::solving::{print_answer, solve};
 use crate::status::{Status, report};
 use crate::words;
 use fzn_io::{ReadError as FileError, Sink, Source, read_named, write_all};

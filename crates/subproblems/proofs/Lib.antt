@@ -1,0 +1,4 @@
+pub mod CutLemmas
+pub mod SubproblemLemmas
+pub mod PathLemmas
+pub mod StepLemmas

@@ -1,0 +1,4 @@
+pub mod Cuts
+pub mod Subproblems
+pub mod Paths
+pub mod Growth

@@ -1,2 +1,3 @@
 pub mod StartLaws
 pub mod PointLaws
+pub mod OrderLaws

@@ -3,6 +3,7 @@
 #![tactic(auto)]
 
 ghost use Rattle.solution_lists.specs.Solutions.{FixedIsPoint, PointSolves, SolutionsAreListed};
+ghost use Rattle.solution_lists.specs.Order.{InDeclarationOrder};
 
 use branching::law_each_once;
 use guarded_tell::law_point;
@@ -30,3 +31,9 @@ pub fn law_solutions_listed()
     law_point_solves();
     law_each_once();
 }
+
+/// Where a model's search is the last phase alone, the list of a box has its solutions in the order of the declarations:
+/// each comes before every later one. It does nothing.
+pub fn law_in_declaration_order()
+    ensures { InDeclarationOrder }
+{}

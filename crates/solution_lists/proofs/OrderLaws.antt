@@ -1,23 +1,21 @@
 -- The order of the declarations, along the search tree.
-use Rattle.std.proofs.Common.{◌≡◌, ◌≢◌, ℕ, zero, suc, ℤ, pos, ◌+◌, ◌-◌, ◌+ℤ◌, ◌<◌, ◌≤◌, ◌≤ℤ◌, ◌<ℤ◌, List, [], ◌∷◌, ◌++◌, length, get_or, set, take, drop, refl, sym, ap, subst, ◌∙◌, ⊎_elim, arith}
+use Rattle.std.proofs.Common.{◌≡◌, ◌≢◌, ℕ, zero, suc, ℤ, pos, ◌+◌, ◌+ℤ◌, ◌<◌, ◌≤ℤ◌, ◌<ℤ◌, List, [], ◌∷◌, ◌++◌, length, get_or, drop, refl, sym, ap, subst, ◌∙◌, ⊎_elim, arith}
 use Rattle.std.specs.Prelude.{AllPairs}
 use Rattle.std.specs.List.{All, range_with_len}
 use Rattle.std.proofs.lemmas.Int.{ints, by_lt_z}
 use Rattle.std.proofs.lemmas.Bool.{cases_eq}
-use Rattle.std.proofs.lemmas.List.{length-set, length-map, length-drop, length-append, length-take-le, get_or-set_same, get_or-set_other, get_or-take, get_or-drop, get_or_at, get_or_append_left, get_or_default}
+use Rattle.std.proofs.lemmas.List.{length-set, length-map, length-drop, length-append, length-take-le, get_or-set_same, get_or-set_other, get_or-take, get_or-drop, get_or_at, get_or_append_left}
 use Rattle.std.proofs.lemmas.List.Elements.{All-nil, All-cons, All-append, All-weaker}
 use Rattle.std.proofs.lemmas.List.Kept.{AllPairs-cons}
 use Rattle.std.proofs.lemmas.List.FromFn.{length-range_with_len, get_or-range_with_len}
 use Rattle.interval.specs.Boxes.{Bounds, low_of, high_of, put_of, IsInside, IsProper}
 use Rattle.guarded_tell.specs.declared.kernel.Kernel.{Kernel}
 use Rattle.guarded_tell.specs.Words.{value_of, point_of}
-use Rattle.fixpoint_laws.specs.Fixpoints.{IsGreatest}
 use Rattle.constraint_model.specs.declared.model.VarSel.{VarSel}
-use Rattle.constraint_model.specs.declared.model.ValSel.{ValSel}
 use Rattle.constraint_model.specs.declared.model.Phase.{Phase}
 use Rattle.constraint_model.specs.declared.model.FznModel.{FznModel}
 use Rattle.constraint_model.specs.Searches.{last_phase}
-use Rattle.branching.specs.Selection.{IsFixed, IsUnfixed, IsChosen, IsChoice}
+use Rattle.branching.specs.Selection.{IsFixed, IsUnfixed, IsChosen}
 use Rattle.branching.specs.Parts.{left_of, right_of, IsBranch}
 use Rattle.branching.specs.Tree.{AreFixed, values_of, SolutionsIn, failed, fixed, parted}
 use Rattle.solution_lists.specs.Order.{value_at, IsBefore, IsPlainSearch, InDeclarationOrder}
@@ -47,7 +45,7 @@ first_of_range : (count : ℕ) (g : Bounds) (p : ℕ) → count < length g → I
 first_of_range count g p long proper chosen =
     let place : ℕ = length chosen.before in
     let len : count ≡ place + (1 + length chosen.after) =
-      sym (length-range_with_len 0 count) ∙ ap length chosen.stands ∙ length-append chosen.before (p ∷ chosen.after) ∙ omega arith in
+    sym (length-range_with_len 0 count) ∙ ap length chosen.stands ∙ length-append chosen.before (p ∷ chosen.after) ∙ omega arith in
     let inside : place < count = omega arith in
     let there : get_or (range_with_len 0 count) place 0 ≡ p = ap (λ (xs : List ℕ). get_or xs place 0) chosen.stands ∙ get_or_at chosen.before p chosen.after 0 place refl in
     let is : get_or (range_with_len 0 count) place 0 ≡ 0 + place = get_or-range_with_len 0 count place 0 inside in
@@ -56,12 +54,12 @@ first_of_range count g p long proper chosen =
       declared = omega arith;
       unfixed = chosen.unfixed;
       before = λ w h.
-        let in_before : w < length chosen.before = omega arith in
-        let w_at : get_or chosen.before w 0 ≡ w =
+          let in_before : w < length chosen.before = omega arith in
+          let w_at : get_or chosen.before w 0 ≡ w =
           sym (ap (λ (xs : List ℕ). get_or xs w 0) chosen.stands ∙ get_or_append_left chosen.before (p ∷ chosen.after) 0 w in_before) ∙ get_or-range_with_len 0 count w 0 (omega arith) ∙ omega arith in
-        let never : IsUnfixed g w → ⊥ =
+          let never : IsUnfixed g w → ⊥ =
           λ un. not_less (pos 0) (chosen.earlier w 0 in_before (subst (IsUnfixed g) (sym w_at) un)) in
-        squeezed (low_of g (suc w)) (high_of g (suc w)) (proper (suc w) (omega arith)) never;
+          squeezed (low_of g (suc w)) (high_of g (suc w)) (proper (suc w) (omega arith)) never;
     }
 
 -- ---- what is in a box
@@ -139,10 +137,10 @@ put_inside : (g : Bounds) (p : ℕ) (low high : ℤ) → p < length g → low_of
 put_inside g p low high h lo hi = record {
   same_length = length-set g p (low, high);
   lows = λ v lt.
-    ⊎_elim (λ (e : v ≡ p). subst (λ (w : ℕ). low_of g w ≤ℤ low_of (put_of g p low high) w) (sym e) (subst (λ (z : ℤ). low_of g p ≤ℤ z) (sym (low_same g p low high h)) lo))
+      ⊎_elim (λ (e : v ≡ p). subst (λ (w : ℕ). low_of g w ≤ℤ low_of (put_of g p low high) w) (sym e) (subst (λ (z : ℤ). low_of g p ≤ℤ z) (sym (low_same g p low high h)) lo))
       (λ (ne : v ≢ p). le_same (low_of g v) (low_of (put_of g p low high) v) (sym (low_other g p v low high ne))) (cases_eq v p);
   highs = λ v lt.
-    ⊎_elim (λ (e : v ≡ p). subst (λ (w : ℕ). high_of (put_of g p low high) w ≤ℤ high_of g w) (sym e) (subst (λ (z : ℤ). z ≤ℤ high_of g p) (sym (high_same g p low high h)) hi))
+      ⊎_elim (λ (e : v ≡ p). subst (λ (w : ℕ). high_of (put_of g p low high) w ≤ℤ high_of g w) (sym e) (subst (λ (z : ℤ). z ≤ℤ high_of g p) (sym (high_same g p low high h)) hi))
       (λ (ne : v ≢ p). le_same (high_of (put_of g p low high) v) (high_of g v) (high_other g p v low high ne)) (cases_eq v p);
 }
 
@@ -160,14 +158,14 @@ left_inside count g left right long are =
     let p = are.var in
     let declared = are.first.declared in
     subst (λ (b : Bounds). IsInside b g) (sym are.left_is)
-      (put_inside g (suc p) (low_of g (suc p)) (low_of g (suc p)) (omega arith) (same_le (low_of g (suc p))) (less_le (low_of g (suc p)) (high_of g (suc p)) are.first.unfixed))
+    (put_inside g (suc p) (low_of g (suc p)) (low_of g (suc p)) (omega arith) (same_le (low_of g (suc p))) (less_le (low_of g (suc p)) (high_of g (suc p)) are.first.unfixed))
 
 right_inside : (count : ℕ) (g left right : Bounds) → count < length g → ArePlainParts count g left right → IsInside right g
 right_inside count g left right long are =
     let p = are.var in
     let declared = are.first.declared in
     subst (λ (b : Bounds). IsInside b g) (sym are.right_is)
-      (put_inside g (suc p) (low_of g (suc p) +ℤ pos 1) (high_of g (suc p)) (omega arith) (one_more (low_of g (suc p))) (same_le (high_of g (suc p))))
+    (put_inside g (suc p) (low_of g (suc p) +ℤ pos 1) (high_of g (suc p)) (omega arith) (one_more (low_of g (suc p))) (same_le (high_of g (suc p))))
 
 between : (z low high : ℤ) → low ≡ high → low ≤ℤ z → z ≤ℤ high → z ≡ low
 between z low high e a b = omega (arith, ints)
@@ -191,9 +189,9 @@ left_before count g left right x y long are lx ly =
       place = p;
       in_list = omega arith;
       same_before = λ w h.
-        let in_count : w < count = omega arith in
-        let fixed_there = are.first.before w h in
-        between (value_at x w) (low_of g (suc w)) (high_of g (suc w)) fixed_there (x_in.lows w in_count) (x_in.highs w in_count)
+          let in_count : w < count = omega arith in
+          let fixed_there = are.first.before w h in
+          between (value_at x w) (low_of g (suc w)) (high_of g (suc w)) fixed_there (x_in.lows w in_count) (x_in.highs w in_count)
           ∙ sym (between (value_at y w) (low_of g (suc w)) (high_of g (suc w)) fixed_there (y_in.lows w in_count) (y_in.highs w in_count));
       lesser = lesser_by (value_at x p) (value_at y p) low (subst (λ (z : ℤ). value_at x p ≤ℤ z) x_high (lx.highs p declared)) (subst (λ (z : ℤ). z ≤ℤ value_at y p) y_low (ly.lows p declared));
     }

@@ -2,11 +2,14 @@
 --
 -- Source: the FlatZinc chapter of the MiniZinc Handbook, its search annotations `input_order` and `indomain_min`: of the
 -- first variables that differ, the lesser value comes first.
-use Rattle.std.specs.Prelude.{◌≡◌, ℕ, ◌<◌, ℤ, pos, ◌<ℤ◌, List, [], ◌∷◌, length, slice_index_or, AllPairs}
+use Rattle.std.specs.Prelude.{◌≡◌, ◌⊎◌, ℕ, ◌<◌, ℤ, pos, ◌<ℤ◌, List, [], ◌∷◌, length, slice_index_or, AllPairs}
 use Rattle.interval.specs.Boxes.{Bounds}
 use Rattle.guarded_tell.specs.declared.kernel.Kernel.{Kernel}
 use Rattle.constraint_model.specs.declared.model.FznModel.{FznModel}
+use Rattle.constraint_model.specs.Relations.{IsSolution}
 use Rattle.constraint_model.specs.Searches.{last_phase}
+use Rattle.decompose.specs.declared.program.Program.{Program}
+use Rattle.decompose.specs.Program.{IsProgramOf}
 use Rattle.branching.specs.Tree.{SolutionsIn}
 
 -- the value of the variable at a place
@@ -28,3 +31,18 @@ IsPlainSearch model = model.search ≡ last_phase (length model.vars) ∷ []
 abbrev pub InDeclarationOrder : Type 0
 InDeclarationOrder = (model : FznModel) (kernels : List Kernel) (b : Bounds) (found : List (List ℤ)) → IsPlainSearch model →
     length model.vars < length b → SolutionsIn model kernels b found → AllPairs IsBefore found
+
+-- a solution before which no other comes
+pub record IsLeastSolution (model : FznModel) (a : List ℤ) : Type 0 where
+  pub solves : IsSolution model a
+  pub least : (b : List ℤ) → IsSolution model b → (a ≡ b) ⊎ IsBefore a b
+
+-- the list begins with the least solution, or is empty where there is none
+abbrev pub BeginsWithLeast : FznModel → List (List ℤ) → Type 0
+BeginsWithLeast model [] = (a : List ℤ) → IsSolution model a → ⊥
+BeginsWithLeast model (a ∷ others) = IsLeastSolution model a
+
+-- so the list of the program's start begins with the least solution of the model
+abbrev pub LeastComesFirst : Type 0
+LeastComesFirst = (model : FznModel) (program : Program) (found : List (List ℤ)) → IsProgramOf model program → IsPlainSearch model →
+    SolutionsIn model program.kernels program.start found → BeginsWithLeast model found

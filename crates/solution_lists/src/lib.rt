@@ -3,7 +3,7 @@
 #![tactic(auto)]
 
 ghost use Rattle.solution_lists.specs.Solutions.{FixedIsPoint, PointSolves, SolutionsAreListed};
-ghost use Rattle.solution_lists.specs.Order.{InDeclarationOrder};
+ghost use Rattle.solution_lists.specs.Order.{InDeclarationOrder, LeastComesFirst};
 
 use branching::law_each_once;
 use guarded_tell::law_point;
@@ -37,3 +37,13 @@ pub fn law_solutions_listed()
 pub fn law_in_declaration_order()
     ensures { InDeclarationOrder }
 {}
+
+/// There the list of the program's start begins with the least solution of the model in the order of the declarations, or
+/// is empty where the model has none. It does nothing.
+pub fn law_least_first()
+    ensures { LeastComesFirst }
+{
+    law_inside_order();
+    law_solutions_listed();
+    law_in_declaration_order();
+}

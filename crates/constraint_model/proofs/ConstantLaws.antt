@@ -1,10 +1,17 @@
 -- The constants of arguments, one argument on.
-use Rattle.std.proofs.Common.{◌≡◌, ℕ, ◌+◌, ◌<◌, ◌≤◌, List, [], ◌∷◌, ◌++◌, length, get_or, drop, cond, fold, refl, ap, ◌∙◌, sym, ℤ}
-use Rattle.std.proofs.lemmas.List.{at_drop_more, at_drop_all}
+use Rattle.std.proofs.Common.{◌≡◌, ℕ, ◌+◌, ◌<◌, ◌≤◌, List, [], ◌∷◌, ◌++◌, length, get_or, drop, cond, fold, take, Bool, true, false, refl, ap, ◌∙◌, sym, subst, arith, ℤ}
+use Rattle.std.specs.List.{list_any}
+use Rattle.std.specs.Ordering.{int_eq}
+use Rattle.std.proofs.lemmas.List.{at_drop_more, at_drop_all, take_all, take-take, take_at, length-take}
 use Rattle.std.proofs.lemmas.List.Sums.{fold-append}
 use Rattle.constraint_model.specs.declared.model.Operand.{Operand}
 use Rattle.constraint_model.specs.declared.table.Letter.{Letter}
-use Rattle.constraint_model.specs.Fits.{add_once, constants_at, constants_of_operand, takes_variables}
+use Rattle.constraint_model.specs.Fits.{IsFront, add_once, constants_at, constants_of_operand, takes_variables}
+
+-- what was found with the constants of the rest is what all give, and what was there stands in front
+pub record Added (initial found all rest : List ℤ) : Type 0 where
+  pub added : fold add_once found rest ≡ fold add_once initial all
+  pub front : IsFront initial found
 
 none_there : (letters : List Letter) → constants_at letters [] ≡ []
 none_there [] = refl
@@ -32,3 +39,32 @@ found_step letters operands i d e a b h k same =
     ∙ ap (λ c. fold add_once c (constants_at (drop (i + 1) letters) (drop (i + 1) operands))) (sym same)
 
 pub ruleset constants_laws = (constants_end, constants_done, found_step)
+
+-- ---- what was found stays at the front
+
+length_front : (xs ys : List ℤ) → IsFront xs ys → length xs ≤ length ys
+length_front xs ys h = omega (arith, ap length h, length-take (length xs) ys)
+
+pub front_same : (xs ys : List ℤ) → ys ≡ xs → IsFront xs ys
+front_same xs ys e = subst (λ zs. IsFront xs zs) (sym e) (take_all (length xs) xs (omega arith))
+
+pub front_through : (xs ys zs : List ℤ) → IsFront xs ys → IsFront ys zs → IsFront xs zs
+front_through xs ys zs h k =
+    sym (take-take (length xs) (length ys) zs (length_front xs ys h)) ∙ ap (take (length xs)) k ∙ h
+
+once_front : (xs : List ℤ) (n : ℤ) → IsFront xs (add_once xs n)
+once_front xs n = by (list_any (int_eq n) xs)
+  where
+    by : (b : Bool) → IsFront xs (cond b xs (xs ++ n ∷ []))
+    by true = front_same xs xs refl
+    by false = take_at xs (n ∷ []) (length xs) refl
+
+fold_front : (xs ns : List ℤ) → IsFront xs (fold add_once xs ns)
+fold_front xs [] = front_same xs xs refl
+fold_front xs (n ∷ ns) = front_through xs (add_once xs n) (fold add_once (add_once xs n) ns) (once_front xs n) (fold_front (add_once xs n) ns)
+
+-- more was found
+pub front_found : (xs ys zs ns : List ℤ) → IsFront xs ys → zs ≡ fold add_once ys ns → IsFront xs zs
+front_found xs ys zs ns h e = front_through xs ys zs h (subst (λ z. IsFront ys z) (sym e) (fold_front ys ns))
+
+pub ruleset front_laws = (front_same, front_through, front_found)

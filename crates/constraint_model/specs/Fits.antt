@@ -1,5 +1,5 @@
 -- Which arguments a constraint takes, and what stands at them.
-use Rattle.std.specs.Prelude.{◌≡◌, ℕ, ◌+◌, ℤ, pos, List, [], ◌∷◌, ◌++◌, length, map, Bool, true, false, not, ◌&&◌, cond, nat_eq, flat_map, find, Option, Some, unwrap_or, if◌then◌else◌, bytes_eq}
+use Rattle.std.specs.Prelude.{◌≡◌, ℕ, ◌+◌, ℤ, pos, List, [], ◌∷◌, ◌++◌, length, take, map, Bool, true, false, not, ◌&&◌, cond, nat_eq, flat_map, find, Option, Some, unwrap_or, if◌then◌else◌, bytes_eq}
 use Rattle.std.specs.List.{list_all, list_any}
 use Rattle.std.specs.Ordering.{int_eq}
 use Rattle.constraint_model.specs.declared.model.Term.{Term}
@@ -107,6 +107,10 @@ goal_constants (Goal.Maximize t) = constant_of t
 -- a number goes to the end of a list that lacks it
 abbrev pub add_once : List ℤ → ℤ → List ℤ
 add_once numbers n = if list_any (int_eq n) numbers then numbers else numbers ++ n ∷ []
+
+-- the first list stands at the front of the second
+abbrev pub IsFront : List ℤ → List ℤ → Type 0
+IsFront front numbers = take (length front) numbers ≡ front
 
 -- how many propagators a constraint is run as
 unfoldable pub kernels_of : Constraint → ℕ

@@ -1,7 +1,7 @@
 //! What a constraint counts for: its propagators, and the constants that it needs places for.
 
-ghost use Rattle.std.specs.Prelude.{◌≡◌, ◌≤◌, length, OnOk, fold, flat_map, cond, []};
-ghost use Rattle.constraint_model.specs.Fits.{add_once, constants_in, constant_of, constants_of_operand, takes_variables, letters_of, constants_at, kernels_of};
+ghost use Rattle.std.specs.Prelude.{◌≡◌, ◌≤◌, length, OnOk, OnErr, fold, flat_map, cond, []};
+ghost use Rattle.constraint_model.specs.Fits.{IsFront, add_once, constants_in, constant_of, constants_of_operand, takes_variables, letters_of, constants_at, kernels_of};
 
 use crate::model::{Constraint, Operand, Term};
 use crate::table::{ConstraintName, Letter};
@@ -55,9 +55,11 @@ fn letters_of(constraint: &Constraint) -> &'static [Letter]
     &[]
 }
 
-/// Adds the number of a term, where it is one other than 1, to those found so far.
+/// Adds the number of a term, where it is one other than 1, to those found so far. Where memory is refused, these are as
+/// before.
 pub fn add_constant(found: &mut IndexSet<i64>, term: Term) -> Result<(), AllocError>
-    ensures { OnOk result (found.new.keys ≡ fold add_once found.old.keys (constant_of term)) }
+    ensures added { OnOk result (found.new.keys ≡ fold add_once found.old.keys (constant_of term)) }
+    ensures unchanged { OnErr result (found.new.keys ≡ found.old.keys) }
 {
     match term {
         Term::Number(number) if number != 1 => {
@@ -69,8 +71,10 @@ pub fn add_constant(found: &mut IndexSet<i64>, term: Term) -> Result<(), AllocEr
 }
 
 /// Adds those of these terms.
+#[tactic(auto, using(crate::proofs::ConstantLaws::front_laws))]
 fn add_row(found: &mut IndexSet<i64>, terms: &[Term]) -> Result<(), AllocError>
-    ensures { OnOk result (found.new.keys ≡ fold add_once found.old.keys (flat_map constant_of terms.now)) }
+    ensures kept { OnErr result (IsFront found.old.keys found.new.keys) }
+    ensures added { OnOk result (found.new.keys ≡ fold add_once found.old.keys (flat_map constant_of terms.now)) }
 {
     for term in terms {
         add_constant(found, *term)?;
@@ -79,12 +83,14 @@ fn add_row(found: &mut IndexSet<i64>, terms: &[Term]) -> Result<(), AllocError>
 }
 
 /// Adds those of an argument, where variables may stand there.
+#[tactic(auto, using(crate::proofs::ConstantLaws::front_laws))]
 fn add_argument(
     found: &mut IndexSet<i64>,
     letter: Letter,
     operand: &Operand,
 ) -> Result<(), AllocError>
-    ensures { OnOk result (found.new.keys ≡ fold add_once found.old.keys (cond (takes_variables letter) (constants_of_operand operand.now) [])) }
+    ensures kept { OnErr result (IsFront found.old.keys found.new.keys) }
+    ensures added { OnOk result (found.new.keys ≡ fold add_once found.old.keys (cond (takes_variables letter) (constants_of_operand operand.now) [])) }
 {
     if !takes_variables(letter) {
         return Ok(());
@@ -96,26 +102,32 @@ fn add_argument(
     }
 }
 
-/// Adds the constants of a constraint to those found so far.
-#[tactic(auto, unfolding(crate::specs::Fits::constants_in))]
+/// Adds the constants of a constraint to those found so far. Where memory is refused, these are as before.
+#[tactic(auto, using(crate::proofs::ConstantLaws::front_laws), unfolding(crate::specs::Fits::constants_in))]
 pub fn add_constants(found: &mut IndexSet<i64>, constraint: &Constraint) -> Result<(), AllocError>
-    ensures { OnOk result (found.new.keys ≡ fold add_once found.old.keys (constants_in constraint.now)) }
+    ensures added { OnOk result (found.new.keys ≡ fold add_once found.old.keys (constants_in constraint.now)) }
+    ensures unchanged { OnErr result (found.new.keys ≡ found.old.keys) }
 {
-    add_arguments(
-        found,
-        letters_of(constraint),
-        constraint.operands.as_slice(),
-    )
+    let count = found.len();
+    let letters = letters_of(constraint);
+    match add_arguments(found, letters, constraint.operands.as_slice()) {
+        Ok(()) => Ok(()),
+        Err(error) => {
+            found.truncate(count);
+            Err(error)
+        }
+    }
 }
 
 /// Adds those of the arguments at these letters.
-#[tactic(auto, using(crate::proofs::ConstantLaws::constants_laws))]
+#[tactic(auto, using(crate::proofs::ConstantLaws::constants_laws, crate::proofs::ConstantLaws::front_laws))]
 fn add_arguments(
     found: &mut IndexSet<i64>,
     letters: &[Letter],
     operands: &[Operand],
 ) -> Result<(), AllocError>
-    ensures { OnOk result (found.new.keys ≡ fold add_once found.old.keys (constants_at letters.now operands.now)) }
+    ensures kept { OnErr result (IsFront found.old.keys found.new.keys) }
+    ensures added { OnOk result (found.new.keys ≡ fold add_once found.old.keys (constants_at letters.now operands.now)) }
 {
     for (place, letter) in letters.iter().enumerate() {
         if place >= operands.len() {

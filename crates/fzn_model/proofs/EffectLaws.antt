@@ -18,6 +18,7 @@ use Rattle.constraint_model.specs.declared.model.VarDecl.{VarDecl}
 use Rattle.constraint_model.specs.declared.model.Phase.{Phase}
 use Rattle.constraint_model.specs.declared.meanings.Meaning.{Meaning}
 use Rattle.constraint_model.specs.declared.table.ConstraintName.{ConstraintName}
+use Rattle.fzn_model.specs.declared.fault_kinds.FaultKind.{FaultKind}
 use Rattle.fzn_model.specs.declared.effect.Effect.{Effect}
 use Rattle.constraint_model.specs.Searches.{last_phase}
 use Rattle.fzn_model.specs.Searches.{phases_of}
@@ -169,11 +170,11 @@ pub record Passes (text : List ℕ) (before : Reading) (what : WhatTree) : Type 
   pub limit : passes_limit before what (effect_of text before.scope (length before.vars) what) ≡ false
   pub open_yet : is_some before.solved ≡ false
 
-none_first : (tests : List (ℕ × Bool)) → first_kind tests ≡ None → Each (λ (t : ℕ × Bool). t.1 ≡ false) tests
+none_first : (tests : List (FaultKind × Bool)) → first_kind tests ≡ None → Each (λ (t : FaultKind × Bool). t.1 ≡ false) tests
 none_first [] e = tt
 none_first (t ∷ ts) e = by t.1 refl (none_first ts) e
   where
-    by : (b : Bool) → t.1 ≡ b → (first_kind ts ≡ None → Each (λ (t : ℕ × Bool). t.1 ≡ false) ts) → cond b (Some t.0) (first_kind ts) ≡ None → Each (λ (t : ℕ × Bool). t.1 ≡ false) (t ∷ ts)
+    by : (b : Bool) → t.1 ≡ b → (first_kind ts ≡ None → Each (λ (t : FaultKind × Bool). t.1 ≡ false) ts) → cond b (Some t.0) (first_kind ts) ≡ None → Each (λ (t : FaultKind × Bool). t.1 ≡ false) (t ∷ ts)
     by true same f k = absurd (true≢false (ap is_some k))
     by false same f k = (same, f k)
 

@@ -5,6 +5,7 @@ use Rattle.fzn_parser.specs.declared.tree.Shape.{Shape}
 use Rattle.fzn_parser.specs.Notes.{AnnTree}
 use Rattle.fzn_parser.specs.Items.{WhatTree, predicate_item, scalar_item, array_item, constraint_item, solve_item}
 use Rattle.fzn_parser.specs.Texts.{spelling}
+use Rattle.fzn_model.specs.declared.fault_kinds.FaultKind.{FaultKind}
 use Rattle.fzn_model.specs.declared.stop.Stop.{Stop}
 use Rattle.constraint_model.specs.declared.meanings.Meaning.{Meaning}
 use Rattle.constraint_model.specs.declared.table.ConstraintName.{ConstraintName}
@@ -14,7 +15,7 @@ use Rattle.fzn_model.specs.Effects.{effect_of, no_effect, scalar_effect, variabl
 use Rattle.fzn_model.specs.Faults.{first_kind, Refuses, declares_again}
 use Rattle.fzn_model.specs.Drafts.{IsNew}
 
-pub first_own : (xs ys : List (ℕ × Bool)) (k : ℕ) → first_kind xs ≡ Some k → first_kind (xs ++ ys) ≡ Some k
+pub first_own : (xs ys : List (FaultKind × Bool)) (k : FaultKind) → first_kind xs ≡ Some k → first_kind (xs ++ ys) ≡ Some k
 first_own [] ys k e = absurd (true≢false (sym (ap is_some e)))
 first_own (x ∷ xs) ys k e = by x.1 (first_own xs ys k) e
   where
@@ -22,7 +23,7 @@ first_own (x ∷ xs) ys k e = by x.1 (first_own xs ys k) e
     by true f e = e
     by false f e = f e
 
-pub first_place : (xs ys : List (ℕ × Bool)) → first_kind xs ≡ None → first_kind (xs ++ ys) ≡ first_kind ys
+pub first_place : (xs ys : List (FaultKind × Bool)) → first_kind xs ≡ None → first_kind (xs ++ ys) ≡ first_kind ys
 first_place [] ys e = refl
 first_place (x ∷ xs) ys e = by x.1 (first_place xs ys) e
   where
@@ -31,12 +32,12 @@ first_place (x ∷ xs) ys e = by x.1 (first_place xs ys) e
     by false f e = f e
 
 -- what is refused by the first tests is refused by all
-pub refused_own : (xs ys : List (ℕ × Bool)) (s : Stop) → Refuses (first_kind xs) s → Refuses (first_kind (xs ++ ys)) s
+pub refused_own : (xs ys : List (FaultKind × Bool)) (s : Stop) → Refuses (first_kind xs) s → Refuses (first_kind (xs ++ ys)) s
 refused_own xs ys (Stop.Fault k) h = first_own xs ys k h
 refused_own xs ys Stop.NoMemory h = tt
 
 -- what passes the first tests is refused by all where the others refuse it
-pub refused_place : (xs ys : List (ℕ × Bool)) (s : Stop) → first_kind xs ≡ None → Refuses (first_kind ys) s → Refuses (first_kind (xs ++ ys)) s
+pub refused_place : (xs ys : List (FaultKind × Bool)) (s : Stop) → first_kind xs ≡ None → Refuses (first_kind ys) s → Refuses (first_kind (xs ++ ys)) s
 refused_place xs ys (Stop.Fault k) e h = first_place xs ys e ∙ h
 refused_place xs ys Stop.NoMemory e h = tt
 

@@ -5,6 +5,8 @@ use Rattle.std.proofs.lemmas.Bool.{cases_order}
 use Rattle.fzn_parser.specs.Items.{predicate_item}
 use Rattle.fzn_parser.specs.Parsing.{ItemTree}
 use Rattle.constraint_model.specs.declared.model.FznModel.{FznModel}
+use Rattle.fzn_model.specs.declared.fault_kinds.FaultKind.{FaultKind}
+use Rattle.fzn_model.specs.FaultKinds.{kind_number}
 use Rattle.fzn_model.specs.Effects.{reading_of}
 use Rattle.fzn_model.specs.Faults.{fault_of}
 use Rattle.fzn_model.specs.Resolving.{AreLawful, IsModelOf, IsFirstFault, HasFault, model_with}
@@ -20,7 +22,7 @@ same_some : {A : Type 0} (x y : A) → Some x ≡ Some y → x ≡ y
 same_some x y e = ap (λ o. unwrap_or o x) e
 
 -- a fault at a place of lawful items can't be
-no_fault : (text : List ℕ) (items : List ItemTree) (place kind : ℕ) → AreLawful text items → place < length items
+no_fault : (text : List ℕ) (items : List ItemTree) (place : ℕ) (kind : FaultKind) → AreLawful text items → place < length items
     → ((d : ItemTree) → fault_of text (reading_of text (take place items)) (get_or items place d).what ≡ Some kind) → ⊥
 no_fault text items place kind lawful inside fault = none_is_some (fault_of text (reading_of text (take place items)) (get_or items place some_item).what) kind (lawful place some_item inside) (fault some_item)
 
@@ -32,12 +34,12 @@ not_before text items k l at place f g less =
     let Q : List ItemTree → Type 0 = λ xs. fault_of text (reading_of text xs) (get_or items f.place some_item).what ≡ None in
     let here = g.lawful f.place some_item (omega (arith, less, length-take-le g.place items (omega (arith, g.inside)))) in
     let there = subst P (get_or-take g.place items f.place some_item less) here in
-    none_is_some (fault_of text (reading_of text (take f.place items)) (get_or items f.place some_item).what) k
+    none_is_some (fault_of text (reading_of text (take f.place items)) (get_or items f.place some_item).what) f.which
     (subst Q (take-take f.place g.place items (omega (arith, less))) there) (f.fault some_item)
 
 same_place : (text : List ℕ) (items : List ItemTree) (k l at place : ℕ) (f : IsFirstFault text items k at) (g : IsFirstFault text items l place) → f.place ≡ g.place → (k ≡ l) × (at ≡ place)
 same_place text items k l at place f g e = (
-  same_some k l (sym (f.fault some_item) ∙ ap (λ p. fault_of text (reading_of text (take p items)) (get_or items p some_item).what) e ∙ g.fault some_item),
+  f.is_kind ∙ ap kind_number (same_some f.which g.which (sym (f.fault some_item) ∙ ap (λ p. fault_of text (reading_of text (take p items)) (get_or items p some_item).what) e ∙ g.fault some_item)) ∙ sym g.is_kind,
   f.first_byte some_item ∙ ap (λ p. (get_or items p some_item).from) e ∙ sym (g.first_byte some_item),
 )
 
@@ -48,8 +50,8 @@ one_fault text items k l at place (inl f) (inl g) = by (cases_order f.place g.pl
     by (inl e) = same_place text items k l at place f g e
     by (inr (inl less)) = absurd (not_before text items k l at place f g less)
     by (inr (inr more)) = absurd (not_before text items l k place at g f more)
-one_fault text items k l at place (inl f) (inr g) = absurd (no_fault text items f.place k g.lawful f.inside f.fault)
-one_fault text items k l at place (inr f) (inl g) = absurd (no_fault text items g.place l f.lawful g.inside g.fault)
+one_fault text items k l at place (inl f) (inr g) = absurd (no_fault text items f.place f.which g.lawful f.inside f.fault)
+one_fault text items k l at place (inr f) (inl g) = absurd (no_fault text items g.place g.which f.lawful g.inside g.fault)
 one_fault text items k l at place (inr f) (inr g) = (f.is_kind ∙ sym g.is_kind, f.at_end ∙ sym g.at_end)
 
 pub one_model : (text : List ℕ) (items : List ItemTree) (m n : FznModel) → IsModelOf text items m → IsModelOf text items n → m ≡ n
@@ -58,5 +60,5 @@ one_model text items m n h i =
     h.is_model.is_model ∙ ap (model_with (reading_of text items)) e ∙ sym i.is_model.is_model
 
 pub never_both : (text : List ℕ) (items : List ItemTree) (m : FznModel) (k at : ℕ) → IsModelOf text items m → HasFault text items k at → ⊥
-never_both text items m k at h (inl f) = no_fault text items f.place k h.lawful f.inside f.fault
+never_both text items m k at h (inl f) = no_fault text items f.place f.which h.lawful f.inside f.fault
 never_both text items m k at h (inr f) = none_is_some (reading_of text items).solved h.is_model.asked f.unsolved h.is_model.solved

@@ -5,8 +5,10 @@ use Rattle.fzn_parser.specs.Items.{predicate_item}
 use Rattle.fzn_parser.specs.Parsing.{ItemTree}
 use Rattle.constraint_model.specs.declared.model.Phase.{Phase}
 use Rattle.constraint_model.specs.declared.model.Goal.{Goal}
+use Rattle.fzn_model.specs.declared.fault_kinds.FaultKind.{FaultKind}
+use Rattle.fzn_model.specs.FaultKinds.{kind_number}
 use Rattle.fzn_model.specs.Effects.{reading_of}
-use Rattle.fzn_model.specs.Faults.{fault_of, no_solve}
+use Rattle.fzn_model.specs.Faults.{fault_of}
 use Rattle.fzn_model.specs.Resolving.{AreLawful, IsRefused, IsRead, model_with}
 
 -- any item serves where a place is inside
@@ -34,19 +36,21 @@ front text items (suc i) l = by (front text items i (omega arith))
     x : ItemTree
     x = get_or items i some_item
 
-    found : UpTo text items i → (o : Option ℕ) → fault_of text (reading_of text (take i items)) x.what ≡ o → UpTo text items (suc i) ⊎ IsRefused text items
+    found : UpTo text items i → (o : Option FaultKind) → fault_of text (reading_of text (take i items)) x.what ≡ o → UpTo text items (suc i) ⊎ IsRefused text items
     found h None e =
         let here : (d : ItemTree) → fault_of text (reading_of text (take i items)) (get_or items i d).what ≡ None =
         λ d. subst (λ (y : ItemTree). fault_of text (reading_of text (take i items)) y.what ≡ None) (get_or_default items i some_item d inside) e in
         inl (λ k m. below_more (λ j. (d : ItemTree) → fault_of text (reading_of text (take j items)) (get_or items j d).what ≡ None) i h here k (omega arith))
     found h (Some kind) e = inr (record {
-      kind = kind;
+      kind = kind_number kind;
       at = x.from;
       fault = inl (record {
         place = i;
         inside = inside;
         lawful = front_lawful text items i h;
+        which = kind;
         fault = λ d. subst (λ (y : ItemTree). fault_of text (reading_of text (take i items)) y.what ≡ Some kind) (get_or_default items i some_item d inside) e;
+        is_kind = refl;
         first_byte = λ d. ap (λ (y : ItemTree). y.from) (get_or_default items i some_item d inside);
       });
     })
@@ -57,7 +61,7 @@ front text items (suc i) l = by (front text items i (omega arith))
 
 -- lawful items have a model, or lack a solve item
 ended : (text : List ℕ) (items : List ItemTree) → AreLawful text items → (o : Option (List Phase × Goal)) → (reading_of text items).solved ≡ o → IsRead text items
-ended text items h None e = inr (record { kind = no_solve; at = length text; fault = inr (record { lawful = h; unsolved = e; is_kind = refl; at_end = refl }) })
+ended text items h None e = inr (record { kind = kind_number FaultKind.NoSolve; at = length text; fault = inr (record { lawful = h; unsolved = e; is_kind = refl; at_end = refl }) })
 ended text items h (Some asked) e = inl (record {
   model = model_with (reading_of text items) asked;
   is_model = record { lawful = h; is_model = record { asked = asked; solved = e; is_model = refl } };

@@ -4,11 +4,13 @@ use Rattle.std.proofs.lemmas.List.{take_more, take_all, take-take, get_or-take, 
 use Rattle.std.proofs.lemmas.List.Sums.{fold-append}
 use Rattle.fzn_parser.specs.declared.tree.Item.{Item}
 use Rattle.fzn_parser.specs.Parsing.{ItemTree, item_tree}
+use Rattle.fzn_model.specs.declared.fault_kinds.FaultKind.{FaultKind}
 use Rattle.fzn_model.specs.declared.stop.Stop.{Stop}
+use Rattle.fzn_model.specs.FaultKinds.{kind_number}
 use Rattle.constraint_model.specs.declared.model.FznModel.{FznModel}
 use Rattle.fzn_model.specs.declared.resolving.ModelError.{ModelError}
 use Rattle.fzn_model.specs.Effects.{Reading, nothing, with_item, reading_of}
-use Rattle.fzn_model.specs.Faults.{fault_of, Refuses, no_solve, is_too_large}
+use Rattle.fzn_model.specs.Faults.{fault_of, Refuses, is_too_large}
 use Rattle.constraint_model.specs.Limits.{most_vars, most_kernels, most_constants}
 use Rattle.fzn_model.specs.Resolving.{AreLawful, IsModelOf, IsModelWith, IsCause, stopped_at}
 
@@ -62,7 +64,7 @@ module _ (text : List ℕ) (items : List Item) (i : ℕ) (d : Item) (r : Reading
     fits = ap is_too_large e ∙ f;
   }
 
-  pub first_fault : (kind : ℕ) → fault_of text r x.what ≡ Some kind → (z : ItemTree) → fault_of text (reading_of text (take i trees)) (get_or trees i z).what ≡ Some kind
+  pub first_fault : (kind : FaultKind) → fault_of text r x.what ≡ Some kind → (z : ItemTree) → fault_of text (reading_of text (take i trees)) (get_or trees i z).what ≡ Some kind
   first_fault kind g z = subst (λ y. fault_of text (reading_of text (take i trees)) y.what ≡ Some kind) (here ∙ get_or_default trees i x z inside) (subst (λ s. fault_of text s x.what ≡ Some kind) h.same g)
 
   pub first_byte : (z : ItemTree) → (get_or items i d).from ≡ (get_or trees i z).from
@@ -87,7 +89,9 @@ cause_here text items i d r h l (Stop.Fault kind) g = inl (record {
   place = i;
   inside = omega (arith, length-map items item_tree, l);
   lawful = lawful_before text items i d r h l;
+  which = kind;
   fault = first_fault text items i d r h l kind g;
+  is_kind = refl;
   first_byte = first_byte text items i d r h l;
 })
 cause_here text items i d r h l Stop.NoMemory g = tt
@@ -97,7 +101,7 @@ pub model_here : (text : List ℕ) (items : List ItemTree) (i : ℕ) (r : Readin
 model_here text items i r m h l w = record { lawful = lawful_all text items i r h l; is_model = subst (λ s. IsModelWith s m) (reading_all text items i r h l) w }
 
 -- all items stand, and none was a solve item
-pub unsolved_here : (text : List ℕ) (items : List ItemTree) (i : ℕ) (r : Reading) → Stands text items i r → length items ≤ i → r.solved ≡ None → IsCause text items (ModelError.Fault no_solve (length text))
+pub unsolved_here : (text : List ℕ) (items : List ItemTree) (i : ℕ) (r : Reading) → Stands text items i r → length items ≤ i → r.solved ≡ None → IsCause text items (ModelError.Fault (kind_number FaultKind.NoSolve) (length text))
 unsolved_here text items i r h l e = inr (record {
   lawful = lawful_all text items i r h l;
   unsolved = subst (λ (s : Reading). s.solved ≡ None) (reading_all text items i r h l) e;
@@ -106,7 +110,7 @@ unsolved_here text items i r h l e = inr (record {
 })
 
 pub end_here : (text : List ℕ) (items : List ItemTree) (i : ℕ) (r : Reading) (o : Result FznModel ModelError) → Stands text items i r → length items ≤ i
-    → IfOk o (λ m. IsModelWith r m) → IfErr o (λ e. (e ≡ ModelError.Fault no_solve (length text)) × (r.solved ≡ None))
+    → IfOk o (λ m. IsModelWith r m) → IfErr o (λ e. (e ≡ ModelError.Fault (kind_number FaultKind.NoSolve) (length text)) × (r.solved ≡ None))
     → MatchResult o (λ m. IsModelOf text items m) (λ e. IsCause text items e)
 end_here text items i r (Ok m) h l w v = model_here text items i r m h l w
 end_here text items i r (Err e) h l w v = subst (IsCause text items) (sym v.0) (unsolved_here text items i r h l v.1)

@@ -13,6 +13,7 @@ use Rattle.fzn_parser.specs.Texts.{spelling}
 use Rattle.constraint_model.specs.declared.meanings.Meaning.{Meaning}
 use Rattle.constraint_model.specs.declared.meanings.Scalar.{Scalar}
 use Rattle.constraint_model.specs.declared.table.Letter.{Letter}
+use Rattle.fzn_model.specs.declared.fault_kinds.FaultKind.{FaultKind}
 use Rattle.fzn_model.specs.declared.stop.Stop.{Stop}
 use Rattle.fzn_model.specs.declared.effect.Effect.{Effect}
 use Rattle.fzn_model.specs.Literals.{number_of}
@@ -20,35 +21,6 @@ use Rattle.fzn_model.specs.Scopes.{Scope, meaning_of, expr_meaning}
 use Rattle.constraint_model.specs.Limits.{most_vars, most_entries, most_kernels, most_constants}
 use Rattle.constraint_model.specs.Fits.{named, fits, row_for, is_constant}
 use Rattle.fzn_model.specs.Effects.{Reading, joined, effect_of, meanings_of}
-
--- ---- the kinds
-
-abbrev pub name_twice : ℕ
-name_twice = 3
-
-abbrev pub name_unknown : ℕ
-name_unknown = 4
-
-abbrev pub unknown_constraint : ℕ
-unknown_constraint = 5
-
-abbrev pub wrong_argument : ℕ
-wrong_argument = 6
-
-abbrev pub unsupported : ℕ
-unsupported = 7
-
-abbrev pub out_of_range : ℕ
-out_of_range = 8
-
-abbrev pub too_many : ℕ
-too_many = 9
-
-abbrev pub no_solve : ℕ
-no_solve = 10
-
-abbrev pub after_solve : ℕ
-after_solve = 11
 
 -- ---- the parts of an item
 
@@ -267,35 +239,35 @@ passes_limit before what more = has_long_list what || is_too_large (joined befor
 -- ---- the fault
 
 -- the first kind whose test is met
-abbrev pub first_kind : List (ℕ × Bool) → Option ℕ
+abbrev pub first_kind : List (FaultKind × Bool) → Option FaultKind
 first_kind [] = None
 first_kind (t ∷ ts) = cond t.1 (Some t.0) (first_kind ts)
 
 -- the tests of an item by itself and against the declarations before it
-abbrev pub own_tests : List ℕ → Scope → WhatTree → List (ℕ × Bool)
+abbrev pub own_tests : List ℕ → Scope → WhatTree → List (FaultKind × Bool)
 own_tests text scope what =
-    (name_twice, declares_again text scope what)
-    ∷ (name_unknown, uses_unknown text scope what)
-    ∷ (unknown_constraint, has_unknown_constraint text what)
-    ∷ (wrong_argument, not (is_unsupported what) && has_wrong_argument text scope what)
-    ∷ (unsupported, is_unsupported what)
-    ∷ (out_of_range, has_wide_literal text what)
+    (FaultKind.NameTwice, declares_again text scope what)
+    ∷ (FaultKind.NameUnknown, uses_unknown text scope what)
+    ∷ (FaultKind.UnknownConstraint, has_unknown_constraint text what)
+    ∷ (FaultKind.WrongArgument, not (is_unsupported what) && has_wrong_argument text scope what)
+    ∷ (FaultKind.Unsupported, is_unsupported what)
+    ∷ (FaultKind.OutOfRange, has_wide_literal text what)
     ∷ []
 
 -- the tests of an item, and of what it adds, against all that stands before it
-abbrev pub place_tests : Reading → WhatTree → Effect → List (ℕ × Bool)
-place_tests before what more = (too_many, passes_limit before what more) ∷ (after_solve, is_some before.solved) ∷ []
+abbrev pub place_tests : Reading → WhatTree → Effect → List (FaultKind × Bool)
+place_tests before what more = (FaultKind.TooMany, passes_limit before what more) ∷ (FaultKind.AfterSolve, is_some before.solved) ∷ []
 
 -- the least kind that an item has, against what stands before it
-unfoldable pub fault_of : List ℕ → Reading → WhatTree → Option ℕ
+unfoldable pub fault_of : List ℕ → Reading → WhatTree → Option FaultKind
 fault_of text before what = first_kind (own_tests text before.scope what ++ place_tests before what (effect_of text before.scope (length before.vars) what))
 
 -- an answer of this kind alone, and only where this holds; memory may be refused at any time
-abbrev pub OnlyFault : ℕ → Type 0 → Stop → Type 0
+abbrev pub OnlyFault : FaultKind → Type 0 → Stop → Type 0
 OnlyFault kind P (Stop.Fault k) = (k ≡ kind) × P
 OnlyFault kind P Stop.NoMemory = Unit {0}
 
 -- why an item isn't taken: this is its fault; memory may be refused at any time
-abbrev pub Refuses : Option ℕ → Stop → Type 0
+abbrev pub Refuses : Option FaultKind → Stop → Type 0
 Refuses fault (Stop.Fault kind) = fault ≡ Some kind
 Refuses fault Stop.NoMemory = Unit {0}

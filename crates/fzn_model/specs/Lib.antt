@@ -1,5 +1,6 @@
 pub mod Drafts
 pub mod Effects
+pub mod FaultKinds
 pub mod Faults
 pub mod Literals
 pub mod Outputs

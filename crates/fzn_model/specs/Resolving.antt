@@ -5,9 +5,11 @@ use Rattle.constraint_model.specs.declared.model.Phase.{Phase}
 use Rattle.constraint_model.specs.declared.model.Goal.{Goal}
 use Rattle.constraint_model.specs.declared.model.FznModel.{FznModel}
 use Rattle.fzn_model.specs.declared.resolving.ModelError.{ModelError}
+use Rattle.fzn_model.specs.declared.fault_kinds.FaultKind.{FaultKind}
 use Rattle.fzn_model.specs.declared.stop.Stop.{Stop}
+use Rattle.fzn_model.specs.FaultKinds.{kind_number}
 use Rattle.fzn_model.specs.Effects.{Reading, reading_of}
-use Rattle.fzn_model.specs.Faults.{fault_of, no_solve}
+use Rattle.fzn_model.specs.Faults.{fault_of}
 
 -- no item has a fault against the items before it
 abbrev pub AreLawful : List ℕ → List ItemTree → Type 0
@@ -33,14 +35,16 @@ pub record IsFirstFault (text : List ℕ) (items : List ItemTree) (kind at : ℕ
   pub place : ℕ
   pub inside : place < length items
   pub lawful : AreLawful text (take place items)
-  pub fault : (d : ItemTree) → fault_of text (reading_of text (take place items)) (slice_index_or items place d).what ≡ Some kind
+  pub which : FaultKind
+  pub fault : (d : ItemTree) → fault_of text (reading_of text (take place items)) (slice_index_or items place d).what ≡ Some which
+  pub is_kind : kind ≡ kind_number which
   pub first_byte : (d : ItemTree) → at ≡ (slice_index_or items place d).from
 
 -- no item has a fault, and none is a solve item; the fault stands at the end of the text
 pub record LacksSolve (text : List ℕ) (items : List ItemTree) (kind at : ℕ) : Type 0 where
   pub lawful : AreLawful text items
   pub unsolved : (reading_of text items).solved ≡ None
-  pub is_kind : kind ≡ no_solve
+  pub is_kind : kind ≡ kind_number FaultKind.NoSolve
   pub at_end : at ≡ length text
 
 abbrev pub HasFault : List ℕ → List ItemTree → ℕ → ℕ → Type 0
@@ -68,5 +72,5 @@ IsCause text items ModelError.NoMemory = Unit {0}
 
 -- the error where the item at this byte isn't taken
 abbrev pub stopped_at : Stop → ℕ → ModelError
-stopped_at (Stop.Fault kind) at = ModelError.Fault kind at
+stopped_at (Stop.Fault kind) at = ModelError.Fault (kind_number kind) at
 stopped_at Stop.NoMemory at = ModelError.NoMemory

@@ -2,6 +2,7 @@
 
 ghost use Rattle.std.specs.Prelude.{◌≡◌, ℕ, true, false, length, map, pos, IfOk, IfErr, OnOk};
 ghost use Rattle.fzn_parser.specs.Notes.{ann_tree};
+ghost use Rattle.fzn_model.specs.declared.fault_kinds.FaultKind.{FaultKind as Kind};
 ghost use Rattle.fzn_model.specs.Effects as effects;
 ghost use Rattle.fzn_model.specs.Faults as faults;
 ghost use Rattle.fzn_model.specs.Scopes as scopes;
@@ -9,7 +10,7 @@ ghost use Rattle.fzn_model.specs.Scopes as scopes;
 use crate::domains::element_constraints;
 use crate::effect::Effect;
 use crate::exprs::{expr_meaning, spelling};
-use crate::kinds::WRONG_ARGUMENT;
+use crate::fault_kinds::FaultKind;
 use crate::numbers::number_of;
 use crate::outputs::output_ranges;
 use crate::scalars::{copy_name, named};
@@ -69,13 +70,13 @@ fn read_row(
 ) -> Result<Option<Meaning>, Stop>
     ensures value { IfOk result (λ m. m ≡ scopes.expr_meaning text.now scope.now value.now) }
     ensures fits { OnOk result (faults.is_wrong_row text.now scope.now low high shape.now value.now ≡ false) }
-    ensures wrong { IfErr result (faults.OnlyFault faults.wrong_argument (faults.is_wrong_row text.now scope.now low high shape.now value.now ≡ true)) }
+    ensures wrong { IfErr result (faults.OnlyFault Kind.WrongArgument (faults.is_wrong_row text.now scope.now low high shape.now value.now ≡ true)) }
 {
     let meaning = expr_meaning(alloc, text, scope, value)?;
     if has_index_set(text, low, high, value) && fits_type(shape, &meaning) {
         Ok(meaning)
     } else {
-        Err(Stop::Fault(WRONG_ARGUMENT))
+        Err(Stop::Fault(FaultKind::WrongArgument))
     }
 }
 
@@ -156,7 +157,7 @@ pub(crate) fn read_array(
 ) -> Result<Effect, Stop>
     ensures effect { IfOk result (λ e. e ≡ effects.array_effect text.now shape.now name.now (map ann_tree anns.now) (scopes.expr_meaning text.now scope.now value.now)) }
     ensures fits { OnOk result (faults.is_wrong_row text.now scope.now indices.0 indices.1 shape.now value.now ≡ false) }
-    ensures wrong { IfErr result (faults.OnlyFault faults.wrong_argument (faults.is_wrong_row text.now scope.now indices.0 indices.1 shape.now value.now ≡ true)) }
+    ensures wrong { IfErr result (faults.OnlyFault Kind.WrongArgument (faults.is_wrong_row text.now scope.now indices.0 indices.1 shape.now value.now ≡ true)) }
 {
     let value = read_row(alloc, text, scope, indices.0, indices.1, shape, value)?;
     match array_effect(alloc, text, shape, name, anns, value) {

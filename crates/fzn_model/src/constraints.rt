@@ -3,6 +3,7 @@
 ghost use Rattle.std.specs.Prelude.{◌≡◌, ◌++◌, ◌∷◌, [], ℕ, true, false, length, map, take, is_some, MatchOption, IfOk, IfErr, OnOk};
 ghost use Rattle.std.specs.List.{list_all};
 ghost use Rattle.fzn_parser.specs.Notes.{ann_tree};
+ghost use Rattle.fzn_model.specs.declared.fault_kinds.FaultKind.{FaultKind as Kind};
 ghost use Rattle.fzn_model.specs.declared.stop.Stop.{Stop as Reason};
 ghost use Rattle.fzn_model.specs.Effects as effects;
 ghost use Rattle.fzn_model.specs.Faults as faults;
@@ -13,7 +14,7 @@ use crate::arrays::terms_of;
 use crate::domains::copy_ranges;
 use crate::effect::Effect;
 use crate::exprs::expr_meaning;
-use crate::kinds::WRONG_ARGUMENT;
+use crate::fault_kinds::FaultKind;
 use crate::scope::Scope;
 use crate::searches::all_phases;
 use crate::stop::Stop;
@@ -97,16 +98,16 @@ pub(crate) fn read_constraint(
 ) -> Result<Effect, Stop>
     ensures effect { IfOk result (λ e. e ≡ effects.constraint_effect text.now scope.now name.now args.now) }
     ensures fits { OnOk result (faults.arguments_fit text.now scope.now name.now args.now ≡ true) }
-    ensures wrong { IfErr result (faults.OnlyFault faults.wrong_argument (faults.arguments_fit text.now scope.now name.now args.now ≡ false)) }
+    ensures wrong { IfErr result (faults.OnlyFault Kind.WrongArgument (faults.arguments_fit text.now scope.now name.now args.now ≡ false)) }
 {
     let Some(meanings) = arguments(alloc, text, scope, args)? else {
-        return Err(Stop::Fault(WRONG_ARGUMENT));
+        return Err(Stop::Fault(FaultKind::WrongArgument));
     };
     let Some(known) = ConstraintName::named(name) else {
-        return Err(Stop::Fault(WRONG_ARGUMENT));
+        return Err(Stop::Fault(FaultKind::WrongArgument));
     };
     if !fits_some_row(known, meanings.as_slice()) {
-        return Err(Stop::Fault(WRONG_ARGUMENT));
+        return Err(Stop::Fault(FaultKind::WrongArgument));
     }
     match known_effect(alloc, known, meanings.as_slice()) {
         Ok(effect) => Ok(effect),

@@ -5,12 +5,13 @@ ghost use Rattle.fzn_parser.specs.Items.{what_tree};
 ghost use Rattle.fzn_parser.specs.Parsing.{item_tree};
 ghost use Rattle.constraint_model.specs.Fits.{add_once, constants_in, kernels_of};
 ghost use Rattle.constraint_model.specs.Limits as limits;
+ghost use Rattle.fzn_model.specs.declared.fault_kinds.FaultKind.{FaultKind as Kind};
 ghost use Rattle.fzn_model.specs.Drafts.{seen, counted, put, IsNew};
 ghost use Rattle.fzn_model.specs.Effects as effects;
 ghost use Rattle.fzn_model.specs.Faults as faults;
 
 use crate::effect::Effect;
-use crate::kinds::{AFTER_SOLVE, TOO_MANY};
+use crate::fault_kinds::FaultKind;
 use crate::limits::{MOST_CONSTANTS, MOST_KERNELS, MOST_VARS, has_long_list};
 use crate::reads::read_item;
 use crate::scope::Scope;
@@ -137,19 +138,19 @@ impl Draft {
         requires kernels { self.old.kernels ≤ limits.most_kernels }
         ensures counted { OnOk result (seen self.new ≡ counted (seen self.old) effect.now) }
         ensures fits { OnOk result (faults.is_too_large (effects.joined (seen self.old) effect.now) ≡ false) }
-        ensures large { IfErr result (faults.OnlyFault faults.too_many (faults.is_too_large (effects.joined (seen self.old) effect.now) ≡ true)) }
+        ensures large { IfErr result (faults.OnlyFault Kind.TooMany (faults.is_too_large (effects.joined (seen self.old) effect.now) ≡ true)) }
     {
         if !self.has_room(effect) {
-            return Err(Stop::Fault(TOO_MANY));
+            return Err(Stop::Fault(FaultKind::TooMany));
         }
         let Some(kernels) = with_all_kernels(self.kernels, effect.constraints.as_slice()) else {
-            return Err(Stop::Fault(TOO_MANY));
+            return Err(Stop::Fault(FaultKind::TooMany));
         };
         self.kernels = kernels;
         add_all_constants(&mut self.constants, effect.constraints.as_slice())?;
         add_goal_constant(&mut self.constants, &effect.solved)?;
         if self.constants.len() > MOST_CONSTANTS {
-            return Err(Stop::Fault(TOO_MANY));
+            return Err(Stop::Fault(FaultKind::TooMany));
         }
         Ok(())
     }
@@ -191,14 +192,14 @@ impl Draft {
         ensures fault { IfErr result (λ s. faults.Refuses (faults.first_kind (faults.place_tests (seen self.old) (what_tree what.now) effect.now)) s) }
     {
         if has_long_list(what) {
-            return Err(Stop::Fault(TOO_MANY));
+            return Err(Stop::Fault(FaultKind::TooMany));
         }
         match self.count(effect) {
             Ok(()) => {}
             Err(stop) => return Err(stop),
         }
         if self.solved.is_some() {
-            return Err(Stop::Fault(AFTER_SOLVE));
+            return Err(Stop::Fault(FaultKind::AfterSolve));
         }
         Ok(())
     }

@@ -5,10 +5,10 @@ mod arrays;
 mod constraints;
 mod domains;
 mod draft;
-pub mod effect;
+mod effect;
 mod exprs;
-pub mod kinds;
-pub mod limits;
+pub mod fault_kinds;
+mod limits;
 #[cfg(test)]
 mod literal_tests;
 mod literals;
@@ -22,7 +22,7 @@ mod reads;
 mod resolve_tests;
 mod resolving;
 mod scalars;
-pub mod scope;
+mod scope;
 mod searches;
 mod stop;
 #[cfg(test)]
@@ -33,4 +33,5 @@ pub use constraint_model::{
     Constraint, ConstraintName, FznModel, Goal, Operand, Output, Phase, Term, ValSel, VarDecl,
     VarSel,
 };
+pub use fault_kinds::FaultKind;
 pub use resolving::{ModelError, law_one_model, law_well_formed, resolve};

@@ -2,6 +2,7 @@
 
 ghost use Rattle.std.specs.Prelude.{◌≡◌, ◌≤◌, true, false, length, IfOk, IfErr, OnOk};
 ghost use Rattle.fzn_parser.specs.Items.{what_tree};
+ghost use Rattle.fzn_model.specs.declared.fault_kinds.FaultKind.{FaultKind as Kind};
 ghost use Rattle.fzn_model.specs.Effects as effects;
 ghost use Rattle.fzn_model.specs.Faults as faults;
 ghost use Rattle.fzn_model.specs.Drafts.{IsNew};
@@ -10,7 +11,7 @@ use crate::arrays::read_array;
 use crate::constraints::{read_constraint, read_solve};
 use crate::effect::Effect;
 use crate::exprs::spelling;
-use crate::kinds::{NAME_TWICE, NAME_UNKNOWN, OUT_OF_RANGE, UNKNOWN_CONSTRAINT, UNSUPPORTED};
+use crate::fault_kinds::FaultKind;
 use crate::literals::has_wide_literal;
 use crate::names::{declares_again, uses_unknown};
 use crate::scalars::read_scalar;
@@ -45,7 +46,7 @@ fn read_effect(
     requires supported { faults.is_unsupported (what_tree what.now) ≡ false }
     ensures effect { IfOk result (λ e. e ≡ effects.effect_of text.now scope.now count (what_tree what.now)) }
     ensures fits { OnOk result (faults.has_wrong_argument text.now scope.now (what_tree what.now) ≡ false) }
-    ensures wrong { IfErr result (faults.OnlyFault faults.wrong_argument (faults.has_wrong_argument text.now scope.now (what_tree what.now) ≡ true)) }
+    ensures wrong { IfErr result (faults.OnlyFault Kind.WrongArgument (faults.has_wrong_argument text.now scope.now (what_tree what.now) ≡ true)) }
 {
     match what {
         What::Predicate(_) => Ok(no_effect(alloc)),
@@ -109,20 +110,20 @@ pub(crate) fn read_item(
     ensures fault { IfErr result (λ s. faults.Refuses (faults.first_kind (faults.own_tests text.now scope.now (what_tree what.now))) s) }
 {
     if declares_again(text, scope, what) {
-        return Err(Stop::Fault(NAME_TWICE));
+        return Err(Stop::Fault(FaultKind::NameTwice));
     }
     if uses_unknown(text, scope, what) {
-        return Err(Stop::Fault(NAME_UNKNOWN));
+        return Err(Stop::Fault(FaultKind::NameUnknown));
     }
     if has_unknown_constraint(text, what) {
-        return Err(Stop::Fault(UNKNOWN_CONSTRAINT));
+        return Err(Stop::Fault(FaultKind::UnknownConstraint));
     }
     if is_unsupported(what) {
-        return Err(Stop::Fault(UNSUPPORTED));
+        return Err(Stop::Fault(FaultKind::Unsupported));
     }
     let effect = read_effect(alloc, text, scope, count, what)?;
     if has_wide_literal(text, what) {
-        return Err(Stop::Fault(OUT_OF_RANGE));
+        return Err(Stop::Fault(FaultKind::OutOfRange));
     }
     Ok(effect)
 }

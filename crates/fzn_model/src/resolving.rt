@@ -5,12 +5,13 @@ ghost use Rattle.fzn_parser.specs.Parsing.{ItemTree, item_tree};
 ghost use Rattle.constraint_model.specs.declared.model.FznModel.{FznModel};
 ghost use Rattle.fzn_model.specs.declared.resolving.ModelError.{ModelError as Error};
 ghost use Rattle.fzn_model.specs.Drafts.{seen};
-ghost use Rattle.fzn_model.specs.Faults.{no_solve};
+ghost use Rattle.fzn_model.specs.FaultKinds.{kind_number};
+ghost use Rattle.fzn_model.specs.declared.fault_kinds.FaultKind.{FaultKind as Kind};
 ghost use Rattle.fzn_model.specs.Resolving.{IsModelOf, IsModelWith, HasFault, IsCause, IsRead, stopped_at};
 ghost use Rattle.constraint_model.specs.WellFormed.{IsWellFormed};
 
 use crate::draft::Draft;
-use crate::kinds::NO_SOLVE;
+use crate::fault_kinds::FaultKind;
 use crate::stop::Stop;
 use constraint_model::{FznModel, law_ranges};
 use fzn_parser::tree::Item;
@@ -33,7 +34,10 @@ fn stopped(stop: Stop, at: usize) -> ModelError
     ensures { result ≡ stopped_at stop at }
 {
     match stop {
-        Stop::Fault(kind) => ModelError::Fault { kind, at },
+        Stop::Fault(kind) => ModelError::Fault {
+            kind: kind.number(),
+            at,
+        },
         Stop::NoMemory => ModelError::NoMemory,
     }
 }
@@ -56,7 +60,7 @@ pub fn resolve(alloc: Global, text: &[u8], items: &[Item]) -> Result<FznModel, M
 /// The model of a draft, where a solve item was there.
 fn finished(draft: Draft, end: usize) -> Result<FznModel, ModelError>
     ensures model { IfOk result (λ m. IsModelWith (seen draft) m) }
-    ensures unsolved { IfErr result (λ e. (e ≡ Error.Fault no_solve end) × ((seen draft).solved ≡ None)) }
+    ensures unsolved { IfErr result (λ e. (e ≡ Error.Fault (kind_number Kind.NoSolve) end) × ((seen draft).solved ≡ None)) }
 {
     let Draft {
         scope: _,
@@ -76,7 +80,7 @@ fn finished(draft: Draft, end: usize) -> Result<FznModel, ModelError>
             output,
         }),
         None => Err(ModelError::Fault {
-            kind: NO_SOLVE,
+            kind: FaultKind::NoSolve.number(),
             at: end,
         }),
     }

@@ -2,13 +2,14 @@
 
 ghost use Rattle.std.specs.Prelude.{◌≡◌, ◌++◌, ◌∷◌, [], ◌<◌, ◌≤◌, ℕ, true, false, length, map, IfOk, IfErr, OnOk, option_map, option_and_then};
 ghost use Rattle.fzn_parser.specs.Notes.{ann_tree};
+ghost use Rattle.fzn_model.specs.declared.fault_kinds.FaultKind.{FaultKind as Kind};
 ghost use Rattle.fzn_model.specs.Effects as effects;
 ghost use Rattle.fzn_model.specs.Faults as faults;
 
 use crate::domains::{bounds_of, equality, push_domain};
 use crate::effect::Effect;
 use crate::exprs::expr_meaning;
-use crate::kinds::WRONG_ARGUMENT;
+use crate::fault_kinds::FaultKind;
 use crate::outputs::has_output_var;
 use crate::scope::Scope;
 use crate::stop::Stop;
@@ -54,7 +55,7 @@ fn read_value(
 ) -> Result<Option<Meaning>, Stop>
     ensures value { IfOk result (λ m. m ≡ effects.value_of text.now scope.now value.now) }
     ensures fits { OnOk result (faults.is_wrong_value text.now scope.now shape.now value.now ≡ false) }
-    ensures wrong { IfErr result (faults.OnlyFault faults.wrong_argument (faults.is_wrong_value text.now scope.now shape.now value.now ≡ true)) }
+    ensures wrong { IfErr result (faults.OnlyFault Kind.WrongArgument (faults.is_wrong_value text.now scope.now shape.now value.now ≡ true)) }
 {
     let Some(expr) = value else {
         return Ok(None);
@@ -63,7 +64,7 @@ fn read_value(
     if fits_type(shape, &meaning) {
         Ok(meaning)
     } else {
-        Err(Stop::Fault(WRONG_ARGUMENT))
+        Err(Stop::Fault(FaultKind::WrongArgument))
     }
 }
 
@@ -241,7 +242,7 @@ pub(crate) fn read_scalar(
 ) -> Result<Effect, Stop>
     ensures effect { IfOk result (λ e. e ≡ effects.scalar_effect text.now place shape.now name.now (map ann_tree anns.now) (effects.value_of text.now scope.now value.now)) }
     ensures fits { OnOk result (faults.is_wrong_value text.now scope.now shape.now value.now ≡ false) }
-    ensures wrong { IfErr result (faults.OnlyFault faults.wrong_argument (faults.is_wrong_value text.now scope.now shape.now value.now ≡ true)) }
+    ensures wrong { IfErr result (faults.OnlyFault Kind.WrongArgument (faults.is_wrong_value text.now scope.now shape.now value.now ≡ true)) }
 {
     let value = read_value(alloc, text, scope, shape, value)?;
     match scalar_effect(alloc, text, place, shape, name, anns, value) {

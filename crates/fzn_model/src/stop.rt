@@ -1,12 +1,13 @@
 //! Why an item isn't taken.
 
+use crate::fault_kinds::FaultKind;
 use std::alloc::{AllocError, AllocFailed};
 
 /// Why an item isn't taken.
 #[derive(Debug, Clone, Copy, PartialEq, Eq)]
 pub(crate) enum Stop {
     /// It has a fault of this kind.
-    Fault(u8),
+    Fault(FaultKind),
     /// Memory was refused.
     NoMemory,
 }

@@ -1,5 +1,5 @@
 -- Boxes with one changed pair, and boxes that lie inside each other.
-use Rattle.std.proofs.Common.{◌≡◌, ℕ, zero, suc, ℤ, pos, [], ◌∷◌, ◌<◌, ◌≤ℤ◌, length, refl, sym, ap, subst, ◌∙◌, arith, ◌⊎◌, inl, inr}
+use Rattle.std.proofs.Common.{◌≡◌, ◌≢◌, ℕ, zero, suc, ℤ, pos, [], ◌∷◌, ◌<◌, ◌≤ℤ◌, length, refl, sym, ap, subst, ◌∙◌, arith, ◌⊎◌, inl, inr}
 use Rattle.std.proofs.Math.ListN.{length-set}
 use Rattle.std.proofs.lemmas.List.{get_or-set_same, get_or-set_other, set-get_or}
 use Rattle.std.proofs.lemmas.Grind.{get_or-set_at}
@@ -7,7 +7,6 @@ use Rattle.std.proofs.lemmas.Bool.{cases_eq}
 use Rattle.std.specs.Int.{int_max, int_min}
 use Rattle.std.proofs.lemmas.Int.{ints, int_max_is, int_min_is}
 use Rattle.lattice_store.specs.Seats.{tighter_of}
-use Rattle.std.specs.Prelude.{Option, None, Some, IfSome}
 use Rattle.interval.specs.Boxes.{Bounds, low_of, high_of, put_of, IsInside}
 
 pub get_put : (b : Bounds) (v : ℕ) (low high : ℤ) (w : ℕ) → v < length b →
@@ -26,6 +25,19 @@ low_put b v low high h = ap (λ (p : ℤ × ℤ). p.0) (get_or-set_same b v (low
 
 pub high_put : (b : Bounds) (v : ℕ) (low high : ℤ) → v < length b → high_of (put_of b v low high) v ≡ high
 high_put b v low high h = ap (λ (p : ℤ × ℤ). p.1) (get_or-set_same b v (low, high) (pos 0, pos 0) h)
+
+-- another pair
+pub low_other : (b : Bounds) (v : ℕ) (low high : ℤ) (w : ℕ) → w ≢ v → low_of (put_of b v low high) w ≡ low_of b w
+low_other b v low high w ne = ap (λ (p : ℤ × ℤ). p.0) (get_or-set_other b v w (low, high) (pos 0, pos 0) ne)
+
+pub high_other : (b : Bounds) (v : ℕ) (low high : ℤ) (w : ℕ) → w ≢ v → high_of (put_of b v low high) w ≡ high_of b w
+high_other b v low high w ne = ap (λ (p : ℤ × ℤ). p.1) (get_or-set_other b v w (low, high) (pos 0, pos 0) ne)
+
+-- a pair that is set twice
+put_again : (b : Bounds) (v : ℕ) (l h x y : ℤ) → put_of (put_of b v l h) v x y ≡ put_of b v x y
+put_again [] v l h x y = refl
+put_again (p ∷ b) zero l h x y = refl
+put_again (p ∷ b) (suc v) l h x y = ap (λ (c : Bounds). p ∷ c) (put_again b v l h x y)
 
 -- a box whose pair is set to what it is
 pub put_same : (b : Bounds) (v : ℕ) (low high : ℤ) → low ≡ low_of b v → high ≡ high_of b v → put_of b v low high ≡ b
@@ -79,14 +91,17 @@ inside_both ((x, y) ∷ a) ((z, w) ∷ b) i j =
 pub low_kept : (b a : Bounds) (v : ℕ) (x : ℤ) → v < length b → a ≡ put_of b v (low_of b v) x → low_of a v ≡ low_of b v
 low_kept b a v x h e = ap (λ (c : Bounds). low_of c v) e ∙ low_put b v (low_of b v) x h
 
--- the bounds of one variable of an inner box
-pub inside_at : (floor : Option Bounds) (b : Bounds) (v : ℕ) → v < length b → IfSome floor (λ f. IsInside f b) →
-    IfSome floor (λ f. (low_of b v ≤ℤ low_of f v) × (high_of f v ≤ℤ high_of b v))
-inside_at None b v h i = tt
-inside_at (Some f) b v h i = (i.lows v h, i.highs v h)
-
 pub put_is : (b : Bounds) (v : ℕ) (l h x y : ℤ) → l ≡ x → h ≡ y → put_of b v l h ≡ put_of b v x y
 put_is b v l h x y e f = ap (λ z. put_of b v z h) e ∙ ap (λ z. put_of b v x z) f
+
+-- both bounds of a variable were set, one after the other
+pub looked : (a b c : Bounds) (v : ℕ) (l h : ℤ) → v < length a → b ≡ put_of a v l (high_of a v) → c ≡ put_of b v (low_of b v) h →
+    c ≡ put_of a v (low_of c v) (high_of c v)
+looked a b c v l h k e f =
+    let both : c ≡ put_of a v (low_of b v) h = f ∙ ap (λ (x : Bounds). put_of x v (low_of b v) h) e ∙ put_again a v l (high_of a v) (low_of b v) h in
+    both ∙ put_is a v (low_of b v) h (low_of c v) (high_of c v)
+    (sym (ap (λ (x : Bounds). low_of x v) both ∙ low_put a v (low_of b v) h k))
+    (sym (ap (λ (x : Bounds). high_of x v) both ∙ high_put a v (low_of b v) h k))
 
 inside_cons : (p q : ℤ × ℤ) (a b : Bounds) → q.0 ≤ℤ p.0 → p.1 ≤ℤ q.1 → IsInside a b → IsInside (p ∷ a) (q ∷ b)
 inside_cons p q a b l h i = record { same_length = ap suc i.same_length; lows = lows; highs = highs }

@@ -7,8 +7,8 @@ use Rattle.std.proofs.lemmas.Grind.{get_or-set_at}
 use Rattle.std.proofs.lemmas.Bool.{cases_eq}
 use borrow.Author.Count.{below_more}
 use Rattle.lattice_store.specs.declared.seat.Seat.{Seat}
-use Rattle.rounds.specs.declared.cache.Cache.{Cache}
-use Rattle.rounds.specs.declared.lane.Lane.{Lane}
+use Rattle.rounds.specs.declared.lanes.Cache.{Cache}
+use Rattle.rounds.specs.declared.lanes.Lane.{Lane}
 use Rattle.rounds.specs.Lanes.{HasSeat, AreLanes, SameCaches}
 
 pub same_caches : (a : List Lane) → SameCaches a a

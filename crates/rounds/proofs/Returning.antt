@@ -6,7 +6,7 @@ use Rattle.interval.specs.Boxes.{Bounds, IsInside}
 use Rattle.lattice_store.specs.declared.seat.Seat.{Seat}
 use Rattle.lattice_store.specs.declared.store.Store.{Store}
 use Rattle.lattice_store.specs.Seats.{seen_of, tighter_of, IsPast, IsSameSeat}
-use Rattle.rounds.specs.declared.lane.Lane.{Lane}
+use Rattle.rounds.specs.declared.lanes.Lane.{Lane}
 use Rattle.rounds.specs.Lanes.{HasSeat, IsLaneSeat, IsBackIn, AreJoined}
 use Rattle.rounds.proofs.BoxLaws.{inside_itself, inside_through, tighter_left, tighter_right, tighter_same}
 use Rattle.rounds.proofs.Keeping.{has_map, has_both, has_out}

@@ -4,7 +4,6 @@ use Rattle.std.specs.Prelude.{Option, None, Some, IfSome, Vec}
 use Rattle.std.specs.declared.alloc.Global.{Global}
 use Rattle.std.specs.List.{All}
 use Rattle.std.specs.Bool.{OnTrue, OnFalse}
-use Rattle.std.proofs.lemmas.Bool.{true≢false}
 use Rattle.std.proofs.lemmas.List.{get_or_default, get_or-map}
 use Rattle.interval.specs.Boxes.{Bounds, IsInside}
 use Rattle.guarded_tell.specs.declared.kernel.Kernel.{Kernel}
@@ -12,12 +11,13 @@ use Rattle.guarded_tell.specs.Kernels.{IsKernel, IsClosedUnder}
 use Rattle.lattice_store.specs.declared.seat.Seat.{Seat}
 use Rattle.lattice_store.specs.declared.store.Store.{Store}
 use Rattle.lattice_store.specs.Seats.{seen_of, floor_of, IsPast}
-use Rattle.rounds.specs.declared.lane.Lane.{Lane}
-use Rattle.rounds.specs.Shares.{AllNamed, IsQuiet, IsCut, share_at}
+use Rattle.rounds.specs.declared.lanes.Lane.{Lane}
+use Rattle.rounds.specs.Shares.{AllNamed, WasHeard, IsCut, share_at}
 use Rattle.rounds.specs.Lanes.{HasSeat, MayRun, CanRun, RanShare, Ran, IsLaneSeat, IsBackIn, AreJoined}
 use Rattle.rounds.specs.Ends.{IsRound}
 use Rattle.rounds.proofs.BoxLaws.{inside_both}
 use Rattle.rounds.proofs.Keeping.{has_map, has_both, has_out}
+use Rattle.rounds.proofs.Quietness.{TellPlace, heard_later}
 use Rattle.rounds.proofs.TellingAll.{seat_of_same}
 
 -- what holds of all kernels, holds of those that a share names
@@ -29,11 +29,11 @@ pub floor_named : (floor : Option Bounds) (share : List ℕ) (kernels : List Ker
 floor_named None share kernels all = tt
 floor_named (Some f) share kernels all = named_of_all (λ k. IsClosedUnder k f) share kernels all
 
--- where each share of a cut is quiet, all kernels are
-pub all_quiet : (b : Bounds) (kernels : List Kernel) (cut : List (Vec ℕ Global)) → IsCut (length kernels) cut →
-    ((i : ℕ) → i < length cut → AllNamed (IsQuiet b) (share_at cut i) kernels) → All (IsQuiet b) kernels
-all_quiet b kernels cut c quiet j d h =
-    let w = c.covers j h in quiet w.0 w.1 j (get_or kernels j d) w.2 h (get_or_default kernels j (get_or kernels j d) d h)
+-- what holds of the kernels of each share of a cut, holds of all kernels
+all_of_shares : (fact : Kernel → Type 0) (kernels : List Kernel) (cut : List (Vec ℕ Global)) → IsCut (length kernels) cut →
+    ((i : ℕ) → i < length cut → AllNamed fact (share_at cut i) kernels) → All fact kernels
+all_of_shares fact kernels cut c each j d h =
+    let w = c.covers j h in each w.0 w.1 j (get_or kernels j d) w.2 h (get_or_default kernels j (get_or kernels j d) d h)
 
 module _ (store : Store) (first : Seat) (kernels : List Kernel) (cut : List (Vec ℕ Global)) (is_cut : IsCut (length kernels) cut) where
   -- a lane that was given its seat may run its share
@@ -54,7 +54,7 @@ module _ (store : Store) (first : Seat) (kernels : List Kernel) (cut : List (Vec
     pub inside : IsInside (seen_of s) (seen_of first)
     pub still : mark ≡ false → seen_of s ≡ seen_of first
     pub moves : mark ≡ true → seen_of s ≢ seen_of first
-    pub quiet : mark ≡ false → (¬ IsPast s) → AllNamed (IsQuiet (seen_of first)) (share_at cut i) kernels
+    pub heard : (¬ IsPast s) → AllNamed (WasHeard (seen_of first) (seen_of s)) (share_at cut i) kernels
 
   ended_seat : (i : ℕ) (s t : Seat) (m : Bool) → IsLaneSeat store first s → RanShare kernels (share_at cut i) s t m → Ended i m t
   ended_seat i s t m p r = record {
@@ -67,7 +67,7 @@ module _ (store : Store) (first : Seat) (kernels : List Kernel) (cut : List (Vec
     inside = subst (λ (b : Bounds). IsInside (seen_of t) b) p.seen r.inside;
     still = λ f. r.still f ∙ p.seen;
     moves = λ f e. r.moves f (e ∙ sym p.seen);
-    quiet = λ f np. subst (λ (b : Bounds). AllNamed (IsQuiet b) (share_at cut i) kernels) (r.still f ∙ p.seen) (r.quiet f np);
+    heard = λ np. subst (λ (b : Bounds). AllNamed (WasHeard b (seen_of t)) (share_at cut i) kernels) p.seen (r.heard np);
   }
 
   -- a lane that was given its seat and has run its share
@@ -87,11 +87,13 @@ module _ (store : Store) (first : Seat) (kernels : List Kernel) (cut : List (Vec
     round_still : m ≡ false → seen ≡ seen_of first
     round_still f = joined.same (λ i d h. has_map (get_or lanes i d).seat (Ended i (get_or lanes i d).moved) (λ s. seen_of s ≡ seen_of first) (λ s e. e.still (joined.still f i d h)) (ends i d h))
 
-    round_quiet : m ≡ false → All (IsQuiet (seen_of first)) kernels
-    round_quiet f = all_quiet (seen_of first) kernels cut is_cut
-        (λ i h. has_out (get_or lanes i some).seat (λ s. AllNamed (IsQuiet (seen_of first)) (share_at cut i) kernels) (AllNamed (IsQuiet (seen_of first)) (share_at cut i) kernels) (λ s p. p)
-        (has_both (get_or lanes i some).seat (Ended i (get_or lanes i some).moved) (λ s. IsInside seen (seen_of s) × (¬ IsPast s)) (λ s. AllNamed (IsQuiet (seen_of first)) (share_at cut i) kernels)
-        (λ s e p. e.quiet (joined.still f i some h) p.1) (ends i some h) (joined.inside_each i some h)))
+    -- each lane's kernels were heard on the way to what it has seen, so on the way to what all have seen
+    round_heard : TellPlace → All (IsKernel (length (seen_of first))) kernels → All (WasHeard (seen_of first) seen) kernels
+    round_heard place all = all_of_shares (WasHeard (seen_of first) seen) kernels cut is_cut
+        (λ i h. has_out (get_or lanes i some).seat (λ s. AllNamed (WasHeard (seen_of first) seen) (share_at cut i) kernels) (AllNamed (WasHeard (seen_of first) seen) (share_at cut i) kernels) (λ s p. p)
+        (has_both (get_or lanes i some).seat (Ended i (get_or lanes i some).moved) (λ s. IsInside seen (seen_of s) × (¬ IsPast s)) (λ s. AllNamed (WasHeard (seen_of first) seen) (share_at cut i) kernels)
+        (λ s e p j k c lt q. heard_later place k (seen_of first) (seen_of s) seen (subst (IsKernel (length (seen_of first))) q (all j k lt)) e.inside p.0 (e.heard p.1 j k c lt q))
+        (ends i some h) (joined.inside_each i some h)))
 
     round_moves : m ≡ true → seen ≢ seen_of first
     round_moves f e = let w = joined.moves f in
@@ -100,14 +102,14 @@ module _ (store : Store) (first : Seat) (kernels : List Kernel) (cut : List (Vec
         (λ s q p. q.moves (w.2 some) (inside_both (seen_of s) (seen_of first) q.inside (subst (λ (b : Bounds). IsInside b (seen_of s)) e p.0)))
         (ends w.0 some w.1) (joined.inside_each w.0 some w.1))
 
-    round_of : IsRound kernels (seen_of first) seen m
-    round_of = record { inside = joined.inside; still = round_still; quiet = round_quiet; moves = round_moves }
+    round_of : TellPlace → All (IsKernel (length (seen_of first))) kernels → IsRound kernels (seen_of first) seen m
+    round_of place all = record { inside = joined.inside; still = round_still; moves = round_moves; heard = round_heard place all }
 
-  pub round_joined : (lanes : List Lane) (seen : Bounds) (m : Bool) → length lanes ≡ length cut →
+  pub round_joined : TellPlace → All (IsKernel (length (seen_of first))) kernels → (lanes : List Lane) (seen : Bounds) (m : Bool) → length lanes ≡ length cut →
       ((i : ℕ) (d : Lane) → i < length cut → HasSeat (get_or lanes i d).seat (Ended i (get_or lanes i d).moved)) →
       AreJoined (seen_of first) lanes (length cut) seen m → IsRound kernels (seen_of first) seen m
-  round_joined [] seen m e ends joined = let one = is_cut.some in absurd (omega arith)
-  round_joined (l ∷ ls) seen m e ends joined = round_of (l ∷ ls) seen m ends joined l
+  round_joined place all [] seen m e ends joined = let one = is_cut.some in absurd (omega arith)
+  round_joined place all (l ∷ ls) seen m e ends joined = round_of (l ∷ ls) seen m ends joined l place all
 
 -- the share of a number is what the code reads there
 pub share_is : (cut : List (Vec ℕ Global)) (i : ℕ) (v : Vec ℕ Global) (xs : List ℕ) → i < length cut → v ≡ get_or cut i v → xs ≡ v.items → share_at cut i ≡ xs
@@ -116,12 +118,11 @@ share_is cut i v xs h e f = get_or-map (λ (s : Vec ℕ Global). s.items) cut i 
 -- a cut of one share
 pub alone : (kernels : List Kernel) (cut : List (Vec ℕ Global)) (before after : Seat) (m : Bool) → IsCut (length kernels) cut → length cut ≡ 1 →
     IsInside (seen_of after) (seen_of before) → OnFalse m (seen_of after ≡ seen_of before) → OnTrue m (seen_of after ≢ seen_of before) →
-    OnFalse m ((¬ IsPast after) → AllNamed (IsQuiet (seen_of after)) (share_at cut 0) kernels) → (¬ IsPast after) → IsRound kernels (seen_of before) (seen_of after) m
-alone kernels cut before after true c one inside still moved quiet np = record { inside = inside; still = λ f. absurd (true≢false f); quiet = λ f. absurd (true≢false f); moves = λ f. moved }
-alone kernels cut before after false c one inside still moved quiet np = record {
+    ((¬ IsPast after) → AllNamed (WasHeard (seen_of before) (seen_of after)) (share_at cut 0) kernels) → (¬ IsPast after) → IsRound kernels (seen_of before) (seen_of after) m
+alone kernels cut before after m c one inside still moved heard np = record {
   inside = inside;
-  still = λ f. still;
-  quiet = λ f. all_quiet (seen_of before) kernels cut c (λ i h. let z : i ≡ 0 = omega arith in
-      subst (λ (n : ℕ). AllNamed (IsQuiet (seen_of before)) (share_at cut n) kernels) (sym z) (subst (λ (b : Bounds). AllNamed (IsQuiet b) (share_at cut 0) kernels) still (quiet np)));
-  moves = λ f. absurd (true≢false (sym f));
+  still = λ f. subst (λ x. OnFalse x (seen_of after ≡ seen_of before)) f still;
+  moves = λ f. subst (λ x. OnTrue x (seen_of after ≢ seen_of before)) f moved;
+  heard = all_of_shares (WasHeard (seen_of before) (seen_of after)) kernels cut c (λ i h. let z : i ≡ 0 = omega arith in
+      subst (λ (n : ℕ). AllNamed (WasHeard (seen_of before) (seen_of after)) (share_at cut n) kernels) (sym z) (heard np));
 }

@@ -79,6 +79,14 @@ keeps_side_high s b v z e h = subst (λ (x : Side). KeepsSide b x v z) (sym e) h
 pub keeps_high : (b : Bounds) (t : Tell) → t.side ≡ High → high_of b t.var ≤ℤ t.bound → Keeps b t
 keeps_high b t e h = keeps_side_high t.side b t.var t.bound e h
 
+keeps_side_inside : (s : Side) (b c : Bounds) (v : ℕ) (z : ℤ) → IsInside c b → v < length b → KeepsSide b s v z → KeepsSide c s v z
+keeps_side_inside Low b c v z i h k = omega (arith, ints, i.lows v h, k)
+keeps_side_inside High b c v z i h k = omega (arith, ints, i.highs v h, k)
+
+-- a tell that leaves a box as it is, leaves each box inside it as it is
+pub keeps_inside : (b c : Bounds) (t : Tell) → IsInside c b → t.var < length b → Keeps b t → Keeps c t
+keeps_inside b c t i h k = keeps_side_inside t.side b c t.var t.bound i h k
+
 -- where the mark began unset, it says by itself whether what was seen moved
 pub unmoved : (b a : Seat) (m : Bool) → Stepped b false a m → OnFalse m (seen_of a ≡ seen_of b)
 unmoved b a m s = OnFalse_from m (seen_of a ≡ seen_of b) (λ f. (s.still f).1)

@@ -1,5 +1,5 @@
 -- Hearers that tell a store.
-use Rattle.std.proofs.Common.{◌≡◌, ℕ, Bool, false, List, [], ◌∷◌, length, sym, ap, subst, ◌∙◌}
+use Rattle.std.proofs.Common.{◌≡◌, ◌<◌, ℕ, Bool, List, [], ◌∷◌, length, sym, ap, subst, ◌∙◌, arith}
 use Rattle.std.specs.Prelude.{Option}
 use Rattle.std.specs.List.{All}
 use Rattle.std.proofs.lemmas.List.Elements.{All-nil, All-cons, All-head, All-tail}
@@ -11,7 +11,7 @@ use Rattle.lattice_store.specs.declared.seat.Seat.{Seat}
 use Rattle.lattice_store.specs.declared.store.Store.{Store}
 use Rattle.lattice_store.specs.Seats.{seen_of, floor_of, IsPast, IsSeatOf, IsSameSeat}
 use Rattle.rounds.specs.Steps.{Stepped, MayTell, HasTold}
-use Rattle.rounds.proofs.Stepping.{stepped_none, stepped_more}
+use Rattle.rounds.proofs.Stepping.{stepped_none, stepped_more, keeps_inside}
 
 pub seat_of_same : (s t : Store) (b a : Seat) → IsSeatOf s b → IsSameSeat b a → t ≡ s → IsSeatOf t a
 seat_of_same s t b a h same e = same.store ∙ h ∙ ap (λ (z : Store). z.table.shared.table_id) (sym e)
@@ -40,15 +40,16 @@ module _ {H : Type 0} (store : H → Store) (seat : H → Seat) (mark : H → Bo
   steps h (t ∷ ts) g (mid, j, rest) =
       stepped_more (seat h) (seat mid) (seat g) (mark h) (mark mid) (mark g) (told h t mid j).stepped (steps mid ts g rest)
 
-  -- where nothing moved and the seat isn't past, it has seen each told bound all along
-  pub kept : (h : H) (ts : List Tell) (g : H) → HearsAll heard h ts g → mark g ≡ false → (¬ IsPast (seat g)) → All (Keeps (seen_of (seat g))) ts
-  kept h [] g e f np = All-nil (Keeps (seen_of (seat g)))
-  kept h (t ∷ ts) g (mid, j, rest) f np =
+  -- a seat that isn't past has seen each told bound
+  pub kept : (n : ℕ) (h : H) (ts : List Tell) (g : H) → HearsAll heard h ts g → length (seen_of (seat h)) ≡ n → All (λ t. t.var < n) ts →
+      (¬ IsPast (seat g)) → All (Keeps (seen_of (seat g))) ts
+  kept n h [] g e l a np = All-nil (Keeps (seen_of (seat g)))
+  kept n h (t ∷ ts) g (mid, j, rest) l a np =
+      let first = told h t mid j in
       let s : Stepped (seat mid) (mark mid) (seat g) (mark g) = steps mid ts g rest in
-      let p = s.still f in
       All-cons (Keeps (seen_of (seat g))) t ts
-      (subst (λ (b : Bounds). Keeps b t) (sym p.1) ((told h t mid j).kept (λ q. np (s.same.past q))))
-      (kept mid ts g rest f np)
+      (keeps_inside (seen_of (seat mid)) (seen_of (seat g)) t s.inside (omega (arith, first.stepped.inside.same_length, l, All-head (λ t. t.var < n) t ts a)) (first.kept (λ q. np (s.same.past q))))
+      (kept n mid ts g rest (first.stepped.inside.same_length ∙ l) (All-tail (λ t. t.var < n) t ts a) np)
 
 -- what each tell leaves, all tells leave
 pub same_name : {H N : Type 0} (name : H → N) (heard : H → Tell → H → Type 0) → ((h : H) (t : Tell) (g : H) → heard h t g → name g ≡ name h) →

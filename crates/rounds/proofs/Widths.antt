@@ -1,4 +1,4 @@
--- The widths of a box of bounds add up to a number of 64 bits.
+-- The widths of a box of bounds add up to far less than a number of 128 bits.
 use Rattle.std.proofs.Common.{ℕ, suc, ℤ, ◌+◌, ◌-ℤ◌, ◌*◌, ◌^◌, ◌<◌, ◌≤◌, [], ◌∷◌, length, arith}
 use Rattle.std.specs.Prelude.{unsigned_abs}
 use Rattle.std.proofs.lemmas.Int.{ints}
@@ -17,7 +17,7 @@ widths_at_most (p ∷ b) l h =
     let here : unsigned_abs (p.1 -ℤ p.0) ≤ bound_limit + bound_limit = width_at_most p.0 p.1 (l 0 (omega arith)) (h 0 (omega arith)) in
     omega arith
 
-pub widths_fit : (b : Bounds) → IsInRange b → width_sum_of b < 2 ^ 60
+pub widths_fit : (b : Bounds) → IsInRange b → width_sum_of b < 2 ^ 100
 unfolding bound_limit largest_number box_limit
 widths_fit b r =
     let w = widths_at_most b r.lows r.highs in

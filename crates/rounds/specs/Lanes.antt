@@ -7,8 +7,8 @@ use Rattle.guarded_tell.specs.Kernels.{IsKernel, IsClosedUnder}
 use Rattle.lattice_store.specs.declared.seat.Seat.{Seat}
 use Rattle.lattice_store.specs.declared.store.Store.{Store}
 use Rattle.lattice_store.specs.Seats.{seen_of, floor_of, seat_epoch, IsFirst, IsPast, IsSeatOf, IsSameSeat}
-use Rattle.rounds.specs.declared.lane.Lane.{Lane}
-use Rattle.rounds.specs.Shares.{IsShare, AllNamed, IsQuiet}
+use Rattle.rounds.specs.declared.lanes.Lane.{Lane}
+use Rattle.rounds.specs.Shares.{IsShare, AllNamed, WasHeard}
 
 -- there is a seat, and the fact holds of it
 abbrev pub HasSeat : Option Seat → (Seat → Type 0) → Type 0
@@ -18,6 +18,10 @@ HasSeat (Some s) fact = fact s
 -- the copies that the lanes make are of boxes of this length
 abbrev pub AreLanes : ℕ → List Lane → Type 0
 AreLanes count lanes = All (λ l. length l.cache.snapshot ≡ count) lanes
+
+-- no lane has passed a gate yet
+abbrev pub HaveMadeNoPass : List Lane → Type 0
+HaveMadeNoPass lanes = All (λ l. l.cache.turn ≡ 0) lanes
 
 -- a seat may run this share on the store
 pub record MayRun (store : Store) (kernels : List Kernel) (share : List ℕ) (count : ℕ) (s : Seat) : Type 0 where
@@ -36,7 +40,7 @@ pub record RanShare (kernels : List Kernel) (share : List ℕ) (before after : S
   pub inside : IsInside (seen_of after) (seen_of before)
   pub still : mark ≡ false → seen_of after ≡ seen_of before
   pub moves : mark ≡ true → seen_of after ≢ seen_of before
-  pub quiet : mark ≡ false → (¬ IsPast after) → AllNamed (IsQuiet (seen_of after)) share kernels
+  pub heard : (¬ IsPast after) → AllNamed (WasHeard (seen_of before) (seen_of after)) share kernels
 
 -- a lane has run its share
 pub record Ran (kernels : List Kernel) (share : List ℕ) (before after : Lane) : Type 0 where

@@ -6,6 +6,7 @@ use Rattle.interval.specs.Boxes.{Bounds}
 use Rattle.guarded_tell.specs.declared.kernel.Kernel.{Kernel}
 use Rattle.guarded_tell.specs.Words.{Keeps, IsProperIn}
 use Rattle.guarded_tell.specs.Kernels.{vars_of, tells}
+use Rattle.fixpoint_laws.specs.OneRound.{IsHeardBetween}
 
 -- a share lists kernels by their numbers: it names no other number
 abbrev pub IsShare : ℕ → List ℕ → Type 0
@@ -19,6 +20,10 @@ AllNamed fact share kernels = (j : ℕ) (k : Kernel) → Contains share j → j 
 -- no tell of the kernel narrows the box, or some variable of the kernel has no number left there
 abbrev pub IsQuiet : Bounds → Kernel → Type 0
 IsQuiet b k = IsProperIn (vars_of k) b → All (Keeps b) (tells k b)
+
+-- the kernel was heard on the way from b to c, or some variable of the kernel has no number left in c
+abbrev pub WasHeard : Bounds → Bounds → Kernel → Type 0
+WasHeard b c k = IsProperIn (vars_of k) c → IsHeardBetween k b c
 
 -- the share of this number, or no kernel
 abbrev pub share_at : List (Vec ℕ Global) → ℕ → List ℕ

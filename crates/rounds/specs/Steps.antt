@@ -3,7 +3,7 @@ use Rattle.std.specs.Prelude.{ℕ, ◌≡◌, ◌≢◌, ◌<◌, List, Bool, tr
 use Rattle.interval.specs.Limits.{IsBound}
 use Rattle.interval.specs.Boxes.{Bounds, IsInside}
 use Rattle.guarded_tell.specs.declared.tell.Tell.{Tell}
-use Rattle.guarded_tell.specs.Words.{Keeps, IsProperIn, IsInsideIn, AgreeIn}
+use Rattle.guarded_tell.specs.Words.{Keeps, IsProperIn, AgreeIn}
 use Rattle.lattice_store.specs.declared.seat.Seat.{Seat}
 use Rattle.lattice_store.specs.Seats.{seen_of, IsPast, IsSameSeat}
 
@@ -15,11 +15,10 @@ pub record Stepped (before : Seat) (mark_before : Bool) (after : Seat) (mark : B
   pub still : mark ≡ false → (mark_before ≡ false) × (seen_of after ≡ seen_of before)
   pub moves : mark ≡ true → (mark_before ≡ true) ⊎ (seen_of after ≢ seen_of before)
 
--- a copy of the bounds of these variables, each loaded at a moment of its own
-pub record IsSnapshot (vars : List ℕ) (floor : Option Bounds) (seen : Bounds) (mark : Bool) (b : Bounds) : Type 0 where
+-- a copy of the bounds of these variables as the seat has seen them, each loaded at a moment of its own
+pub record IsSnapshot (vars : List ℕ) (seen b : Bounds) : Type 0 where
   pub proper : IsProperIn vars b
-  pub held : IfSome floor (λ f. IsInsideIn vars f b)
-  pub agree : mark ≡ false → AgreeIn vars b seen
+  pub agree : AgreeIn vars b seen
 
 -- a tell that a seat of this floor may make in a box of so many variables
 pub record MayTell (count : ℕ) (floor : Option Bounds) (t : Tell) : Type 0 where

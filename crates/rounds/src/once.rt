@@ -8,7 +8,7 @@ ghost use Rattle.rounds.specs.Propagations.{HasPropagated};
 
 use crate::engine::Engine;
 use crate::gate::Gate;
-use fixpoint_laws::Settled;
+use fixpoint_laws::Limited;
 use guarded_tell::Kernel;
 use interval::{BoxOf, NoMemory};
 use std::alloc::Global;
@@ -22,12 +22,12 @@ pub enum Propagated {
         /// The box.
         box_of: BoxOf,
         /// The rounds.
-        rounds: u64,
+        rounds: u128,
     },
     /// No closed box is inside the start.
     Failed {
         /// The rounds.
-        rounds: u64,
+        rounds: u128,
     },
 }
 
@@ -46,11 +46,12 @@ pub fn propagate<R: Threads + Sync, G: Gate + Sync>(
 {
     let mut engine = Engine::new(alloc, start.len(), cut.len() as u32)?;
     let mut into = start.copy(alloc)?;
-    match engine.propagate(rt, alloc, start, kernels, cut, gate, &mut into)? {
-        Settled::Fixed { rounds } => Ok(Propagated::Fixed {
+    match engine.propagate(rt, alloc, start, kernels, cut, 0, gate, &mut into)? {
+        Limited::Fixed { rounds } => Ok(Propagated::Fixed {
             box_of: into,
             rounds,
         }),
-        Settled::Failed { rounds } => Ok(Propagated::Failed { rounds }),
+        Limited::Failed { rounds } => Ok(Propagated::Failed { rounds }),
+        Limited::RoundsSpent { .. } => unreachable!(),
     }
 }

@@ -1,24 +1,110 @@
-//! Rounds until one moves nothing.
+//! Rounds, until one moves nothing.
 
-ghost use Rattle.std.specs.Prelude.{◌≡◌, ◌<◌, ◌≤◌, length, IfOk, IsTrue, IsFalse, ◌↔◌};
+ghost use Rattle.std.specs.Prelude.{◌≡◌, ◌≢◌, ◌<◌, ◌≤◌, length, IfOk, IsOk, IfSome, IsTrue, IsFalse, ◌↔◌};
 ghost use Rattle.std.specs.List.{All};
 ghost use Rattle.interval.specs.Boxes.{IsCrossed, IsProper, IsInRange};
-ghost use Rattle.guarded_tell.specs.Kernels.{IsKernel};
+ghost use Rattle.guarded_tell.specs.Kernels.{IsKernel, IsClosedUnder};
 ghost use Rattle.fixpoint_laws.specs.Greatest.{greatest_of};
 ghost use Rattle.lattice_store.specs.Seats.{seen_of, floor_of, IsFirst, IsSeatOf, IsSameSeat};
 ghost use Rattle.rounds.specs.Shares.{IsCut};
 ghost use Rattle.rounds.specs.Lanes.{AreLanes};
-ghost use Rattle.rounds.specs.Ends.{HasSettled};
+ghost use Rattle.rounds.specs.Ends.{IsRound, HasEnded};
 
 use crate::gate::Gate;
-use crate::lane::Lane;
-use crate::round::run_round;
-use fixpoint_laws::{Settled, law_greatest_is_computed};
-use guarded_tell::Kernel;
+use crate::lanes::{Lane, run_lanes, seat_lanes, unseat_lanes};
+use crate::share::run_share;
+use fixpoint_laws::{Limited, law_greatest_is_computed, law_rounds_lead};
+use guarded_tell::{Kernel, law_tell_place};
 use interval::{BoxOf, NoMemory, law_inside_order};
 use lattice_store::{Seat, Store};
 use std::alloc::Global;
 use std::thread::Threads;
+
+// A round of the one lane of a cut of one share. The first seat runs it.
+fn run_alone<G: Gate>(
+    store: &Store,
+    first: &mut Seat,
+    lane: &mut Lane,
+    kernels: &[Kernel],
+    cut: &[Vec<u32>],
+    gate: &G,
+) -> bool
+    requires store { IsSeatOf store.now first.old }
+    requires first { IsFirst first.old }
+    requires kernels { All (IsKernel (length (seen_of first.old))) kernels.now }
+    requires cut { IsCut (length kernels.now) cut.now }
+    requires one { length cut.now ≡ 1 }
+    requires snapshot { length lane.old.cache.snapshot ≡ length (seen_of first.old) }
+    requires floor { IfSome (floor_of first.old) (λ f. All (λ k. IsClosedUnder k f) kernels.now) }
+    ensures same { IsSameSeat first.old first.new }
+    ensures snapshot { length lane.new.cache.snapshot ≡ length (seen_of first.old) }
+    ensures round { IsRound kernels.now (seen_of first.old) (seen_of first.new) result }
+{
+    let moved = run_share(store, first, &mut lane.cache, kernels, &cut[0], gate);
+    first.law_floor();
+    moved
+}
+
+// A round of all lanes, each in a thread.
+fn run_together<R: Threads + Sync, G: Gate + Sync>(
+    rt: &R,
+    alloc: Global,
+    store: &Store,
+    first: &mut Seat,
+    lanes: &mut [Lane],
+    kernels: &[Kernel],
+    cut: &[Vec<u32>],
+    gate: &G,
+) -> Result<bool, NoMemory>
+    requires store { IsSeatOf store.now first.old }
+    requires first { IsFirst first.old }
+    requires kernels { All (IsKernel (length (seen_of first.old))) kernels.now }
+    requires cut { IsCut (length kernels.now) cut.now }
+    requires count { length cut.now ≡ length lanes.old }
+    requires snapshots { AreLanes (length (seen_of first.old)) lanes.old }
+    requires floor { IfSome (floor_of first.old) (λ f. All (λ k. IsClosedUnder k f) kernels.now) }
+    ensures same { IsSameSeat first.old first.new }
+    ensures length { length (seen_of first.new) ≡ length (seen_of first.old) }
+    ensures snapshots { AreLanes (length (seen_of first.old)) lanes.new }
+    ensures round { IfOk result (λ m. IsRound kernels.now (seen_of first.old) (seen_of first.new) m) }
+{
+    law_tell_place();
+    seat_lanes(alloc, store, first, lanes)?;
+    run_lanes(rt, store, kernels, cut, gate, lanes);
+    Ok(unseat_lanes(store, first, lanes))
+}
+
+// One round: each lane starts with all that all lanes had seen, and runs its share once. Says whether some lane saw a
+// bound move. With one lane it takes no memory and starts no thread.
+fn run_round<R: Threads + Sync, G: Gate + Sync>(
+    rt: &R,
+    alloc: Global,
+    store: &Store,
+    first: &mut Seat,
+    lanes: &mut [Lane],
+    kernels: &[Kernel],
+    cut: &[Vec<u32>],
+    gate: &G,
+) -> Result<bool, NoMemory>
+    requires store { IsSeatOf store.now first.old }
+    requires first { IsFirst first.old }
+    requires kernels { All (IsKernel (length (seen_of first.old))) kernels.now }
+    requires cut { IsCut (length kernels.now) cut.now }
+    requires count { length cut.now ≡ length lanes.old }
+    requires snapshots { AreLanes (length (seen_of first.old)) lanes.old }
+    requires floor { IfSome (floor_of first.old) (λ f. All (λ k. IsClosedUnder k f) kernels.now) }
+    ensures same { IsSameSeat first.old first.new }
+    ensures length { length (seen_of first.new) ≡ length (seen_of first.old) }
+    ensures snapshots { AreLanes (length (seen_of first.old)) lanes.new }
+    ensures memory { length cut.now ≡ 1 → IsOk result }
+    ensures round { IfOk result (λ m. IsRound kernels.now (seen_of first.old) (seen_of first.new) m) }
+{
+    if lanes.len() == 1 {
+        Ok(run_alone(store, first, &mut lanes[0], kernels, cut, gate))
+    } else {
+        run_together(rt, alloc, store, first, lanes, kernels, cut, gate)
+    }
+}
 
 // Whether for some variable the seat has seen that no number is left.
 fn is_seen_crossed(seat: &Seat, len: u32) -> bool
@@ -44,8 +130,15 @@ pub(crate) fn copy_seen(seat: &Seat, into: &mut BoxOf)
     }
 }
 
-/// Runs rounds from a proper start, which the first seat has seen, until one moves nothing or some variable has no
-/// number left.
+// Whether so many rounds are all that the limit allows.
+fn is_spent(rounds: u128, round_limit: u64) -> bool
+    ensures { IsTrue result ↔ ((round_limit ≢ 0) × (rounds ≡ round_limit)) }
+{
+    round_limit != 0 && rounds == u128::from(round_limit)
+}
+
+// Runs rounds from a proper start, which the first seat has seen, until one moves nothing, some variable has no number
+// left or the limit is spent. Limit 0 is none.
 fn settle<R: Threads + Sync, G: Gate + Sync>(
     rt: &R,
     alloc: Global,
@@ -55,8 +148,9 @@ fn settle<R: Threads + Sync, G: Gate + Sync>(
     start: &BoxOf,
     kernels: &[Kernel],
     cut: &[Vec<u32>],
+    round_limit: u64,
     gate: &G,
-) -> Result<Settled, NoMemory>
+) -> Result<Limited, NoMemory>
     requires store { IsSeatOf store.now first.old }
     requires first { IsFirst first.old }
     requires seen { seen_of first.old ≡ start.now }
@@ -69,26 +163,31 @@ fn settle<R: Threads + Sync, G: Gate + Sync>(
     ensures same { IsSameSeat first.old first.new }
     ensures length { length (seen_of first.new) ≡ length start.now }
     ensures snapshots { AreLanes (length start.now) lanes.new }
-    ensures settled { IfOk result (HasSettled kernels.now start.now (seen_of first.new)) }
+    ensures memory { length cut.now ≡ 1 → IsOk result }
+    ensures ended { IfOk result (HasEnded kernels.now start.now (seen_of first.new) round_limit) }
 {
     law_inside_order();
     law_greatest_is_computed();
+    law_rounds_lead();
     let len = start.len();
     let mut rounds = 0;
     'rounds: loop {
         rounds += 1;
         first.law_floor();
         if !run_round(rt, alloc, store, first, lanes, kernels, cut, gate)? {
-            return Ok(Settled::Fixed { rounds });
+            return Ok(Limited::Fixed { rounds });
         }
         first.law_floor();
         if is_seen_crossed(first, len) {
-            return Ok(Settled::Failed { rounds });
+            return Ok(Limited::Failed { rounds });
+        }
+        if is_spent(rounds, round_limit) {
+            return Ok(Limited::RoundsSpent { rounds });
         }
     }
 }
 
-/// Settles with as many of the lanes as the cut has shares.
+/// Settles with as many of the lanes as the cut has shares, within so many rounds. Limit 0 is none.
 pub(crate) fn settle_first<R: Threads + Sync, G: Gate + Sync>(
     rt: &R,
     alloc: Global,
@@ -98,8 +197,9 @@ pub(crate) fn settle_first<R: Threads + Sync, G: Gate + Sync>(
     start: &BoxOf,
     kernels: &[Kernel],
     cut: &[Vec<u32>],
+    round_limit: u64,
     gate: &G,
-) -> Result<Settled, NoMemory>
+) -> Result<Limited, NoMemory>
     requires store { IsSeatOf store.now first.old }
     requires first { IsFirst first.old }
     requires seen { seen_of first.old ≡ start.now }
@@ -113,8 +213,20 @@ pub(crate) fn settle_first<R: Threads + Sync, G: Gate + Sync>(
     ensures length { length (seen_of first.new) ≡ length start.now }
     ensures count { length lanes.new.items ≡ length lanes.old.items }
     ensures snapshots { AreLanes (length start.now) lanes.new.items }
-    ensures settled { IfOk result (HasSettled kernels.now start.now (seen_of first.new)) }
+    ensures memory { length cut.now ≡ 1 → IsOk result }
+    ensures ended { IfOk result (HasEnded kernels.now start.now (seen_of first.new) round_limit) }
 {
     let (used, _) = lanes.as_mut_slice().split_at_mut(cut.len());
-    settle(rt, alloc, store, first, used, start, kernels, cut, gate)
+    settle(
+        rt,
+        alloc,
+        store,
+        first,
+        used,
+        start,
+        kernels,
+        cut,
+        round_limit,
+        gate,
+    )
 }

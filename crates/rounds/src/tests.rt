@@ -6,8 +6,7 @@ ghost use Rattle.guarded_tell.specs.Kernels.{IsKernel};
 ghost use Rattle.rounds.specs.Shares.{IsCut};
 ghost use Rattle.rounds.specs.Small.{is_small, are_small, are_below_four, lows_are_small, highs_are_small};
 
-use crate::{Engine, Gate, NoGate, Propagated, even_cut, propagate};
-use fixpoint_laws::Settled;
+use crate::{Engine, Gate, Limited, NoGate, Propagated, even_cut, propagate};
 use guarded_tell::{Kernel, Lit};
 use interval::{BoxOf, NoMemory};
 use list_of::ListOf;
@@ -66,31 +65,37 @@ fn four(alloc: Global, pairs: &[(i64, i64)]) -> Result<BoxOf, NoMemory>
     BoxOf::from_pairs(alloc, pairs)
 }
 
-/// What propagation gives: the bounds of the last three variables or none, and the rounds.
+/// The bounds of all four variables.
+fn bounds_of(b: &BoxOf) -> [i64; 8]
+    requires { length b.now ≡ 4 }
+{
+    let (one, x, y, z) = (0, 1, 2, 3);
+    [
+        b.low(one),
+        b.high(one),
+        b.low(x),
+        b.high(x),
+        b.low(y),
+        b.high(y),
+        b.low(z),
+        b.high(z),
+    ]
+}
+
+/// What propagation gives: the bounds of all variables or none, and the rounds.
 fn outcome<R: Threads + Sync>(
     rt: &R,
     alloc: Global,
     start: &BoxOf,
     kernels: &[Kernel],
     cut: &[Vec<u32>],
-) -> Result<(Option<[i64; 6]>, u64), NoMemory>
+) -> Result<(Option<[i64; 8]>, u128), NoMemory>
     requires start { length start.now ≡ 4 }
     requires kernels { All (IsKernel 4) kernels.now }
     requires cut { IsCut (length kernels.now) cut.now }
 {
     match propagate(rt, alloc, start, kernels, cut, &NoGate)? {
-        Propagated::Fixed { box_of, rounds } => {
-            let (x, y, z) = (1, 2, 3);
-            let bounds = [
-                box_of.low(x),
-                box_of.high(x),
-                box_of.low(y),
-                box_of.high(y),
-                box_of.low(z),
-                box_of.high(z),
-            ];
-            Ok((Some(bounds), rounds))
-        }
+        Propagated::Fixed { box_of, rounds } => Ok((Some(bounds_of(&box_of)), rounds)),
         Propagated::Failed { rounds } => Ok((None, rounds)),
     }
 }
@@ -111,7 +116,7 @@ fn every_cut_gives_the_one_box(rt: HostRuntime) -> Result<(), Fail> {
     let z_is_the_sum = equal(rt.alloc(), &[1, 2, -1], &[1, 2, 3], 0)?;
     let kernels = [at_most_seven, z_is_the_sum];
     let start = four(rt.alloc(), &[(1, 1), (0, 10), (0, 10), (0, 14)])?;
-    let found = Some([0, 7, 0, 7, 0, 14]);
+    let found = Some([1, 1, 0, 7, 0, 7, 0, 14]);
     let one = even_cut(rt.alloc(), &kernels, 1)?;
     let (bounds, rounds) = outcome(&rt, rt.alloc(), &start, &kernels, &one)?;
     assert_eq!(rt; bounds, found);
@@ -136,7 +141,7 @@ fn one_kernel_is_run_by_one_of_many_lanes(rt: HostRuntime) -> Result<(), Fail> {
     let start = four(rt.alloc(), &[(1, 1), (1, 3), (2, 2), (0, 0)])?;
     let many = even_cut(rt.alloc(), &raised, 64)?;
     let (bounds, _) = outcome(&rt, rt.alloc(), &start, &raised, &many)?;
-    assert_eq!(rt; bounds, Some([2, 3, 2, 2, 0, 0]));
+    assert_eq!(rt; bounds, Some([1, 1, 2, 3, 2, 2, 0, 0]));
     Ok(())
 }
 
@@ -156,12 +161,117 @@ fn two_differences_fail_in_every_cut(rt: HostRuntime) -> Result<(), Fail> {
     Ok(())
 }
 
-/// Lets lane 0's turn 0 end only after lane 1's turn 1 was called, and lane 1's turn 0 after lane 0's turn 0 was.
+#[test]
+#[tactic(auto, unfolding(crate::specs::Shares::share_limit))]
+fn an_engine_goes_on_after_the_last_epoch_of_its_store(rt: HostRuntime) -> Result<(), Fail> {
+    let x_below_y = [at_most(rt.alloc(), &[1, -1], &[1, 2], -1)?];
+    let wide = four(rt.alloc(), &[(1, 1), (0, 3), (0, 3), (0, 0)])?;
+    let failing = four(rt.alloc(), &[(1, 1), (2, 3), (0, 2), (0, 0)])?;
+    let cut = even_cut(rt.alloc(), &x_below_y, 1)?;
+    let mut engine = Engine::new(rt.alloc(), 4, 1)?;
+    let mut into = wide.copy(rt.alloc())?;
+    for _ in 0..16_400u32 {
+        let end = engine.propagate(
+            &rt,
+            rt.alloc(),
+            &wide,
+            &x_below_y,
+            &cut,
+            0,
+            &NoGate,
+            &mut into,
+        )?;
+        assert_eq!(rt; end, Limited::Fixed { rounds: 2 });
+        assert_eq!(rt; bounds_of(&into), [1, 1, 0, 2, 1, 3, 0, 0]);
+        let end = engine.propagate(
+            &rt,
+            rt.alloc(),
+            &failing,
+            &x_below_y,
+            &cut,
+            0,
+            &NoGate,
+            &mut into,
+        )?;
+        assert_eq!(rt; end, Limited::Failed { rounds: 1 });
+    }
+    Ok(())
+}
+
+/// How propagation of a program of two kernels by one lane ends within so many rounds, and in which bounds.
+#[tactic(auto, unfolding(crate::specs::Shares::share_limit, interval::specs::Limits::box_limit))]
+fn limited<R: Threads + Sync>(
+    rt: &R,
+    alloc: Global,
+    start: &BoxOf,
+    kernels: &[Kernel],
+    round_limit: u64,
+) -> Result<(Limited, [i64; 8]), NoMemory>
+    requires start { length start.now ≡ 4 }
+    requires kernels { All (IsKernel 4) kernels.now }
+    requires two { length kernels.now ≡ 2 }
+{
+    let cut = even_cut(alloc, kernels, 1)?;
+    let mut engine = Engine::new(alloc, 4, 1)?;
+    let mut into = start.copy(alloc)?;
+    let end = engine.propagate(
+        rt,
+        alloc,
+        start,
+        kernels,
+        &cut,
+        round_limit,
+        &NoGate,
+        &mut into,
+    )?;
+    Ok((end, bounds_of(&into)))
+}
+
+#[test]
+fn a_limit_stops_rounds_that_creep(rt: HostRuntime) -> Result<(), Fail> {
+    let x_below_y = at_most(rt.alloc(), &[1, -1], &[1, 2], -1)?;
+    let y_below_x = at_most(rt.alloc(), &[1, -1], &[2, 1], -1)?;
+    let creeping = [x_below_y, y_below_x];
+    let start = four(rt.alloc(), &[(1, 1), (0, 14), (0, 14), (0, 0)])?;
+    let (end, bounds) = limited(&rt, rt.alloc(), &start, &creeping, 1)?;
+    assert_eq!(rt; end, Limited::RoundsSpent { rounds: 1 });
+    assert_eq!(rt; bounds, [1, 1, 2, 13, 1, 12, 0, 0]);
+    let (end, bounds) = limited(&rt, rt.alloc(), &start, &creeping, 3)?;
+    assert_eq!(rt; end, Limited::RoundsSpent { rounds: 3 });
+    assert_eq!(rt; bounds, [1, 1, 6, 9, 5, 8, 0, 0]);
+    let (end, _) = limited(&rt, rt.alloc(), &start, &creeping, 4)?;
+    assert_eq!(rt; end, Limited::Failed { rounds: 4 });
+    let (end, _) = limited(&rt, rt.alloc(), &start, &creeping, 0)?;
+    assert_eq!(rt; end, Limited::Failed { rounds: 4 });
+    Ok(())
+}
+
+/// Lets lane 1's turn 0 end only after lane 0's turn 0 was called, and that one only after lane 1's turn 1 was called.
 #[derive(Drop)]
 struct Meet {
     first: AtomicBool,
     second: AtomicBool,
+    third: AtomicBool,
     gave_up: AtomicBool,
+}
+
+impl Meet {
+    fn new() -> Meet {
+        Meet {
+            first: AtomicBool::new(false),
+            second: AtomicBool::new(false),
+            third: AtomicBool::new(false),
+            gave_up: AtomicBool::new(false),
+        }
+    }
+
+    // Whether all three passes were called, and no wait gave up.
+    fn was_passed(&self) -> bool {
+        let first = self.first.load(Ordering::SeqCst);
+        let second = self.second.load(Ordering::SeqCst);
+        let third = self.third.load(Ordering::SeqCst);
+        first && second && third && !self.gave_up.load(Ordering::SeqCst)
+    }
 }
 
 // Waits for the other lane, for so many turns.
@@ -179,10 +289,13 @@ impl Gate for Meet {
         match (lane, turn) {
             (0, 0) => {
                 self.first.store(true, Ordering::SeqCst);
-                wait_for(&self.second, &self.gave_up);
+                wait_for(&self.third, &self.gave_up);
             }
-            (1, 0) => wait_for(&self.first, &self.gave_up),
-            (1, 1) => self.second.store(true, Ordering::SeqCst),
+            (1, 0) => {
+                self.second.store(true, Ordering::SeqCst);
+                wait_for(&self.first, &self.gave_up);
+            }
+            (1, 1) => self.third.store(true, Ordering::SeqCst),
             _ => {}
         }
     }
@@ -190,7 +303,30 @@ impl Gate for Meet {
 
 #[test]
 #[tactic(auto, unfolding(crate::specs::Shares::share_limit))]
-fn two_lanes_run_side_by_side(rt: HostRuntime) -> Result<(), Fail> {
+fn two_lanes_meet_in_one_propagation(rt: HostRuntime) -> Result<(), Fail> {
+    let kernels = [
+        at_most(rt.alloc(), &[1], &[1], 3)?,
+        at_most(rt.alloc(), &[1], &[2], 3)?,
+        at_most(rt.alloc(), &[1], &[1], 3)?,
+        at_most(rt.alloc(), &[1], &[2], 3)?,
+    ];
+    let start = four(rt.alloc(), &[(1, 1), (0, 3), (0, 3), (0, 0)])?;
+    let cut = even_cut(rt.alloc(), &kernels, 2)?;
+    let gate = Meet::new();
+    match propagate(&rt, rt.alloc(), &start, &kernels, &cut, &gate)? {
+        Propagated::Fixed { box_of, rounds } => {
+            assert_eq!(rt; rounds, 1);
+            assert_eq!(rt; bounds_of(&box_of), [1, 1, 0, 3, 0, 3, 0, 0]);
+        }
+        Propagated::Failed { .. } => assert!(rt; false, "the start is closed"),
+    }
+    assert!(rt; gate.was_passed());
+    Ok(())
+}
+
+#[test]
+#[tactic(auto, unfolding(crate::specs::Shares::share_limit))]
+fn two_lanes_meet_in_each_propagation_of_an_engine(rt: HostRuntime) -> Result<(), Fail> {
     let kernels = [
         at_most(rt.alloc(), &[1], &[1], 3)?,
         at_most(rt.alloc(), &[1], &[2], 3)?,
@@ -201,15 +337,13 @@ fn two_lanes_run_side_by_side(rt: HostRuntime) -> Result<(), Fail> {
     let cut = even_cut(rt.alloc(), &kernels, 2)?;
     let mut engine = Engine::new(rt.alloc(), 4, 2)?;
     let mut into = start.copy(rt.alloc())?;
-    let gate = Meet {
-        first: AtomicBool::new(false),
-        second: AtomicBool::new(false),
-        gave_up: AtomicBool::new(false),
-    };
-    let end = engine.propagate(&rt, rt.alloc(), &start, &kernels, &cut, &gate, &mut into)?;
-    assert_eq!(rt; end, Settled::Fixed { rounds: 1 });
-    assert!(rt; !gate.gave_up.load(Ordering::SeqCst));
-    let again = engine.propagate(&rt, rt.alloc(), &start, &kernels, &cut, &NoGate, &mut into)?;
-    assert_eq!(rt; again, Settled::Fixed { rounds: 1 });
+    let gate = Meet::new();
+    let end = engine.propagate(&rt, rt.alloc(), &start, &kernels, &cut, 0, &gate, &mut into)?;
+    assert_eq!(rt; end, Limited::Fixed { rounds: 1 });
+    assert!(rt; gate.was_passed());
+    let gate = Meet::new();
+    let again = engine.propagate(&rt, rt.alloc(), &start, &kernels, &cut, 0, &gate, &mut into)?;
+    assert_eq!(rt; again, Limited::Fixed { rounds: 1 });
+    assert!(rt; gate.was_passed());
     Ok(())
 }

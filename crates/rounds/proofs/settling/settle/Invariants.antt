@@ -9,7 +9,7 @@ abbrev pub invariant-rounds : goal.invariant-rounds
 invariant-rounds g l = record {
   same : IsSameSeat l.initial.first l.first;
   snapshots : AreLanes (length l.start) l.lanes;
-  goes : Goes l.start l.rounds (seen_of l.first);
+  goes : Goes l.kernels l.round_limit l.start l.rounds (seen_of l.first);
 }
 
 abbrev pub decreases-rounds : goal.decreases-rounds

@@ -3,8 +3,8 @@ use Rattle.std.proofs.lemmas.Bool.{OnFalse_from}
 use Rattle.guarded_tell.specs.Kernels.{IsKernel, IsClosedUnder}
 use Rattle.std.specs.Prelude.{IfSome}
 use Rattle.lattice_store.specs.Seats.{seen_of, floor_of, IsPast}
-use Rattle.rounds.specs.Shares.{AllNamed, IsQuiet}
-use Rattle.rounds.proofs.Quietness.{quiet_here, quiet_more, quiet_share, named_at_floor}
+use Rattle.rounds.specs.Shares.{AllNamed, IsQuiet, WasHeard}
+use Rattle.rounds.proofs.Quietness.{holds_here, heard_more, heard_from, share_holds, quiet_of, named_at_floor}
 use Rattle.rounds.proofs.Stepping.{stepped_none, stepped_more, unmoved, newly_moved}
 use Rattle.rounds.proofs.TellingAll.{seat_of_same}
 use Rattle.rounds.proofs.share.run_share.Goals as goal
@@ -15,7 +15,7 @@ loop-j-init g c = record {
   length_is = c.requires.snapshot;
   lane = refl;
   turn = omega arith;
-  quiet = λ f np i h. absurd (omega arith);
+  heard = λ np i h. absurd (omega arith);
 }
 
 pub run_kernel-requires : goal.run_kernel-requires
@@ -37,11 +37,13 @@ loop-j-preserved g c = record {
   length_is = c.run_kernel.ensures.length ∙ c.loop-j.invariant.stepped.inside.same_length;
   lane = c.loop-j.invariant.lane;
   turn = omega (arith, c.loop-j.invariant.turn, c.saturating_add-cache.ensures);
-  quiet = λ f np.
-      let p = c.run_kernel.ensures.stepped.still f in
-      quiet_more (seen_of c.loop-j.seat) (seen_of c.run_kernel.new.seat) c.args.share.now c.args.kernels.now c.loop-j.j-index p.1
-      (c.loop-j.invariant.quiet p.0 (λ q. np (c.run_kernel.ensures.stepped.same.past q)))
-      (quiet_here (seen_of c.run_kernel.new.seat) c.args.kernels.now _ c.index-kernels-j.result c.index-kernels-j.is (c.run_kernel.ensures.quiet f np));
+  heard = λ np.
+      let before = c.loop-j.invariant.stepped.inside in
+      let inside = c.run_kernel.ensures.stepped.inside in
+      heard_more c.law_tell_place.ensures (seen_of c.args.seat.now) (seen_of c.loop-j.seat) (seen_of c.run_kernel.new.seat) c.args.share.now c.args.kernels.now c.loop-j.j-index c.requires.kernels before inside
+      (c.loop-j.invariant.heard (λ q. np (c.run_kernel.ensures.stepped.same.past q)))
+      (holds_here (WasHeard (seen_of c.args.seat.now) (seen_of c.run_kernel.new.seat)) c.args.kernels.now _ c.index-kernels-j.result c.index-kernels-j.is
+      (heard_from c.index-kernels-j.result (seen_of c.args.seat.now) (seen_of c.loop-j.seat) (seen_of c.run_kernel.new.seat) before (c.run_kernel.ensures.heard np)));
 }
 
 pub returns-clause-still : goal.returns-clause-still
@@ -50,10 +52,16 @@ returns-clause-still g c = unmoved c.args.seat.now c.loop-j.seat c.loop-j.moved 
 pub returns-clause-moved : goal.returns-clause-moved
 returns-clause-moved g c = newly_moved c.args.seat.now c.loop-j.seat c.loop-j.moved c.loop-j.invariant.stepped
 
+pub returns-clause-heard : goal.returns-clause-heard
+returns-clause-heard g c = λ np.
+    share_holds (WasHeard (seen_of c.args.seat.now) (seen_of c.loop-j.seat)) c.args.share.now c.args.kernels.now c.loop-j.j-index (omega arith) (c.loop-j.invariant.heard np)
+
 pub returns-clause-quiet : goal.returns-clause-quiet
 returns-clause-quiet g c =
+    let heard : (¬ IsPast c.loop-j.seat) → AllNamed (WasHeard (seen_of c.args.seat.now) (seen_of c.loop-j.seat)) c.args.share.now c.args.kernels.now =
+    λ np. share_holds (WasHeard (seen_of c.args.seat.now) (seen_of c.loop-j.seat)) c.args.share.now c.args.kernels.now c.loop-j.j-index (omega arith) (c.loop-j.invariant.heard np) in
     let quiet : c.loop-j.moved ≡ false → (¬ IsPast c.loop-j.seat) → AllNamed (IsQuiet (seen_of c.loop-j.seat)) c.args.share.now c.args.kernels.now =
-    λ f np. quiet_share (seen_of c.loop-j.seat) c.args.share.now c.args.kernels.now c.loop-j.j-index (omega arith) (c.loop-j.invariant.quiet f np) in
+    λ f np j k s lt e. quiet_of k (seen_of c.args.seat.now) (seen_of c.loop-j.seat) (c.loop-j.invariant.stepped.still f).1 (heard np j k s lt e) in
     OnFalse_from _ _ quiet
 
 pub returns-clause-same : goal.returns-clause-same

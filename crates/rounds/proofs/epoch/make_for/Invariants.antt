@@ -1,4 +1,0 @@
-use Rattle.rounds.proofs.epoch.make_for.Given as goal
-
-abbrev pub ghost-new : goal.ghost-new
-ghost-new g a = g.floor

@@ -1,4 +1,0 @@
-use Rattle.rounds.proofs.epoch.open_for.Given as goal
-
-abbrev pub ghost-open : goal.ghost-open
-ghost-open g a = g.floor

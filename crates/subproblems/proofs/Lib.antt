@@ -1,0 +1,5 @@
+pub mod CutLemmas
+pub mod SubproblemLemmas
+pub mod PathLemmas
+pub mod StepLemmas
+pub mod Examples

@@ -1,0 +1,5 @@
+pub mod Cuts
+pub mod Subproblems
+pub mod Paths
+pub mod Growth
+pub mod Examples

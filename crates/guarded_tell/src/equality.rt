@@ -10,7 +10,7 @@ ghost use Rattle.guarded_tell.specs.Equality as equality;
 
 use crate::literals::{high_tell, is_out, is_sure, low_tell, tell_false, tell_true};
 use crate::terms::{
-    Range, tell_product_at_least, tell_product_at_most, room_for, sum_range, term_range,
+    Range, room_for, sum_range, tell_product_at_least, tell_product_at_most, term_range,
 };
 use crate::{Hear, Lit};
 use interval::BoxOf;

@@ -10,7 +10,7 @@ ghost use Rattle.guarded_tell.specs.Linear.{sum_limit, product_limit, at_most_te
 
 use crate::literals::{is_out, is_sure, tell_false, tell_true};
 use crate::terms::{
-    Range, tell_product_at_least, tell_product_at_most, room_for, sum_range, term_range,
+    Range, room_for, sum_range, tell_product_at_least, tell_product_at_most, term_range,
 };
 use crate::{Hear, Lit};
 use interval::BoxOf;

@@ -94,7 +94,8 @@ pub fn tell_product_at_most<H: Hear>(var: u32, coeff: i64, room: i128, h: &mut H
     ensures { HearsAll H.hears h.old (product_at_most var coeff room) h.new }
 {
     if coeff > 0 {
-        h.hear(high_tell(var, floor_div(room, coeff as i128)));
+        let greatest = floor_div(room, coeff as i128);
+        h.hear(high_tell(var, greatest));
     } else if coeff < 0 {
         h.hear(low_tell(var, ceil_div(room, coeff as i128)));
     }

@@ -1,0 +1,4 @@
+pub mod SetLaws
+pub mod GroupLaws
+pub mod FlatLaws
+pub mod MaskLaws

@@ -1,0 +1,30 @@
+use Rattle.std.proofs.Common.{◌≡◌, ◌<◌, ℕ, [], length, get_or, subst, sym, ap, ◌∙◌, arith}
+use Rattle.std.specs.Prelude.{IsTrue, ◌↔◌}
+use Rattle.std.proofs.lemmas.List.{length-map}
+use Rattle.moved_set.specs.Sets.{Naming, SomeMeets}
+use Rattle.moved_set.specs.Words.{named_by}
+use Rattle.moved_set.specs.Questions.{AreBelow}
+use Rattle.moved_set.proofs.MaskLaws.{sixty_four_answer}
+use Rattle.moved_set.proofs.masks.Masks.meets_sixty_four.Goals as goal
+
+pub meets-requires : goal.meets-requires
+meets-requires c =
+    let count : length c.args.set.now ≡ c.self.inside.count = c.requires.set ∙ sym (ap (λ (n : Naming). n.count) c.self.view_is) in
+    let sets = ap (λ (n : Naming). length n.sets) c.self.view_is in
+    let len = length-map c.self.inside.kernels (named_by c.self.inside.count) in
+    let eights = c.self.invariant.by_eight.count in
+    let sixty_fours = c.self.invariant.by_sixty_four.count in
+    let at : c.args.g < length c.self.inside.sixty_fours = omega arith in
+    let below : AreBelow c.self.inside.count (get_or c.self.inside.sixty_fours c.args.g []) = c.self.invariant.sixty_fours c.args.g [] at in
+    let lent : AreBelow c.self.inside.count c.group.result.now = subst (AreBelow c.self.inside.count) (sym c.group.ensures) below in
+    subst (λ (n : ℕ). AreBelow n c.group.result.now) (sym count) lent
+
+pub returns : goal.returns
+returns c =
+    let sets = ap (λ (n : Naming). length n.sets) c.self.view_is in
+    let len = length-map c.self.inside.kernels (named_by c.self.inside.count) in
+    let eights = c.self.invariant.by_eight.count in
+    let sixty_fours = c.self.invariant.by_sixty_four.count in
+    let at : c.args.g < length c.self.inside.sixty_fours = omega arith in
+    subst (λ (n : Naming). IsTrue c.meets.result ↔ SomeMeets n 64 c.args.g c.args.set.now) c.self.view_is
+    (sixty_four_answer c.meets.result c.self.inside.count c.self.inside.kernels c.self.inside.eights c.self.inside.sixty_fours c.args.g c.args.set.now c.group.result.now at c.self.invariant.kernels c.self.invariant.by_eight c.self.invariant.by_sixty_four c.group.ensures c.meets.ensures)

@@ -1,0 +1,21 @@
+use Rattle.moved_set.proofs.MaskLaws.{kernels_below, groups_below, merged_below, naming_made}
+use Rattle.moved_set.proofs.masks.Masks.new.Goals as goal
+
+pub kernel_groups-requires : goal.kernel_groups-requires
+kernel_groups-requires c = kernels_below c.args.count c.args.kernels.now c.word_count-words.result c.word_count-words.ensures c.requires
+
+pub invariant_of-result : goal.invariant_of-result
+invariant_of-result c =
+    let words = c.word_count-words.result in
+    let kernels = groups_below c.args.count words c.args.kernels.now c.in_ok-each.each c.word_count-words.ensures c.requires c.in_ok-each.ensures.named c.in_ok-each.ensures.within in
+    let eights = merged_below c.args.count words c.in_ok-each.each c.in_ok-eights.eights c.word_count-words.ensures kernels c.in_ok-eights.ensures.merged c.in_ok-eights.ensures.within in
+    record {
+      kernels = kernels;
+      eights = eights;
+      sixty_fours = merged_below c.args.count words c.in_ok-eights.eights c.in_ok-sixty_fours.sixty_fours c.word_count-words.ensures eights c.in_ok-sixty_fours.ensures.merged c.in_ok-sixty_fours.ensures.within;
+      by_eight = c.in_ok-eights.ensures.merged;
+      by_sixty_four = c.in_ok-sixty_fours.ensures.merged;
+    }
+
+pub returns-clause-naming : goal.returns-clause-naming
+returns-clause-naming c = naming_made c.args.count c.args.kernels.now c.in_ok-each.each c.requires c.in_ok-each.ensures.named

@@ -1,0 +1,9 @@
+use Rattle.std.proofs.Common.{ℕ, false, List, ap, ◌∙◌}
+use Rattle.moved_set.specs.Words.{set_of}
+use Rattle.moved_set.proofs.SetLaws.{set_of_filled, has_bit-zero}
+use Rattle.moved_set.proofs.set.MovedSet.new.Goals as goal
+
+pub returns : goal.returns
+returns c =
+    ap (λ (words : List ℕ). set_of words c.args.count) (c.in_ok-words.ensures.items_if_clones_equal (λ y h. h))
+    ∙ set_of_filled c.args.count c.word_count.result 0 false c.word_count.ensures (λ k _. has_bit-zero k)

@@ -1,0 +1,11 @@
+//! Sets of variables, and the question which kernels name a variable of a set.
+#![tactic(auto)]
+
+mod build;
+mod groups;
+mod mask;
+mod masks;
+mod set;
+
+pub use masks::Masks;
+pub use set::MovedSet;

@@ -5,7 +5,6 @@ use Rattle.guarded_tell.specs.declared.kernel.Kernel.{Kernel}
 use Rattle.constraint_model.specs.declared.model.FznModel.{FznModel}
 use Rattle.constraint_model.specs.Relations.{IsSolution}
 use Rattle.constraint_model.specs.Searches.{IsSearchOf}
-
 use Rattle.decompose.specs.Kernels.{kernels_of}
 use Rattle.decompose.specs.Program.{start_of, extended, IsProgramOf}
 use Rattle.decompose.specs.declared.program.Program.{Program}
@@ -41,7 +40,7 @@ pub first_answers : (order : InsideOrder) (listed : SolutionsAreListed) (least :
     IsFirstEnd (search_of model program 0 0 Kind.First program.start) end → IsAnswer model answer
 first_answers order listed least model program answer search is end same ends =
     let done : IsFirstDone (search_of model program 0 0 Kind.First program.start) answer =
-        subst (IsFirstEnd (search_of model program 0 0 Kind.First program.start)) same ends in
+    subst (IsFirstEnd (search_of model program 0 0 Kind.First program.start)) same ends in
     let inside : IsInside program.start program.start = order.itself program.start in
     let lists = listed model program program.start done.solutions is search is.in_range inside done.listed in
     record {
@@ -51,7 +50,7 @@ first_answers order listed least model program answer search is end same ends =
             (subst (λ (ks : List Kernel). SolutionsIn model ks program.start done.solutions) is.kernels done.listed);
         each = λ a. (
           (λ h. ((lists.each a).0 h).solves),
-          (λ h. (lists.each a).1 (record { solves = h; inside = (is.points (extended model a)).1 (record { assignment = a; within = h.within; is_extension = refl }) }))
+          (λ h. (lists.each a).1 (record { solves = h; inside = (is.points (extended model a)).1 (record { assignment = a; within = h.within; is_extension = refl }) })),
         );
         once = lists.once;
         plain = λ alone. least model program done.solutions is alone done.listed;

@@ -47,10 +47,12 @@ fn first_solution(
         FirstEnd::Done(answer) => Ok(answer),
         // Without limits no search is stopped by one.
         FirstEnd::Spent {
-            why: Why::Nodes, ..
+            why: Why::Nodes,
+            ..
         } => unreachable!(),
         FirstEnd::Spent {
-            why: Why::Rounds, ..
+            why: Why::Rounds,
+            ..
         } => unreachable!(),
     }
 }
@@ -65,9 +67,6 @@ pub(crate) fn print_answer(
 {
     match answer {
         Some(values) => print_solution(alloc, model, values.as_slice()),
-        None => Ok(Vec::from_slice(
-            alloc,
-            mark_text(Mark::Unsatisfiable).as_bytes(),
-        )?),
+        None => Ok(Vec::from_slice(alloc, mark_text(Mark::Unsatisfiable).as_bytes())?),
     }
 }

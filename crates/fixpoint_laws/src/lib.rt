@@ -9,4 +9,4 @@ mod tests;
 
 pub use laws::{law_greatest_is_computed, law_one_fixpoint, law_rounds_lead, law_tightens_one};
 pub use limited::Limited;
-pub use settle::{Settled, settle_alone};
+pub use settle::{Settled, copy_variables, settle_alone};

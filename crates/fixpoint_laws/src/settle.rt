@@ -56,8 +56,9 @@ impl Hear for Joiner<'_> {
     }
 }
 
-/// Copies the bounds of the kernel's variables, unless one of them has no number left.
-fn copy_variables(kernel: &Kernel, from: &BoxOf, into: &mut BoxOf) -> bool
+/// Copies the bounds of the variables that the kernel names, unless one of them has no number left: what is copied is then
+/// a part. A kernel tells the same on the copy as on the box itself.
+pub fn copy_variables(kernel: &Kernel, from: &BoxOf, into: &mut BoxOf) -> bool
     requires kernel { IsKernel (length from.now) kernel.now }
     requires length { length into.old ≡ length from.now }
     ensures length { length into.new ≡ length from.now }

@@ -1,0 +1,9 @@
+pub mod Joining
+pub mod Telling
+pub mod Hearing
+pub mod RunLemmas
+pub mod Rounding
+pub mod Settling
+pub mod Widths
+pub mod QuietLaws
+pub mod Asking

@@ -1,0 +1,101 @@
+-- All tells of one kernel, heard by a box that agrees with the one they were made for.
+use Rattle.std.proofs.Common.{◌≡◌, ◌<◌, ℕ, ℤ, List, length, get_or, sym, subst, arith}
+use Rattle.std.specs.List.{All, Contains}
+use Rattle.std.proofs.lemmas.Int.{ints}
+use Rattle.interval.specs.Limits.{IsBound}
+use Rattle.interval.specs.Boxes.{Bounds, IsInRange, IsInside}
+use Rattle.guarded_tell.specs.declared.tell.Tell.{Tell}
+use Rattle.guarded_tell.specs.declared.tell.Side.{Side}
+use Rattle.guarded_tell.specs.declared.tell.Side.TheVariants.{Low, High}
+use Rattle.guarded_tell.specs.declared.kernel.Kernel.{Kernel}
+use Rattle.guarded_tell.specs.Words.{Keeps, KeepsSide, IsProperIn, IsInsideIn, AgreeIn}
+use Rattle.guarded_tell.specs.Kernels.{vars_of, tells, IsKernel, IsClosedUnder}
+use Rattle.moved_set.specs.Sets.{IsIn}
+use Rattle.moved_fixpoint.specs.declared.joiner.Progress.{Progress}
+use Rattle.moved_fixpoint.specs.Moved.{Set, Misses}
+use Rattle.moved_fixpoint.specs.Heard.{GoesOn}
+use Rattle.moved_fixpoint.specs.Runs.{SameAt, SameUnlessIn, KernelRuns}
+use Rattle.moved_fixpoint.proofs.Hearing.{Effect, IsPlaced}
+
+-- the laws of the kernels, as their functions state them
+abbrev pub Monotone : Type 0
+Monotone = (k : Kernel) (outer inner : Bounds) → IsKernel (length outer) k → IsInRange outer →
+    length inner ≡ length outer → IsProperIn (vars_of k) outer → IsClosedUnder k inner →
+    IsInsideIn (vars_of k) inner outer → All (Keeps inner) (tells k outer)
+
+abbrev pub TellPlace : Type 0
+TellPlace = (k : Kernel) (b : Bounds) → IsKernel (length b) k →
+    All (λ t. Contains (vars_of k) t.var × (t.var < length b) × IsBound t.bound) (tells k b)
+
+abbrev pub Local : Type 0
+Local = (k : Kernel) (b c : Bounds) → AgreeIn (vars_of k) b c → tells k b ≡ tells k c
+
+pub agree_unless : (k : Kernel) (s : Set) (after before : Bounds) → SameUnlessIn s after before → Misses s (vars_of k) →
+    AgreeIn (vars_of k) after before
+agree_unless k s after before same misses = record {
+  lows = λ i h. let e = same _ (misses i 0 h) in e.low;
+  highs = λ i h. let e = same _ (misses i 0 h) in e.high;
+}
+
+pub proper_unless : (k : Kernel) (after before : Bounds) → AgreeIn (vars_of k) after before → IsProperIn (vars_of k) before →
+    IsProperIn (vars_of k) after
+proper_unless k after before agree proper i h =
+    let low = agree.lows i h in let high = agree.highs i h in let p = proper i h in omega (arith, ints)
+
+keeps_side_same : (s : Side) (a b : Bounds) (v : ℕ) (x : ℤ) → SameAt a b v → KeepsSide b s v x → KeepsSide a s v x
+keeps_side_same Low a b v x same k = let l = same.low in omega (arith, ints)
+keeps_side_same High a b v x same k = let h = same.high in omega (arith, ints)
+
+-- a kernel none of whose variables moved is as quiet as before
+pub stays_closed : TellPlace → Local → (k : Kernel) (s : Set) (after before : Bounds) → IsKernel (length before) k →
+    SameUnlessIn s after before → Misses s (vars_of k) → IsClosedUnder k before → IsClosedUnder k after
+stays_closed place local k s after before kernel same misses closed =
+    let agree = agree_unless k s after before same misses in
+    record {
+      proper = proper_unless k after before agree closed.proper;
+      kept = subst (λ (ts : List Tell). All (Keeps after) ts) (sym (local k after before agree))
+          (λ i d h. kept_on (get_or (tells k before) i d) (let q = place k before kernel i d h in q.0) (closed.kept i d h));
+    } where
+      kept_on : (t : Tell) → Contains (vars_of k) t.var → Keeps before t → Keeps after t
+      kept_on t (j, l, e) keeps =
+          keeps_side_same t.side after before t.var t.bound (same t.var (λ is_in. misses j t.var l (subst (λ (x : ℕ). IsIn s x) (sym e) is_in))) keeps
+
+module _ (place : TellPlace) (local : Local) (k : Kernel) (spare b : Bounds)
+    (kernel : IsKernel (length b) k) (agree : AgreeIn (vars_of k) spare b) where
+  pub all_placed : All (IsPlaced (length b)) (tells k spare)
+  all_placed = subst (λ (ts : List Tell). All (IsPlaced (length b)) ts) (sym (local k spare b agree)) (λ i d h. let p = place k b kernel i d h in (p.1, p.2))
+
+  module _ (monotone : Monotone) (range : IsInRange b) (proper : IsProperIn (vars_of k) b) (m n : Set) (p : Progress)
+      (after : Bounds) (m' n' : Set) (p' : Progress) (e : Effect b m n p (tells k spare) after m' n' p') where
+    own : Effect b m n p (tells k b) after m' n' p'
+    own = subst (λ (ts : List Tell). Effect b m n p ts after m' n' p') (local k spare b agree) e
+
+    inside_own : (c : Bounds) → IsInside c b → IsInsideIn (vars_of k) c b
+    inside_own c i = record { lows = λ j h. i.lows _ (kernel.variables.each j h); highs = λ j h. i.highs _ (kernel.variables.each j h) }
+
+    closed_own : GoesOn p' → Misses n' (vars_of k) → IsClosedUnder k after
+    closed_own g misses =
+        let same = agree_unless k n' after b (own.unnoted g) misses in
+        record {
+          proper = proper_unless k after b same proper;
+          kept = subst (λ (ts : List Tell). All (Keeps after) ts) (sym (local k after b same)) (own.heard g);
+        }
+
+    pub kernel_runs : KernelRuns k b m n p after m' n' p'
+    kernel_runs = record {
+      run = record {
+        inside = own.inside;
+        keeps_closed = λ c proper_c closed i. own.holds c i (monotone k b c kernel range i.same_length proper closed (inside_own c i));
+      };
+      moved_grows = own.moved_grows;
+      noted_grows = own.noted_grows;
+      going = own.going;
+      unmoved = own.unmoved;
+      unnoted = own.unnoted;
+      heard = own.heard;
+      closed = closed_own;
+      still = own.still;
+      moves = own.moves;
+      proper = own.proper;
+      crossed = own.crossed;
+    }

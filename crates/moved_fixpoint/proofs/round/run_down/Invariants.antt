@@ -1,0 +1,14 @@
+use Rattle.std.proofs.Common.{◌≡◌, ◌≤◌, length}
+use Rattle.moved_fixpoint.proofs.Rounding.{Stands}
+use Rattle.moved_fixpoint.proofs.round.run_down.Given as goal
+
+abbrev pub invariant-kernels : goal.invariant-kernels
+invariant-kernels l = record {
+  spare_length : length l.spare ≡ length l.initial.b.current;
+  stack : l.b.stack ≡ l.initial.b.stack;
+  within : l.left ≤ length l.kernels;
+  stands : Stands l.kernels l.initial.b.current l.left (length l.kernels) l.b.current l.sets.moved l.sets.noted l.progress;
+}
+
+abbrev pub decreases-kernels : goal.decreases-kernels
+decreases-kernels l = l.left

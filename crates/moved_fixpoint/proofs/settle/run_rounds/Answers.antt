@@ -1,0 +1,45 @@
+use Rattle.std.proofs.Common.{◌<◌, ◌^◌, refl, sym, arith}
+use Rattle.std.proofs.lemmas.Bool.{true≢false}
+use Rattle.interval.specs.Boxes.{width_sum_of}
+use Rattle.moved_fixpoint.proofs.Settling.{ended_fixed, ended_failed, ended_spent, falls, goes_on, fit_next}
+use Rattle.moved_fixpoint.proofs.Widths.{widths_fit}
+use Rattle.moved_fixpoint.proofs.settle.run_rounds.Goals as goal
+
+pub overflow_add-rounds : goal.overflow_add-rounds
+overflow_add-rounds c =
+    let fits : width_sum_of c.args.b.now.current < 2 ^ 100 = widths_fit c.args.b.now.current c.len-length.ensures.in_range in
+    grind (arith, c.rounds.invariant.goes.widths)
+
+pub returns-in-Still-clause-ends : goal.returns-in-Still-clause-ends
+returns-in-Still-clause-ends c =
+    ended_fixed c.law_inside_order.ensures c.law_rounds_lead.ensures c.args.kernels.now c.args.round_limit c.args.b.now.current
+    c.rounds.rounds c.rounds.b.current _ _ c.rounds.invariant.goes _ _ _ c.in-Still.ensures.round
+
+pub returns-in-Crossed-clause-ends : goal.returns-in-Crossed-clause-ends
+returns-in-Crossed-clause-ends c =
+    ended_failed c.law_inside_order.ensures c.law_rounds_lead.ensures c.args.kernels.now c.args.round_limit c.args.b.now.current
+    c.rounds.rounds c.rounds.b.current _ _ c.rounds.invariant.goes _ _ _ c.in-Crossed.ensures.round
+
+pub returns-then-are_spent-clause-ends : goal.returns-then-are_spent-clause-ends
+returns-then-are_spent-clause-ends c =
+    let spent = c.if-are_spent.ensures.0 refl in
+    ended_spent c.law_inside_order.ensures c.law_rounds_lead.ensures c.args.kernels.now c.args.round_limit c.args.b.now.current
+    c.rounds.rounds c.rounds.b.current _ _ c.rounds.invariant.goes _ _ _ c.in-Moved.ensures.round spent.0 spent.1
+
+pub rounds-smaller : goal.rounds-smaller
+rounds-smaller c =
+    falls c.law_inside_order.ensures c.law_rounds_lead.ensures c.args.kernels.now c.args.round_limit c.args.b.now.current
+    c.rounds.rounds c.rounds.b.current _ _ c.rounds.invariant.goes _ _ _ c.in-Moved.ensures.round
+
+pub rounds-preserved : goal.rounds-preserved
+rounds-preserved c = record {
+  spare_length = omega (arith, c.run_round.ensures.spare, c.rounds.invariant.goes.run.inside.same_length);
+  stack = cc;
+  goes =
+      goes_on c.law_inside_order.ensures c.law_rounds_lead.ensures c.args.kernels.now c.args.round_limit c.args.b.now.current
+      c.rounds.rounds c.rounds.b.current _ _ c.rounds.invariant.goes _ _ _ c.in-Moved.ensures.round
+      (λ ne e. true≢false (sym (c.if-are_spent.ensures.1 (ne, e))))
+      c.begin_round.new.self.moved c.begin_round.new.self.noted c.begin_round.ensures.moved
+      (fit_next _ _ _ _ _ c.in-Moved.ensures.round.fit c.begin_round.ensures.moved c.begin_round.ensures.count)
+      c.begin_round.ensures.empty;
+}

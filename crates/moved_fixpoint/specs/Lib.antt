@@ -1,0 +1,5 @@
+pub mod Moved
+pub mod Heard
+pub mod Runs
+pub mod Round
+pub mod Ends

@@ -1,0 +1,12 @@
+//! Propagation that asks what moved: kernels whose variables haven't moved are passed over.
+#![tactic(auto)]
+
+mod joiner;
+mod laws;
+mod round;
+mod running;
+mod settle;
+
+pub use joiner::MovedSets;
+pub use laws::law_quiet_unless_moved;
+pub use settle::{settle_moved, settle_proper};

@@ -1,0 +1,5 @@
+use Rattle.subproblem_walk.specs.Walks.{nothing}
+use Rattle.subproblem_walk.proofs.walk.Walk.new.Goals as goal
+
+pub returns : goal.returns
+returns c = λ model kernels start. nothing model kernels start c.new.result.items c.new.ensures.items

@@ -12,6 +12,6 @@ pub struct Run<'a> {
     pub program: &'a Program,
     /// The most nodes; 0 is no limit.
     pub node_limit: u64,
-    /// The most rounds of one propagation; 0 is no limit.
+    /// The most rounds of one propagation; 0 is no limit. No run asks it yet.
     pub round_limit: u64,
 }

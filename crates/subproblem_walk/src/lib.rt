@@ -5,4 +5,4 @@
 mod tests;
 mod walk;
 
-pub use walk::{Level, Walk};
+pub use walk::Walk;

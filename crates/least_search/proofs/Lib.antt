@@ -1,0 +1,9 @@
+pub mod BoxLaws
+pub mod CutLaws
+pub mod PremiseLaws
+pub mod NodeLaws
+pub mod ValueLaws
+pub mod StackLaws
+pub mod CountLaws
+pub mod CostLaws
+pub mod LeastRunLaws

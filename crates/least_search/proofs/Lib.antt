@@ -7,3 +7,4 @@ pub mod StackLaws
 pub mod CountLaws
 pub mod CostLaws
 pub mod LeastRunLaws
+pub mod Examples

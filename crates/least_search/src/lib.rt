@@ -7,6 +7,8 @@ mod ends;
 mod least;
 mod narrow;
 mod node;
+#[cfg(test)]
+mod tests;
 
 pub use ends::LeastEnd;
 pub use least::run_least;

@@ -1,0 +1,10 @@
+pub mod BoxLaws
+pub mod CutLaws
+pub mod PremiseLaws
+pub mod NodeLaws
+pub mod ValueLaws
+pub mod StackLaws
+pub mod CountLaws
+pub mod CostLaws
+pub mod LeastRunLaws
+pub mod Examples

@@ -1,0 +1,4 @@
+pub mod Nodes
+pub mod Closings
+pub mod LeastEnds
+pub mod Examples

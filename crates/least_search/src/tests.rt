@@ -1,0 +1,123 @@
+//! A model of one variable, searched for its least value.
+
+ghost use Rattle.std.specs.Prelude.{◌≡◌, IfOk};
+ghost use Rattle.constraint_model.specs.Searches.{last_phase};
+ghost use Rattle.best_bound.specs.Seats.{IsBestSeatOf};
+ghost use Rattle.least_search.specs.Examples.{small_variable, small_model};
+
+use crate::{LeastEnd, run_least};
+use best_bound::{Best, BestSeat, Costs};
+use constraint_model::{FznModel, Goal, Phase, Term, ValSel, VarDecl, VarSel};
+use decompose::compile;
+use interval::{NoMemory, law_inside_order};
+use list_of::ListOf;
+use search::{Run, Why};
+use std::alloc::{AllocError, Global};
+use std::test::Fail;
+
+/// The costs of the small model's solutions.
+struct SmallCosts;
+
+impl Costs for SmallCosts {
+    ghost use Rattle.least_search.specs.LeastEnds.{IsCost};
+    ghost use Rattle.least_search.specs.Examples.{small_model};
+
+    ghost is_cost = { λ cost. IsCost small_model cost };
+}
+
+/// The phase of the variable.
+fn phase(alloc: Global) -> Result<Phase, AllocError>
+    ensures { IfOk result (λ phase. phase ≡ last_phase 1) }
+{
+    let mut vars = ListOf::new(alloc);
+    vars.push(0)?;
+    Ok(Phase {
+        vars,
+        var_sel: VarSel::InputOrder,
+        val_sel: ValSel::Min,
+    })
+}
+
+/// The variable.
+fn declared(alloc: Global) -> VarDecl
+    ensures { result ≡ small_variable }
+{
+    VarDecl {
+        name: ListOf::new(alloc),
+        is_bool: false,
+        low: 1,
+        high: 3,
+    }
+}
+
+/// A variable of 1..3 that is to be minimized.
+fn one_variable(alloc: Global) -> Result<FznModel, AllocError>
+    ensures { IfOk result (λ model. model ≡ small_model) }
+{
+    let mut vars = ListOf::new(alloc);
+    vars.push(declared(alloc))?;
+    let mut phases = ListOf::new(alloc);
+    phases.push(phase(alloc)?)?;
+    Ok(FznModel {
+        vars,
+        constraints: ListOf::new(alloc),
+        search: phases,
+        goal: Goal::Minimize(Term::Var(0)),
+        output: ListOf::new(alloc),
+    })
+}
+
+/// Searches the model for its least value.
+fn least(
+    alloc: Global,
+    node_limit: u64,
+    best: &Best<SmallCosts>,
+    seat: &mut BestSeat,
+) -> Result<LeastEnd, NoMemory>
+    requires { IsBestSeatOf best.now seat.old }
+    ensures { IsBestSeatOf best.now seat.new }
+{
+    law_inside_order();
+    let model = one_variable(alloc)?;
+    let program = compile(alloc, &model)?;
+    let run = Run {
+        model: &model,
+        program: &program,
+        node_limit,
+        round_limit: 0,
+    };
+    run_least(alloc, &run, &program.start, best, seat)
+}
+
+/// Whether a search ended with this value, or with none.
+fn is_done(end: &LeastEnd, expected: Option<i64>) -> bool {
+    match (end, expected) {
+        (LeastEnd::Done(Some(values)), Some(number)) => values.as_slice() == [number].as_slice(),
+        (LeastEnd::Done(None), None) => true,
+        _ => false,
+    }
+}
+
+/// Whether the limit on nodes stopped a search after so many, with nothing found.
+fn is_stopped(end: &LeastEnd, expected: u64) -> bool {
+    match end {
+        LeastEnd::Spent {
+            nodes,
+            why: Why::Nodes,
+            so_far: None,
+        } => *nodes == expected,
+        _ => false,
+    }
+}
+
+#[test]
+fn the_least_value_is_found_and_posted(rt: HostRuntime) -> Result<(), Fail> {
+    let alloc = rt.alloc();
+    let (best, mut seat) = Best::<SmallCosts>::new(alloc)?;
+    assert!(rt; is_stopped(&least(alloc, 1, &best, &mut seat)?, 1));
+    assert_eq!(rt; best.seen(&mut seat), None);
+    assert!(rt; is_done(&least(alloc, 0, &best, &mut seat)?, Some(1)));
+    assert_eq!(rt; best.seen(&mut seat), Some(1));
+    assert!(rt; is_done(&least(alloc, 0, &best, &mut seat)?, None));
+    Ok(())
+}

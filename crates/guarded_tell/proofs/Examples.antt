@@ -1,116 +1,212 @@
--- What the tests' boxes and kernels have to meet.
-use Rattle.std.proofs.Common.{◌≡◌, ℕ, zero, suc, ℤ, pos, ◌<◌, ◌≤◌, List, [], ◌∷◌, length, arith, refl, sym, subst}
-use Rattle.std.specs.Prelude.{slice_index, slice_index_or, unsigned_abs}
-use Rattle.interval.specs.Limits.{IsBound, IsNumber, bound_limit, largest_number, box_limit}
-use Rattle.interval.specs.Boxes.{Bounds, IsInRange, IsProper, low_of, high_of}
+-- What the boxes of four variables and the kernels of the tests have to meet.
+use Rattle.std.proofs.Common.{◌≡◌, ℕ, zero, suc, ◌<◌, ◌≤◌, List, [], ◌∷◌, length, get_or, true, false, ltb, ℤ, pos, ◌+ℤ◌, ◌≤ℤ◌, ◌<ℤ◌, refl, sym, subst, arith}
+use Rattle.std.proofs.lemmas.Int.{ints}
+use Rattle.std.proofs.lemmas.Bool.{ltb-true}
+use Rattle.std.proofs.lemmas.List.Sums.{AllPass-from_list_all}
+use Rattle.std.proofs.lemmas.List.Elements.{All-nil, All-cons}
+use Rattle.std.specs.List.{All, AllPairs, list_all}
+use Rattle.std.specs.Prelude.{slice_index, slice_index_or}
 use Rattle.guarded_tell.specs.declared.tell.Lit.{Lit}
 use Rattle.guarded_tell.specs.declared.tell.Tell.{Tell}
 use Rattle.guarded_tell.specs.declared.kernel.Kernel.{Kernel}
-use Rattle.guarded_tell.specs.declared.kernel.Kernel.TheVariants.{Le}
-use Rattle.guarded_tell.specs.Linear.{term_limit}
-use Rattle.guarded_tell.specs.Words.{IsProperIn}
+use Rattle.guarded_tell.specs.declared.kernel.Kernel.TheVariants.{Le, Eq, Times, Abs, Max, Min, Clause, Element, InSet}
+use Rattle.interval.specs.Limits.{IsBound, IsNumber, largest_number, box_limit}
+use Rattle.interval.specs.Boxes.{Bounds, IsInRange, IsProper, low_of, high_of}
+use Rattle.guarded_tell.specs.Words.{IsProperIn, AreVariables}
+use Rattle.guarded_tell.specs.Linear.{IsLinear, term_limit}
+use Rattle.guarded_tell.specs.Extremes.{member_limit}
+use Rattle.guarded_tell.specs.Clause.{clause_vars, literal_limit}
+use Rattle.guarded_tell.specs.InSet.{IsSet, range_limit}
 use Rattle.guarded_tell.specs.Hearing.{MayHearAll}
 use Rattle.guarded_tell.specs.Kernels.{vars_of, HasNumbers, IsKernel}
 
-abbrev pub IsSmall : ℤ → Type 0
-IsSmall z = unsigned_abs z ≤ 9
+-- ---- boxes
 
-pub small_bound : (z : ℤ) → IsSmall z → IsBound z
-unfolding bound_limit largest_number
-small_bound z h = omega arith
+-- a box of four pairs of bounds
+abbrev pub AreBounds : ℤ × ℤ → Type 0
+AreBounds p = IsBound p.0 × IsBound p.1
 
-pub small_number : (z : ℤ) → IsSmall z → IsNumber z
-unfolding largest_number
-small_number z h = omega arith
+module _ (p q r s : ℤ × ℤ) (a : AreBounds p) (b : AreBounds q) (c : AreBounds r) (d : AreBounds s) where
+  lows : (v : ℕ) → v < 4 → IsBound (low_of (p ∷ q ∷ r ∷ s ∷ []) v)
+  lows zero h = a.0
+  lows (suc zero) h = b.0
+  lows (suc (suc zero)) h = c.0
+  lows (suc (suc (suc zero))) h = d.0
+  lows (suc (suc (suc (suc v)))) h = absurd (omega arith)
 
-two_short : 2 ≤ box_limit
-unfolding box_limit
-two_short = omega arith
+  highs : (v : ℕ) → v < 4 → IsBound (high_of (p ∷ q ∷ r ∷ s ∷ []) v)
+  highs zero h = a.1
+  highs (suc zero) h = b.1
+  highs (suc (suc zero)) h = c.1
+  highs (suc (suc (suc zero))) h = d.1
+  highs (suc (suc (suc (suc v)))) h = absurd (omega arith)
 
-lows_in_range : (p q : ℤ × ℤ) → IsSmall p.0 → IsSmall q.0 → (v : ℕ) → v < 2 → IsBound (low_of (p ∷ q ∷ []) v)
-lows_in_range p q a b zero h = small_bound p.0 a
-lows_in_range p q a b (suc zero) h = small_bound q.0 b
-lows_in_range p q a b (suc (suc v)) h = absurd (omega arith)
+  pub four_in_range : IsInRange (p ∷ q ∷ r ∷ s ∷ [])
+  unfolding box_limit
+  four_in_range = record { short = omega arith; lows = λ v h. lows v (omega arith); highs = λ v h. highs v (omega arith) }
 
-highs_in_range : (p q : ℤ × ℤ) → IsSmall p.1 → IsSmall q.1 → (v : ℕ) → v < 2 → IsBound (high_of (p ∷ q ∷ []) v)
-highs_in_range p q a b zero h = small_bound p.1 a
-highs_in_range p q a b (suc zero) h = small_bound q.1 b
-highs_in_range p q a b (suc (suc v)) h = absurd (omega arith)
+-- a proper box of four variables is proper in a kernel's variables
+pub proper_in_four : (k : Kernel) (b : Bounds) → IsKernel 4 k → length b ≡ 4 → IsProper b → IsProperIn (vars_of k) b
+proper_in_four k b kernel four proper i h = proper (slice_index (vars_of k) i) (omega (arith, four, kernel.variables.each i h))
 
--- a box of two pairs of small bounds
-pub two_in_range : (p q : ℤ × ℤ) → IsSmall p.0 → IsSmall p.1 → IsSmall q.0 → IsSmall q.1 → IsInRange (p ∷ q ∷ [])
-two_in_range p q a b c d = record {
-  short = two_short;
-  lows = λ v h. lows_in_range p q a c v (omega arith);
-  highs = λ v h. highs_in_range p q b d v (omega arith);
-}
-
-one_short : 1 ≤ term_limit
-unfolding term_limit
-one_short = omega arith
-
-none_short : 0 ≤ term_limit
-none_short = omega arith
-
-one_coefficient : (coeff : ℤ) → IsNumber coeff → (i : ℕ) → i < 1 → IsNumber (slice_index_or (coeff ∷ []) i (pos 0))
-one_coefficient coeff h zero k = h
-one_coefficient coeff h (suc i) k = absurd (omega arith)
-
-one_variable : (i : ℕ) → i < 2 → slice_index (0 ∷ 1 ∷ []) i < 2
-one_variable zero h = omega arith
-one_variable (suc zero) h = omega arith
-one_variable (suc (suc i)) h = absurd (omega arith)
-
-no_variable : (i : ℕ) → i < 1 → slice_index (0 ∷ []) i < 2
-no_variable zero h = omega arith
-no_variable (suc i) h = absurd (omega arith)
-
-one_term : (l : Lit) (coeff limit : ℤ) → l.var ≡ 0 → IsSmall coeff → IsSmall limit → IsKernel 2 (Le l (coeff ∷ []) (1 ∷ []) limit)
-unfolding vars_of HasNumbers
-one_term l coeff limit z a b = record {
-  variables = record { each = λ i h. subst (λ v. slice_index (v ∷ 1 ∷ []) i < 2) (sym z) (one_variable i (omega arith)) };
-  numbers = record {
-    same_length = refl;
-    short = one_short;
-    coefficients = λ i h. one_coefficient coeff (small_number coeff a) i (omega arith);
-    limit_in_range = small_number limit b;
-  };
-}
-
-no_terms : (l : Lit) (limit : ℤ) → l.var ≡ 0 → IsSmall limit → IsKernel 2 (Le l [] [] limit)
-unfolding vars_of HasNumbers
-no_terms l limit z b = record {
-  variables = record { each = λ i h. subst (λ v. slice_index (v ∷ []) i < 2) (sym z) (no_variable i (omega arith)) };
-  numbers = record {
-    same_length = refl;
-    short = none_short;
-    coefficients = λ i h. absurd (omega arith);
-    limit_in_range = small_number limit b;
-  };
-}
-
--- the kernel of one term, with its lists as the code made them
-pub one_term_made : (l : Lit) (coeffs : List ℤ) (vars : List ℕ) (coeff limit number : ℤ) → l.var ≡ 0 → coeffs ≡ coeff ∷ [] → vars ≡ 1 ∷ [] → limit ≡ number → IsSmall coeff → IsSmall number → IsKernel 2 (Le l coeffs vars limit)
-one_term_made l coeffs vars coeff limit number z e f g a b =
-    subst (λ (n : ℤ). IsKernel 2 (Le l coeffs vars n)) (sym g)
-    (subst (λ (vs : List ℕ). IsKernel 2 (Le l coeffs vs number)) (sym f)
-    (subst (λ (cs : List ℤ). IsKernel 2 (Le l cs (1 ∷ []) number)) (sym e) (one_term l coeff number z a b)))
-
-pub no_terms_made : (l : Lit) (coeffs : List ℤ) (vars : List ℕ) (limit number : ℤ) → l.var ≡ 0 → coeffs ≡ [] → vars ≡ [] → limit ≡ number → IsSmall number → IsKernel 2 (Le l coeffs vars limit)
-no_terms_made l coeffs vars limit number z e f g b =
-    subst (λ (n : ℤ). IsKernel 2 (Le l coeffs vars n)) (sym g)
-    (subst (λ (vs : List ℕ). IsKernel 2 (Le l coeffs vs number)) (sym f)
-    (subst (λ (cs : List ℤ). IsKernel 2 (Le l cs [] number)) (sym e) (no_terms l number z b)))
+-- the kernel can be run on a box of four variables
+pub kernel_on_four : (k : Kernel) (b : Bounds) → IsKernel 4 k → length b ≡ 4 → IsKernel (length b) k
+kernel_on_four k b kernel four = subst (λ n. IsKernel n k) (sym four) kernel
 
 -- a hearer that may always hear may hear any list
 pub may_hear_any : {H : Type 0} (hears : H → Tell → H → Type 0) (h : H) (ts : List Tell) → MayHearAll (λ _ _. Unit {0}) hears h ts
 may_hear_any hears h [] = tt
 may_hear_any hears h (t ∷ ts) = (tt, λ mid heard. may_hear_any hears mid ts)
 
--- a proper box of two variables is proper in a kernel's variables
-pub proper_in_two : (k : Kernel) (b : Bounds) → IsKernel 2 k → length b ≡ 2 → IsProper b → IsProperIn (vars_of k) b
-proper_in_two k b kernel two proper i h = proper (slice_index (vars_of k) i) (omega (arith, two, kernel.variables.each i h))
+-- variables below four
+below_four : (vars : List ℕ) → list_all (λ v. ltb v 4) vars ≡ true → AreVariables 4 vars
+below_four vars e = record { each = λ i h. ltb-true (get_or vars i 0) 4 (AllPass-from_list_all (λ v. ltb v 4) vars e i 0 h) }
 
--- the kernel can be run on a box of two variables
-pub kernel_on : (k : Kernel) (b : Bounds) → IsKernel 2 k → length b ≡ 2 → IsKernel (length b) k
-kernel_on k b kernel two = subst (λ n. IsKernel n k) (sym two) kernel
+-- ---- linear kernels
+
+two_short : 2 ≤ term_limit
+unfolding term_limit
+two_short = omega arith
+
+two_coefficients : (a c : ℤ) → IsNumber a → IsNumber c → (i : ℕ) → i < 2 → IsNumber (slice_index_or (a ∷ c ∷ []) i (pos 0))
+two_coefficients a c h k zero l = h
+two_coefficients a c h k (suc zero) l = k
+two_coefficients a c h k (suc (suc i)) l = absurd (omega arith)
+
+-- two terms whose numbers are those of a model
+abbrev pub AreNumbers : ℤ → ℤ → ℤ → Type 0
+AreNumbers a c limit = IsNumber a × IsNumber c × IsNumber limit
+
+two_linear : (a c limit : ℤ) → AreNumbers a c limit → IsLinear (a ∷ c ∷ []) (1 ∷ 2 ∷ []) limit
+two_linear a c limit n = record {
+  same_length = refl;
+  short = two_short;
+  coefficients = λ i h. two_coefficients a c n.0 n.1 i (omega arith);
+  limit_in_range = n.2;
+}
+
+two_made : (coeffs : List ℤ) (vars : List ℕ) (a c limit number : ℤ) → coeffs ≡ a ∷ c ∷ [] → vars ≡ 1 ∷ 2 ∷ [] → limit ≡ number → AreNumbers a c number → IsLinear coeffs vars limit
+two_made coeffs vars a c limit number e f g n =
+    subst (λ (z : ℤ). IsLinear coeffs vars z) (sym g)
+    (subst (λ (vs : List ℕ). IsLinear coeffs vs number) (sym f)
+    (subst (λ (cs : List ℤ). IsLinear cs (1 ∷ 2 ∷ []) number) (sym e) (two_linear a c number n)))
+
+two_variables : (v : ℕ) (vars : List ℕ) → v ≡ 0 → vars ≡ 1 ∷ 2 ∷ [] → AreVariables 4 (v ∷ vars)
+two_variables v vars z f =
+    subst (λ (vs : List ℕ). AreVariables 4 (v ∷ vs)) (sym f)
+    (subst (λ (w : ℕ). AreVariables 4 (w ∷ 1 ∷ 2 ∷ [])) (sym z) (below_four (0 ∷ 1 ∷ 2 ∷ []) refl))
+
+pub inequality_made : (l : Lit) (coeffs : List ℤ) (vars : List ℕ) (a c limit number : ℤ) → l.var ≡ 0 → coeffs ≡ a ∷ c ∷ [] → vars ≡ 1 ∷ 2 ∷ [] → limit ≡ number → AreNumbers a c number → IsKernel 4 (Le l coeffs vars limit)
+unfolding vars_of HasNumbers
+inequality_made l coeffs vars a c limit number z e f g n =
+    record { variables = two_variables l.var vars z f; numbers = two_made coeffs vars a c limit number e f g n }
+
+pub equation_made : (l : Lit) (coeffs : List ℤ) (vars : List ℕ) (a c limit number : ℤ) → l.var ≡ 0 → coeffs ≡ a ∷ c ∷ [] → vars ≡ 1 ∷ 2 ∷ [] → limit ≡ number → AreNumbers a c number → IsKernel 4 (Eq l coeffs vars limit)
+unfolding vars_of HasNumbers
+equation_made l coeffs vars a c limit number z e f g n =
+    record { variables = two_variables l.var vars z f; numbers = two_made coeffs vars a c limit number e f g n }
+
+none_linear : (limit : ℤ) → IsNumber limit → IsLinear [] [] limit
+none_linear limit n = record { same_length = refl; short = omega arith; coefficients = λ i h. absurd (omega arith); limit_in_range = n }
+
+pub no_terms_made : (l : Lit) (coeffs : List ℤ) (vars : List ℕ) (limit number : ℤ) → l.var ≡ 0 → coeffs ≡ [] → vars ≡ [] → limit ≡ number → IsNumber number → IsKernel 4 (Le l coeffs vars limit)
+unfolding vars_of HasNumbers
+no_terms_made l coeffs vars limit number z e f g n = record {
+  variables =
+      subst (λ (vs : List ℕ). AreVariables 4 (l.var ∷ vs)) (sym f)
+      (subst (λ (w : ℕ). AreVariables 4 (w ∷ [])) (sym z) (below_four (0 ∷ []) refl));
+  numbers =
+      subst (λ (y : ℤ). IsLinear coeffs vars y) (sym g)
+      (subst (λ (vs : List ℕ). IsLinear coeffs vs number) (sym f)
+      (subst (λ (cs : List ℤ). IsLinear cs [] number) (sym e) (none_linear number n)));
+}
+
+-- ---- arithmetic kernels
+
+pub product_kernel : IsKernel 4 (Times 0 1 2)
+unfolding vars_of HasNumbers
+product_kernel = record { variables = below_four (0 ∷ 1 ∷ 2 ∷ []) refl; numbers = tt }
+
+pub absolute_kernel : IsKernel 4 (Abs 0 1)
+unfolding vars_of HasNumbers
+absolute_kernel = record { variables = below_four (0 ∷ 1 ∷ []) refl; numbers = tt }
+
+-- ---- lists
+
+few_members : (n : ℕ) → n ≤ 9 → n ≤ member_limit
+unfolding member_limit
+few_members n h = omega arith
+
+few_literals : (n : ℕ) → n ≤ 9 → n ≤ literal_limit
+unfolding literal_limit
+few_literals n h = omega arith
+
+pub greatest_made : (xs : List ℕ) → xs ≡ 1 ∷ 2 ∷ [] → IsKernel 4 (Max 0 xs)
+unfolding vars_of HasNumbers
+greatest_made xs e = subst (λ (ys : List ℕ). IsKernel 4 (Max 0 ys)) (sym e) (record { variables = below_four (0 ∷ 1 ∷ 2 ∷ []) refl; numbers = few_members 2 (omega arith) })
+
+pub least_made : (xs : List ℕ) → xs ≡ 1 ∷ 2 ∷ [] → IsKernel 4 (Min 0 xs)
+unfolding vars_of HasNumbers
+least_made xs e = subst (λ (ys : List ℕ). IsKernel 4 (Min 0 ys)) (sym e) (record { variables = below_four (0 ∷ 1 ∷ 2 ∷ []) refl; numbers = few_members 2 (omega arith) })
+
+pub element_made : (xs : List ℕ) → xs ≡ 2 ∷ 3 ∷ 2 ∷ [] → IsKernel 4 (Element 0 xs 1)
+unfolding vars_of HasNumbers
+element_made xs e = subst (λ (ys : List ℕ). IsKernel 4 (Element 0 ys 1)) (sym e) (record { variables = below_four (0 ∷ 1 ∷ 2 ∷ 3 ∷ 2 ∷ []) refl; numbers = few_members 3 (omega arith) })
+
+pub clause_made : (lits : List Lit) → lits ≡ record { var = 0; positive = true } ∷ record { var = 1; positive = false } ∷ [] → IsKernel 4 (Clause lits)
+unfolding vars_of HasNumbers clause_vars
+clause_made lits e = subst (λ (ls : List Lit). IsKernel 4 (Clause ls)) (sym e) (record { variables = below_four (0 ∷ 1 ∷ []) refl; numbers = few_literals 2 (omega arith) })
+
+pub no_literals_made : (lits : List Lit) → lits ≡ [] → IsKernel 4 (Clause lits)
+unfolding vars_of HasNumbers clause_vars
+no_literals_made lits e = subst (λ (ls : List Lit). IsKernel 4 (Clause ls)) (sym e) (record { variables = below_four (0 ∷ []) refl; numbers = few_literals 0 (omega arith) })
+
+-- ---- sets
+
+-- the numbers from `first` to 1, from 4 to `middle` and from 9 to `last`
+abbrev pub three_ranges : ℤ → ℤ → ℤ → List (ℤ × ℤ)
+three_ranges first middle last = (first, pos 1) ∷ (pos 4, middle) ∷ (pos 9, last) ∷ []
+
+pub record AreEnds (first middle last : ℤ) : Type 0 where
+  pub first_number : IsNumber first
+  pub last_number : IsNumber last
+  pub first_range : first ≤ℤ pos 1
+  pub middle_range : pos 4 ≤ℤ middle
+  pub apart : middle ≤ℤ pos 7
+  pub last_range : pos 9 ≤ℤ last
+
+module _ (first middle last : ℤ) (h : AreEnds first middle last) where
+  three_all : (P : ℤ × ℤ → Type 0) → P (first, pos 1) → P (pos 4, middle) → P (pos 9, last) → All P (three_ranges first middle last)
+  three_all P a b c = All-cons P (first, pos 1) ((pos 4, middle) ∷ (pos 9, last) ∷ []) a (All-cons P (pos 4, middle) ((pos 9, last) ∷ []) b (All-cons P (pos 9, last) [] c (All-nil P)))
+
+  three_apart : AllPairs (λ r s. (r.1 +ℤ pos 1) <ℤ s.0) (three_ranges first middle last)
+  three_apart zero zero d k l = absurd (omega arith)
+  three_apart zero (suc zero) d k l = omega (arith, ints)
+  three_apart zero (suc (suc zero)) d k l = omega (arith, ints)
+  three_apart (suc zero) zero d k l = absurd (omega arith)
+  three_apart (suc zero) (suc zero) d k l = absurd (omega arith)
+  three_apart (suc zero) (suc (suc zero)) d k l = let a = h.apart in omega (arith, ints)
+  three_apart (suc (suc i)) zero d k l = absurd (omega arith)
+  three_apart (suc (suc i)) (suc zero) d k l = absurd (omega arith)
+  three_apart (suc (suc i)) (suc (suc zero)) d k l = absurd (omega arith)
+  three_apart i (suc (suc (suc j))) d k l = absurd (omega arith)
+
+  three_set : IsSet (three_ranges first middle last)
+  unfolding range_limit largest_number
+  three_set =
+      let a = h.middle_range in
+      let b = h.apart in
+      record {
+        short = omega arith;
+        firsts = three_all (λ r. IsNumber r.0) h.first_number (omega arith) (omega arith);
+        lasts = three_all (λ r. IsNumber r.1) (omega arith) (omega (arith, ints)) h.last_number;
+        ordered = three_all (λ r. r.0 ≤ℤ r.1) h.first_range h.middle_range h.last_range;
+        apart = three_apart;
+      }
+
+  pub in_set_made : (l : Lit) (ranges : List (ℤ × ℤ)) → l.var ≡ 0 → ranges ≡ three_ranges first middle last → IsKernel 4 (InSet l 1 ranges)
+  unfolding vars_of HasNumbers
+  in_set_made l ranges z e = subst (λ (rs : List (ℤ × ℤ)). IsKernel 4 (InSet l 1 rs)) (sym e) (record {
+    variables = subst (λ (v : ℕ). AreVariables 4 (v ∷ 1 ∷ [])) (sym z) (below_four (0 ∷ 1 ∷ []) refl);
+    numbers = three_set;
+  })

@@ -17,8 +17,6 @@ pub mod EqualityPlace
 pub mod TimesLaws
 pub mod AbsoluteLaws
 pub mod Examples
-pub mod ArithmeticExamples
-pub mod RowExamples
 pub mod CommonLaws
 pub mod ExtremeLaws
 pub mod MaximumLaws

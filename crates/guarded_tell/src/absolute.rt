@@ -17,12 +17,12 @@ pub fn visit_abs<H: Hear>(x: u32, y: u32, b: &BoxOf, h: &mut H)
     requires hearer { MayHearAll H.can_hear H.hears h.old (absolute.abs_tells x y b.now) }
     ensures { HearsAll H.hears h.old (absolute.abs_tells x y b.now) h.new }
 {
-    hear_absolute(x, y, b, h);
-    hear_away(x, y, b, h);
+    tell_absolute(x, y, b, h);
+    tell_away(x, y, b, h);
 }
 
 /// Tells that `y` is between the least and the greatest absolute value of `x`.
-fn hear_absolute<H: Hear>(x: u32, y: u32, b: &BoxOf, h: &mut H)
+fn tell_absolute<H: Hear>(x: u32, y: u32, b: &BoxOf, h: &mut H)
     requires x { x < length b.now }
     requires y { y < length b.now }
     requires hearer { MayHearAll H.can_hear H.hears h.old (absolute.absolute_tells x y b.now) }
@@ -35,18 +35,18 @@ fn hear_absolute<H: Hear>(x: u32, y: u32, b: &BoxOf, h: &mut H)
 }
 
 /// Tells how far from 0 `x` may be, and then how far it has to be.
-fn hear_away<H: Hear>(x: u32, y: u32, b: &BoxOf, h: &mut H)
+fn tell_away<H: Hear>(x: u32, y: u32, b: &BoxOf, h: &mut H)
     requires x { x < length b.now }
     requires y { y < length b.now }
     requires hearer { MayHearAll H.can_hear H.hears h.old (absolute.within_tells x y b.now ++ absolute.branch_tells x y b.now) }
     ensures { HearsAll H.hears h.old (absolute.within_tells x y b.now ++ absolute.branch_tells x y b.now) h.new }
 {
-    hear_within(x, y, b, h);
-    hear_branches(x, y, b, h);
+    tell_within(x, y, b, h);
+    tell_branches(x, y, b, h);
 }
 
 /// Tells that `x` is at most the high of `y` away from 0.
-fn hear_within<H: Hear>(x: u32, y: u32, b: &BoxOf, h: &mut H)
+fn tell_within<H: Hear>(x: u32, y: u32, b: &BoxOf, h: &mut H)
     requires y { y < length b.now }
     requires hearer { MayHearAll H.can_hear H.hears h.old (absolute.within_tells x y b.now) }
     ensures { HearsAll H.hears h.old (absolute.within_tells x y b.now) h.new }
@@ -57,18 +57,18 @@ fn hear_within<H: Hear>(x: u32, y: u32, b: &BoxOf, h: &mut H)
 }
 
 /// Tells that `x` is at least the low of `y` away from 0, where only one side is left.
-fn hear_branches<H: Hear>(x: u32, y: u32, b: &BoxOf, h: &mut H)
+fn tell_branches<H: Hear>(x: u32, y: u32, b: &BoxOf, h: &mut H)
     requires x { x < length b.now }
     requires y { y < length b.now }
     requires hearer { MayHearAll H.can_hear H.hears h.old (absolute.branch_tells x y b.now) }
     ensures { HearsAll H.hears h.old (absolute.branch_tells x y b.now) h.new }
 {
-    hear_above(x, y, b, h);
-    hear_below(x, y, b, h);
+    tell_above(x, y, b, h);
+    tell_below(x, y, b, h);
 }
 
 /// Tells that `x` is above 0, where it can't be far enough below.
-fn hear_above<H: Hear>(x: u32, y: u32, b: &BoxOf, h: &mut H)
+fn tell_above<H: Hear>(x: u32, y: u32, b: &BoxOf, h: &mut H)
     requires x { x < length b.now }
     requires y { y < length b.now }
     requires hearer { MayHearAll H.can_hear H.hears h.old (absolute.above_tells x y b.now) }
@@ -81,7 +81,7 @@ fn hear_above<H: Hear>(x: u32, y: u32, b: &BoxOf, h: &mut H)
 }
 
 /// Tells that `x` is below 0, where it can't be far enough above.
-fn hear_below<H: Hear>(x: u32, y: u32, b: &BoxOf, h: &mut H)
+fn tell_below<H: Hear>(x: u32, y: u32, b: &BoxOf, h: &mut H)
     requires x { x < length b.now }
     requires y { y < length b.now }
     requires hearer { MayHearAll H.can_hear H.hears h.old (absolute.below_tells x y b.now) }

@@ -20,12 +20,12 @@ pub fn visit_clause<H: Hear>(lits: &[Lit], b: &BoxOf, h: &mut H)
     if lits.is_empty() {
         h.hear(no_number(0));
     } else {
-        hear_some(lits, b, h);
+        tell_some(lits, b, h);
     }
 }
 
 /// Gives the tells of a clause of some literals.
-fn hear_some<H: Hear>(lits: &[Lit], b: &BoxOf, h: &mut H)
+fn tell_some<H: Hear>(lits: &[Lit], b: &BoxOf, h: &mut H)
     requires some { 0 < length lits.now }
     requires variables { AreVariables (length b.now) (clause_vars lits.now) }
     requires hearer { MayHearAll H.can_hear H.hears h.old (clause_tells lits.now b.now) }
@@ -33,7 +33,7 @@ fn hear_some<H: Hear>(lits: &[Lit], b: &BoxOf, h: &mut H)
 {
     let left = count_left(lits, b);
     if left < 2 {
-        hear_sole(lits, left, b, h);
+        tell_sole(lits, left, b, h);
     }
 }
 
@@ -72,19 +72,19 @@ fn count_left(lits: &[Lit], b: &BoxOf) -> usize
 }
 
 /// Tells each literal true beside which all others are out. `left` is how many aren't out.
-fn hear_sole<H: Hear>(lits: &[Lit], left: usize, b: &BoxOf, h: &mut H)
+fn tell_sole<H: Hear>(lits: &[Lit], left: usize, b: &BoxOf, h: &mut H)
     requires variables { AreLiterals (length b.now) lits.now }
     requires hearer { MayHearAll H.can_hear H.hears h.old (flat_map (sole_tell left b.now) lits.now) }
     ensures { HearsAll H.hears h.old (flat_map (sole_tell left b.now) lits.now) h.new }
 {
     for i in 0..lits.len() {
-        hear_where_sole(lits[i], left, b, h);
+        tell_where_sole(lits[i], left, b, h);
     }
 }
 
 /// Tells the literal true where no other of the `left` that aren't out is left.
 #[tactic(auto, unfolding(crate::specs::Clause::sole_tell))]
-fn hear_where_sole<H: Hear>(lit: Lit, left: usize, b: &BoxOf, h: &mut H)
+fn tell_where_sole<H: Hear>(lit: Lit, left: usize, b: &BoxOf, h: &mut H)
     requires variable { lit.var < length b.now }
     requires hearer { MayHearAll H.can_hear H.hears h.old (sole_tell left b.now lit) }
     ensures { HearsAll H.hears h.old (sole_tell left b.now lit) h.new }

@@ -35,13 +35,13 @@ pub fn visit_element<H: Hear>(x: u32, entries: &[u32], c: u32, b: &BoxOf, h: &mu
     requires hearer { MayHearAll H.can_hear H.hears h.old (element.element_tells x entries.now c b.now) }
     ensures { HearsAll H.hears h.old (element.element_tells x entries.now c b.now) h.new }
 {
-    hear_range(x, entries, h);
-    hear_places(x, entries, c, b, h);
+    tell_range(x, entries, h);
+    tell_places(x, entries, c, b, h);
 }
 
 /// Tells that x is a place of the list.
 #[tactic(auto, unfolding(crate::specs::Extremes::member_limit))]
-fn hear_range<H: Hear>(x: u32, entries: &[u32], h: &mut H)
+fn tell_range<H: Hear>(x: u32, entries: &[u32], h: &mut H)
     requires short { length entries.now ≤ member_limit }
     requires hearer { MayHearAll H.can_hear H.hears h.old (element.between_tells x (pos 1) (pos (length entries.now))) }
     ensures { HearsAll H.hears h.old (element.between_tells x (pos 1) (pos (length entries.now))) h.new }
@@ -51,7 +51,7 @@ fn hear_range<H: Hear>(x: u32, entries: &[u32], h: &mut H)
 }
 
 /// Tells what the places that are left say, and the place that x is fixed to.
-fn hear_places<H: Hear>(x: u32, entries: &[u32], c: u32, b: &BoxOf, h: &mut H)
+fn tell_places<H: Hear>(x: u32, entries: &[u32], c: u32, b: &BoxOf, h: &mut H)
     requires short { length entries.now ≤ member_limit }
     requires variables { AreVariables (length b.now) (x ∷ c ∷ entries.now) }
     requires hearer { MayHearAll H.can_hear H.hears h.old
@@ -61,12 +61,12 @@ fn hear_places<H: Hear>(x: u32, entries: &[u32], c: u32, b: &BoxOf, h: &mut H)
         (element.hull_tells x c b.now (filter (element.can_be x c b.now) (element.places_of entries.now))
         ++ flat_map (element.fixed_tells x c b.now) (element.places_of entries.now)) h.new }
 {
-    hear_left(x, entries, c, b, h);
-    hear_fixed(x, entries, c, b, h);
+    tell_left(x, entries, c, b, h);
+    tell_fixed(x, entries, c, b, h);
 }
 
 /// Tells that x and c lie within what is left.
-fn hear_left<H: Hear>(x: u32, entries: &[u32], c: u32, b: &BoxOf, h: &mut H)
+fn tell_left<H: Hear>(x: u32, entries: &[u32], c: u32, b: &BoxOf, h: &mut H)
     requires short { length entries.now ≤ member_limit }
     requires variables { AreVariables (length b.now) (x ∷ c ∷ entries.now) }
     requires hearer { MayHearAll H.can_hear H.hears h.old
@@ -75,7 +75,7 @@ fn hear_left<H: Hear>(x: u32, entries: &[u32], c: u32, b: &BoxOf, h: &mut H)
         (element.hull_tells x c b.now (filter (element.can_be x c b.now) (element.places_of entries.now))) h.new }
 {
     let hull = hull_of(x, entries, c, b);
-    hear_hull(x, c, hull, h);
+    tell_hull(x, c, hull, h);
 }
 
 /// The hull of the places that x can be, if there are any.
@@ -223,18 +223,18 @@ fn wider(hull: Hull, place: usize, y: u32, b: &BoxOf) -> Hull
 }
 
 /// Tells that x and c lie in the hull, or that there is none.
-fn hear_hull<H: Hear>(x: u32, c: u32, hull: Option<Hull>, h: &mut H)
+fn tell_hull<H: Hear>(x: u32, c: u32, hull: Option<Hull>, h: &mut H)
     requires { MayHearAll H.can_hear H.hears h.old (told_hull x c hull) }
     ensures { HearsAll H.hears h.old (told_hull x c hull) h.new }
 {
     match hull {
         None => h.hear(no_number(x)),
-        Some(hull) => hear_within(x, c, hull, h),
+        Some(hull) => tell_within(x, c, hull, h),
     }
 }
 
 /// Tells that x and c lie in the hull.
-fn hear_within<H: Hear>(x: u32, c: u32, hull: Hull, h: &mut H)
+fn tell_within<H: Hear>(x: u32, c: u32, hull: Hull, h: &mut H)
     requires { MayHearAll H.can_hear H.hears h.old
         (element.between_tells x hull.first hull.last ++ element.between_tells c hull.low hull.high) }
     ensures { HearsAll H.hears h.old
@@ -247,7 +247,7 @@ fn hear_within<H: Hear>(x: u32, c: u32, hull: Hull, h: &mut H)
 }
 
 /// Tells that c equals the variable at the place that x is fixed to, if it is fixed to one.
-fn hear_fixed<H: Hear>(x: u32, entries: &[u32], c: u32, b: &BoxOf, h: &mut H)
+fn tell_fixed<H: Hear>(x: u32, entries: &[u32], c: u32, b: &BoxOf, h: &mut H)
     requires short { length entries.now ≤ member_limit }
     requires variables { AreVariables (length b.now) (x ∷ c ∷ entries.now) }
     requires hearer { MayHearAll H.can_hear H.hears h.old
@@ -255,7 +255,7 @@ fn hear_fixed<H: Hear>(x: u32, entries: &[u32], c: u32, b: &BoxOf, h: &mut H)
     ensures { HearsAll H.hears h.old (flat_map (element.fixed_tells x c b.now) (element.places_of entries.now)) h.new }
 {
     if let Some(i) = fixed_at(x, entries.len(), b) {
-        hear_equal(entries[i], c, b, h);
+        tell_equal(entries[i], c, b, h);
     }
 }
 
@@ -277,18 +277,18 @@ fn fixed_at(x: u32, count: usize, b: &BoxOf) -> Option<usize>
 }
 
 /// Tells that y and c are equal.
-fn hear_equal<H: Hear>(y: u32, c: u32, b: &BoxOf, h: &mut H)
+fn tell_equal<H: Hear>(y: u32, c: u32, b: &BoxOf, h: &mut H)
     requires y { y < length b.now }
     requires c { c < length b.now }
     requires hearer { MayHearAll H.can_hear H.hears h.old (element.equal_tells y c b.now) }
     ensures { HearsAll H.hears h.old (element.equal_tells y c b.now) h.new }
 {
-    hear_inside(y, c, b, h);
-    hear_inside(c, y, b, h);
+    tell_inside(y, c, b, h);
+    tell_inside(c, y, b, h);
 }
 
 /// Tells that y lies within the bounds of c.
-fn hear_inside<H: Hear>(y: u32, c: u32, b: &BoxOf, h: &mut H)
+fn tell_inside<H: Hear>(y: u32, c: u32, b: &BoxOf, h: &mut H)
     requires c { c < length b.now }
     requires hearer { MayHearAll H.can_hear H.hears h.old (element.between_tells y (low_of b.now c) (high_of b.now c)) }
     ensures { HearsAll H.hears h.old (element.between_tells y (low_of b.now c) (high_of b.now c)) h.new }

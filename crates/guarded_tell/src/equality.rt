@@ -10,7 +10,7 @@ ghost use Rattle.guarded_tell.specs.Equality as equality;
 
 use crate::literals::{high_tell, is_out, is_sure, low_tell, tell_false, tell_true};
 use crate::terms::{
-    Range, hear_product_at_least, hear_product_at_most, room_for, sum_range, term_range,
+    Range, room_for, sum_range, tell_product_at_least, tell_product_at_most, term_range,
 };
 use crate::{Hear, Lit};
 use interval::BoxOf;
@@ -40,12 +40,12 @@ pub fn visit_eq<H: Hear>(lit: Lit, coeffs: &[i64], vars: &[u32], limit: i64, b: 
 {
     let sum = sum_range(coeffs, vars, b);
     let equation = Equation { sum, limit };
-    hear_equation(lit, equation, h);
-    hear_terms(lit, coeffs, vars, equation, b, h);
+    tell_equation(lit, equation, h);
+    tell_terms(lit, coeffs, vars, equation, b, h);
 }
 
 /// Tells the literal where the box decides the equation.
-fn hear_equation<H: Hear>(lit: Lit, equation: Equation, h: &mut H)
+fn tell_equation<H: Hear>(lit: Lit, equation: Equation, h: &mut H)
     requires { MayHearAll H.can_hear H.hears h.old
         (equality.equation_tells lit equation.limit equation.sum.least equation.sum.greatest) }
     ensures { HearsAll H.hears h.old
@@ -84,7 +84,7 @@ fn is_same(y: i128, z: i128) -> bool
 }
 
 /// Tells the bounds of the terms' variables where the box decides the literal.
-fn hear_terms<H: Hear>(
+fn tell_terms<H: Hear>(
     lit: Lit,
     coeffs: &[i64],
     vars: &[u32],
@@ -105,12 +105,12 @@ fn hear_terms<H: Hear>(
         ++ equality.unequal_tells lit (zip coeffs.now vars.now) equation.limit equation.sum.least equation.sum.greatest b.now)
         h.new }
 {
-    hear_where_sure(lit, coeffs, vars, equation, b, h);
-    hear_where_out(lit, coeffs, vars, equation, b, h);
+    tell_where_sure(lit, coeffs, vars, equation, b, h);
+    tell_where_out(lit, coeffs, vars, equation, b, h);
 }
 
 /// Tells that the sum is the limit, where the literal is sure.
-fn hear_where_sure<H: Hear>(
+fn tell_where_sure<H: Hear>(
     lit: Lit,
     coeffs: &[i64],
     vars: &[u32],
@@ -130,12 +130,12 @@ fn hear_where_sure<H: Hear>(
         h.new }
 {
     if is_sure(lit, b) {
-        hear_equal(coeffs, vars, equation, b, h);
+        tell_equal(coeffs, vars, equation, b, h);
     }
 }
 
 /// Tells that the sum isn't the limit, where the literal is out.
-fn hear_where_out<H: Hear>(
+fn tell_where_out<H: Hear>(
     lit: Lit,
     coeffs: &[i64],
     vars: &[u32],
@@ -155,12 +155,12 @@ fn hear_where_out<H: Hear>(
         h.new }
 {
     if is_out(lit, b) {
-        hear_unequal(coeffs, vars, equation, b, h);
+        tell_unequal(coeffs, vars, equation, b, h);
     }
 }
 
 /// Tells that the sum is the limit.
-fn hear_equal<H: Hear>(coeffs: &[i64], vars: &[u32], equation: Equation, b: &BoxOf, h: &mut H)
+fn tell_equal<H: Hear>(coeffs: &[i64], vars: &[u32], equation: Equation, b: &BoxOf, h: &mut H)
     requires linear { IsLinear coeffs.now vars.now equation.limit }
     requires variables { AreVariables (length b.now) vars.now }
     requires least_in_range { unsigned_abs equation.sum.least ≤ sum_limit }
@@ -172,12 +172,12 @@ fn hear_equal<H: Hear>(coeffs: &[i64], vars: &[u32], equation: Equation, b: &Box
 {
     for i in 0..coeffs.len() {
         let term = term_of(coeffs[i], vars[i], b);
-        hear_equal_term(term, equation, h);
+        tell_equal_term(term, equation, h);
     }
 }
 
 /// Tells that the sum isn't the limit.
-fn hear_unequal<H: Hear>(coeffs: &[i64], vars: &[u32], equation: Equation, b: &BoxOf, h: &mut H)
+fn tell_unequal<H: Hear>(coeffs: &[i64], vars: &[u32], equation: Equation, b: &BoxOf, h: &mut H)
     requires linear { IsLinear coeffs.now vars.now equation.limit }
     requires variables { AreVariables (length b.now) vars.now }
     requires least_in_range { unsigned_abs equation.sum.least ≤ sum_limit }
@@ -189,7 +189,7 @@ fn hear_unequal<H: Hear>(coeffs: &[i64], vars: &[u32], equation: Equation, b: &B
 {
     for i in 0..coeffs.len() {
         let term = term_of(coeffs[i], vars[i], b);
-        hear_unequal_term(term, equation, b, h);
+        tell_unequal_term(term, equation, b, h);
     }
 }
 
@@ -209,7 +209,7 @@ fn term_of(coeff: i64, var: u32, b: &BoxOf) -> Term
 }
 
 /// Tells that the term is what the others leave of the limit.
-fn hear_equal_term<H: Hear>(term: Term, equation: Equation, h: &mut H)
+fn tell_equal_term<H: Hear>(term: Term, equation: Equation, h: &mut H)
     requires limit { IsNumber equation.limit }
     requires least_sum { unsigned_abs equation.sum.least ≤ sum_limit }
     requires greatest_sum { unsigned_abs equation.sum.greatest ≤ sum_limit }
@@ -224,12 +224,12 @@ fn hear_equal_term<H: Hear>(term: Term, equation: Equation, h: &mut H)
 {
     let most = room_for(equation.limit, equation.sum.least, term.range.least);
     let least = room_for(equation.limit, equation.sum.greatest, term.range.greatest);
-    hear_product_at_most(term.var, term.coeff, most, h);
-    hear_product_at_least(term.var, term.coeff, least, h);
+    tell_product_at_most(term.var, term.coeff, most, h);
+    tell_product_at_least(term.var, term.coeff, least, h);
 }
 
 /// Tells that the term isn't what the others leave of the limit, where they are fixed.
-fn hear_unequal_term<H: Hear>(term: Term, equation: Equation, b: &BoxOf, h: &mut H)
+fn tell_unequal_term<H: Hear>(term: Term, equation: Equation, b: &BoxOf, h: &mut H)
     requires limit { IsNumber equation.limit }
     requires coefficient { IsNumber term.coeff }
     requires variable { term.var < length b.now }
@@ -247,7 +247,7 @@ fn hear_unequal_term<H: Hear>(term: Term, equation: Equation, b: &BoxOf, h: &mut
 {
     if are_others_fixed(term.range, equation.sum) {
         let product = room_for(equation.limit, equation.sum.least, term.range.least);
-        hear_product_is_not(term, product, b, h);
+        tell_product_is_not(term, product, b, h);
     }
 }
 
@@ -264,18 +264,18 @@ fn are_others_fixed(term: Range, sum: Range) -> bool
 }
 
 /// Tells that the term isn't `product`.
-fn hear_product_is_not<H: Hear>(term: Term, product: i128, b: &BoxOf, h: &mut H)
+fn tell_product_is_not<H: Hear>(term: Term, product: i128, b: &BoxOf, h: &mut H)
     requires coefficient { IsNumber term.coeff }
     requires variable { term.var < length b.now }
     requires hearer { MayHearAll H.can_hear H.hears h.old (equality.product_is_not term.var term.coeff product b.now) }
     ensures { HearsAll H.hears h.old (equality.product_is_not term.var term.coeff product b.now) h.new }
 {
-    hear_low_is_not(term, product, b, h);
-    hear_high_is_not(term, product, b, h);
+    tell_low_is_not(term, product, b, h);
+    tell_high_is_not(term, product, b, h);
 }
 
 /// Leaves the low of the term's variable out, where it makes the term `product`.
-fn hear_low_is_not<H: Hear>(term: Term, product: i128, b: &BoxOf, h: &mut H)
+fn tell_low_is_not<H: Hear>(term: Term, product: i128, b: &BoxOf, h: &mut H)
     requires coefficient { IsNumber term.coeff }
     requires variable { term.var < length b.now }
     requires hearer { MayHearAll H.can_hear H.hears h.old (equality.low_is_not term.var term.coeff product b.now) }
@@ -288,7 +288,7 @@ fn hear_low_is_not<H: Hear>(term: Term, product: i128, b: &BoxOf, h: &mut H)
 }
 
 /// Leaves the high of the term's variable out, where it makes the term `product`.
-fn hear_high_is_not<H: Hear>(term: Term, product: i128, b: &BoxOf, h: &mut H)
+fn tell_high_is_not<H: Hear>(term: Term, product: i128, b: &BoxOf, h: &mut H)
     requires coefficient { IsNumber term.coeff }
     requires variable { term.var < length b.now }
     requires hearer { MayHearAll H.can_hear H.hears h.old (equality.high_is_not term.var term.coeff product b.now) }

@@ -25,7 +25,7 @@ pub fn visit_in_set<H: Hear>(lit: Lit, x: u32, ranges: &[(i64, i64)], b: &BoxOf,
 {
     let first = first_from(ranges, x, b);
     let count = count_upto(ranges, x, b);
-    hear_at(lit, x, ranges, first, count, b, h);
+    tell_at(lit, x, ranges, first, count, b, h);
 }
 
 /// The place of the first range that ends at or after the low of x; past all where there is none.
@@ -61,7 +61,7 @@ fn count_upto(ranges: &[(i64, i64)], x: u32, b: &BoxOf) -> usize
 }
 
 /// Gives the tells by the two places.
-fn hear_at<H: Hear>(
+fn tell_at<H: Hear>(
     lit: Lit,
     x: u32,
     ranges: &[(i64, i64)],
@@ -76,12 +76,12 @@ fn hear_at<H: Hear>(
     requires hearer { MayHearAll H.can_hear H.hears h.old (set.in_set_tells_at lit x ranges.now first count b.now) }
     ensures { HearsAll H.hears h.old (set.in_set_tells_at lit x ranges.now first count b.now) h.new }
 {
-    hear_membership(lit, x, ranges, first, b, h);
-    hear_bounds(lit, x, ranges, first, count, b, h);
+    tell_membership(lit, x, ranges, first, b, h);
+    tell_bounds(lit, x, ranges, first, count, b, h);
 }
 
 /// Tells the literal where the box decides the membership.
-fn hear_membership<H: Hear>(
+fn tell_membership<H: Hear>(
     lit: Lit,
     x: u32,
     ranges: &[(i64, i64)],
@@ -144,7 +144,7 @@ fn meets(range: &(i64, i64), x: u32, b: &BoxOf) -> bool
 }
 
 /// Tells the bounds of x where the box decides the literal.
-fn hear_bounds<H: Hear>(
+fn tell_bounds<H: Hear>(
     lit: Lit,
     x: u32,
     ranges: &[(i64, i64)],
@@ -159,12 +159,12 @@ fn hear_bounds<H: Hear>(
     requires hearer { MayHearAll H.can_hear H.hears h.old (set.bound_tells_at lit x ranges.now first count b.now) }
     ensures { HearsAll H.hears h.old (set.bound_tells_at lit x ranges.now first count b.now) h.new }
 {
-    hear_where_sure(lit, x, ranges, first, count, b, h);
-    hear_where_out(lit, x, ranges, first, count, b, h);
+    tell_where_sure(lit, x, ranges, first, count, b, h);
+    tell_where_out(lit, x, ranges, first, count, b, h);
 }
 
 /// Tells that x is in the set, where the literal is sure.
-fn hear_where_sure<H: Hear>(
+fn tell_where_sure<H: Hear>(
     lit: Lit,
     x: u32,
     ranges: &[(i64, i64)],
@@ -182,12 +182,12 @@ fn hear_where_sure<H: Hear>(
         (words.when (words.is_sure lit b.now) (set.member_tells_at x ranges.now first count b.now)) h.new }
 {
     if is_sure(lit, b) {
-        hear_members(x, ranges, first, count, b, h);
+        tell_members(x, ranges, first, count, b, h);
     }
 }
 
 /// Tells that x isn't in the set, where the literal is out.
-fn hear_where_out<H: Hear>(
+fn tell_where_out<H: Hear>(
     lit: Lit,
     x: u32,
     ranges: &[(i64, i64)],
@@ -205,12 +205,12 @@ fn hear_where_out<H: Hear>(
         (words.when (words.is_out lit b.now) (set.gap_tells_at x ranges.now first count b.now)) h.new }
 {
     if is_out(lit, b) {
-        hear_gaps(x, ranges, first, count, b, h);
+        tell_gaps(x, ranges, first, count, b, h);
     }
 }
 
 /// Tells that x is in the set.
-fn hear_members<H: Hear>(
+fn tell_members<H: Hear>(
     x: u32,
     ranges: &[(i64, i64)],
     first: usize,
@@ -223,12 +223,12 @@ fn hear_members<H: Hear>(
     requires hearer { MayHearAll H.can_hear H.hears h.old (set.member_tells_at x ranges.now first count b.now) }
     ensures { HearsAll H.hears h.old (set.member_tells_at x ranges.now first count b.now) h.new }
 {
-    hear_from(x, ranges, first, b, h);
-    hear_upto(x, ranges, count, b, h);
+    tell_from(x, ranges, first, b, h);
+    tell_upto(x, ranges, count, b, h);
 }
 
 /// Tells that x isn't in the set.
-fn hear_gaps<H: Hear>(
+fn tell_gaps<H: Hear>(
     x: u32,
     ranges: &[(i64, i64)],
     first: usize,
@@ -241,12 +241,12 @@ fn hear_gaps<H: Hear>(
     requires hearer { MayHearAll H.can_hear H.hears h.old (set.gap_tells_at x ranges.now first count b.now) }
     ensures { HearsAll H.hears h.old (set.gap_tells_at x ranges.now first count b.now) h.new }
 {
-    hear_past(x, ranges, first, b, h);
-    hear_before(x, ranges, count, b, h);
+    tell_past(x, ranges, first, b, h);
+    tell_before(x, ranges, count, b, h);
 }
 
 /// Tells that x is at least the least number from its low on in the range at the place.
-fn hear_from<H: Hear>(x: u32, ranges: &[(i64, i64)], place: usize, b: &BoxOf, h: &mut H)
+fn tell_from<H: Hear>(x: u32, ranges: &[(i64, i64)], place: usize, b: &BoxOf, h: &mut H)
     requires variable { x < length b.now }
     requires hearer { MayHearAll H.can_hear H.hears h.old (set.from_tells x (low_of b.now x) (at_place ranges.now place)) }
     ensures { HearsAll H.hears h.old (set.from_tells x (low_of b.now x) (at_place ranges.now place)) h.new }
@@ -265,7 +265,7 @@ fn from_tell(range: &(i64, i64), x: u32, b: &BoxOf) -> Tell
 }
 
 /// Tells that x is at most the greatest number up to its high in the last of the first `count` ranges.
-fn hear_upto<H: Hear>(x: u32, ranges: &[(i64, i64)], count: usize, b: &BoxOf, h: &mut H)
+fn tell_upto<H: Hear>(x: u32, ranges: &[(i64, i64)], count: usize, b: &BoxOf, h: &mut H)
     requires variable { x < length b.now }
     requires count { count ≤ length ranges.now }
     requires hearer { MayHearAll H.can_hear H.hears h.old (set.upto_tells x (high_of b.now x) (last_of ranges.now count)) }
@@ -285,19 +285,19 @@ fn upto_tell(range: &(i64, i64), x: u32, b: &BoxOf) -> Tell
 }
 
 /// Tells that x is past the range at the place, if that range has its low.
-fn hear_past<H: Hear>(x: u32, ranges: &[(i64, i64)], place: usize, b: &BoxOf, h: &mut H)
+fn tell_past<H: Hear>(x: u32, ranges: &[(i64, i64)], place: usize, b: &BoxOf, h: &mut H)
     requires variable { x < length b.now }
     requires hearer { MayHearAll H.can_hear H.hears h.old
         (flat_map (set.past_tells x (low_of b.now x)) (at_place ranges.now place)) }
     ensures { HearsAll H.hears h.old (flat_map (set.past_tells x (low_of b.now x)) (at_place ranges.now place)) h.new }
 {
     if place < ranges.len() {
-        hear_past_range(&ranges[place], x, b, h);
+        tell_past_range(&ranges[place], x, b, h);
     }
 }
 
 /// Tells that x is past the range, if it has the low of x.
-fn hear_past_range<H: Hear>(range: &(i64, i64), x: u32, b: &BoxOf, h: &mut H)
+fn tell_past_range<H: Hear>(range: &(i64, i64), x: u32, b: &BoxOf, h: &mut H)
     requires variable { x < length b.now }
     requires hearer { MayHearAll H.can_hear H.hears h.old (set.past_tells x (low_of b.now x) range.now) }
     ensures { HearsAll H.hears h.old (set.past_tells x (low_of b.now x) range.now) h.new }
@@ -316,7 +316,7 @@ fn has_low(range: &(i64, i64), x: u32, b: &BoxOf) -> bool
 }
 
 /// Tells that x is before the last of the first `count` ranges, if that range has its high.
-fn hear_before<H: Hear>(x: u32, ranges: &[(i64, i64)], count: usize, b: &BoxOf, h: &mut H)
+fn tell_before<H: Hear>(x: u32, ranges: &[(i64, i64)], count: usize, b: &BoxOf, h: &mut H)
     requires variable { x < length b.now }
     requires count { count ≤ length ranges.now }
     requires hearer { MayHearAll H.can_hear H.hears h.old
@@ -324,12 +324,12 @@ fn hear_before<H: Hear>(x: u32, ranges: &[(i64, i64)], count: usize, b: &BoxOf, 
     ensures { HearsAll H.hears h.old (flat_map (set.before_tells x (high_of b.now x)) (last_of ranges.now count)) h.new }
 {
     if count > 0 {
-        hear_before_range(&ranges[count - 1], x, b, h);
+        tell_before_range(&ranges[count - 1], x, b, h);
     }
 }
 
 /// Tells that x is before the range, if it has the high of x.
-fn hear_before_range<H: Hear>(range: &(i64, i64), x: u32, b: &BoxOf, h: &mut H)
+fn tell_before_range<H: Hear>(range: &(i64, i64), x: u32, b: &BoxOf, h: &mut H)
     requires variable { x < length b.now }
     requires hearer { MayHearAll H.can_hear H.hears h.old (set.before_tells x (high_of b.now x) range.now) }
     ensures { HearsAll H.hears h.old (set.before_tells x (high_of b.now x) range.now) h.new }

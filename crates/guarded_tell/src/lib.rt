@@ -12,15 +12,17 @@ mod in_set;
 mod kernel;
 mod laws;
 mod linear;
+#[cfg(test)]
+mod linear_tests;
+#[cfg(test)]
+mod list_tests;
 mod literals;
 mod maximum;
 mod minimum;
-#[cfg(test)]
-mod rows;
 mod tell;
 mod terms;
 #[cfg(test)]
-mod tests;
+mod test_support;
 mod times;
 mod visit;
 

@@ -10,7 +10,7 @@ ghost use Rattle.guarded_tell.specs.Linear.{sum_limit, product_limit, at_most_te
 
 use crate::literals::{is_out, is_sure, tell_false, tell_true};
 use crate::terms::{
-    Range, hear_product_at_least, hear_product_at_most, room_for, sum_range, term_range,
+    Range, room_for, sum_range, tell_product_at_least, tell_product_at_most, term_range,
 };
 use crate::{Hear, Lit};
 use interval::BoxOf;
@@ -23,12 +23,12 @@ pub fn visit_le<H: Hear>(lit: Lit, coeffs: &[i64], vars: &[u32], limit: i64, b: 
     ensures { HearsAll H.hears h.old (at_most_tells lit coeffs.now vars.now limit b.now) h.new }
 {
     let sum = sum_range(coeffs, vars, b);
-    hear_literal(lit, limit, sum, h);
-    hear_bounds(lit, coeffs, vars, limit, sum, b, h);
+    tell_literal(lit, limit, sum, h);
+    tell_bounds(lit, coeffs, vars, limit, sum, b, h);
 }
 
 /// Tells the literal where the box decides the inequality.
-fn hear_literal<H: Hear>(lit: Lit, limit: i64, sum: Range, h: &mut H)
+fn tell_literal<H: Hear>(lit: Lit, limit: i64, sum: Range, h: &mut H)
     requires { MayHearAll H.can_hear H.hears h.old (literal_tells lit limit sum.least sum.greatest) }
     ensures { HearsAll H.hears h.old (literal_tells lit limit sum.least sum.greatest) h.new }
 {
@@ -41,7 +41,7 @@ fn hear_literal<H: Hear>(lit: Lit, limit: i64, sum: Range, h: &mut H)
 }
 
 /// Tells the bounds of the terms' variables where the box decides the literal.
-fn hear_bounds<H: Hear>(
+fn tell_bounds<H: Hear>(
     lit: Lit,
     coeffs: &[i64],
     vars: &[u32],
@@ -59,12 +59,12 @@ fn hear_bounds<H: Hear>(
         (bound_tells lit (zip coeffs.now vars.now) limit sum.least sum.greatest b.now) }
     ensures { HearsAll H.hears h.old (bound_tells lit (zip coeffs.now vars.now) limit sum.least sum.greatest b.now) h.new }
 {
-    hear_where_sure(lit, coeffs, vars, limit, sum.least, b, h);
-    hear_where_out(lit, coeffs, vars, limit, sum.greatest, b, h);
+    tell_where_sure(lit, coeffs, vars, limit, sum.least, b, h);
+    tell_where_out(lit, coeffs, vars, limit, sum.greatest, b, h);
 }
 
 /// Tells that the sum is at most the limit, where the literal is sure.
-fn hear_where_sure<H: Hear>(
+fn tell_where_sure<H: Hear>(
     lit: Lit,
     coeffs: &[i64],
     vars: &[u32],
@@ -81,12 +81,12 @@ fn hear_where_sure<H: Hear>(
     ensures { HearsAll H.hears h.old (sure_tells lit (zip coeffs.now vars.now) limit least b.now) h.new }
 {
     if is_sure(lit, b) {
-        hear_at_most(coeffs, vars, limit, least, b, h);
+        tell_at_most(coeffs, vars, limit, least, b, h);
     }
 }
 
 /// Tells that the sum is more than the limit, where the literal is out.
-fn hear_where_out<H: Hear>(
+fn tell_where_out<H: Hear>(
     lit: Lit,
     coeffs: &[i64],
     vars: &[u32],
@@ -103,12 +103,12 @@ fn hear_where_out<H: Hear>(
     ensures { HearsAll H.hears h.old (out_tells lit (zip coeffs.now vars.now) limit greatest b.now) h.new }
 {
     if is_out(lit, b) {
-        hear_more_than(coeffs, vars, limit, greatest, b, h);
+        tell_more_than(coeffs, vars, limit, greatest, b, h);
     }
 }
 
 /// Tells that the sum is at most the limit.
-fn hear_at_most<H: Hear>(
+fn tell_at_most<H: Hear>(
     coeffs: &[i64],
     vars: &[u32],
     limit: i64,
@@ -126,12 +126,12 @@ fn hear_at_most<H: Hear>(
     for i in 0..coeffs.len() {
         let term = term_range(coeffs[i], vars[i], b);
         let room = room_for(limit, least, term.least);
-        hear_product_at_most(vars[i], coeffs[i], room, h);
+        tell_product_at_most(vars[i], coeffs[i], room, h);
     }
 }
 
 /// Tells that the sum is more than the limit.
-fn hear_more_than<H: Hear>(
+fn tell_more_than<H: Hear>(
     coeffs: &[i64],
     vars: &[u32],
     limit: i64,
@@ -149,7 +149,7 @@ fn hear_more_than<H: Hear>(
     for i in 0..coeffs.len() {
         let term = term_range(coeffs[i], vars[i], b);
         let room = room_more_than(limit, greatest, term.greatest);
-        hear_product_at_least(vars[i], coeffs[i], room, h);
+        tell_product_at_least(vars[i], coeffs[i], room, h);
     }
 }
 

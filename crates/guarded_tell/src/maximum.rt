@@ -30,24 +30,24 @@ pub fn visit_max<H: Hear>(m: u32, xs: &[u32], b: &BoxOf, h: &mut H)
     if xs.is_empty() {
         h.hear(no_number(m));
     } else {
-        hear_greatest(m, xs, b, h);
+        tell_greatest(m, xs, b, h);
     }
 }
 
 /// Gives the tells of: m is the greatest of some variables.
-fn hear_greatest<H: Hear>(m: u32, xs: &[u32], b: &BoxOf, h: &mut H)
+fn tell_greatest<H: Hear>(m: u32, xs: &[u32], b: &BoxOf, h: &mut H)
     requires some { 0 < length xs.now }
     requires variables { AreVariables (length b.now) (m ∷ xs.now) }
     requires hearer { MayHearAll H.can_hear H.hears h.old (max_some_tells m xs.now b.now) }
     ensures { HearsAll H.hears h.old (max_some_tells m xs.now b.now) h.new }
 {
     let reach = reach_of(xs, b);
-    hear_reach(m, reach, h);
-    hear_members(m, xs, b, h);
+    tell_reach(m, reach, h);
+    tell_members(m, xs, b, h);
 }
 
 /// Tells that m lies in the reach.
-fn hear_reach<H: Hear>(m: u32, reach: Reach, h: &mut H)
+fn tell_reach<H: Hear>(m: u32, reach: Reach, h: &mut H)
     requires { MayHearAll H.can_hear H.hears h.old (words.low_tell m reach.low ∷ words.high_tell m reach.high ∷ []) }
     ensures { HearsAll H.hears h.old (words.low_tell m reach.low ∷ words.high_tell m reach.high ∷ []) h.new }
 {
@@ -85,28 +85,28 @@ fn reach_with(reach: Reach, x: u32, b: &BoxOf) -> Reach
 }
 
 /// Tells the variables of the list.
-fn hear_members<H: Hear>(m: u32, xs: &[u32], b: &BoxOf, h: &mut H)
+fn tell_members<H: Hear>(m: u32, xs: &[u32], b: &BoxOf, h: &mut H)
     requires variables { AreVariables (length b.now) (m ∷ xs.now) }
     requires hearer { MayHearAll H.can_hear H.hears h.old (max_member_tells m xs.now b.now) }
     ensures { HearsAll H.hears h.old (max_member_tells m xs.now b.now) h.new }
 {
-    hear_each(m, xs, b, h);
-    hear_sole(m, xs, b, h);
+    tell_each(m, xs, b, h);
+    tell_sole(m, xs, b, h);
 }
 
 /// Tells that no variable of the list is greater than m can be.
-fn hear_each<H: Hear>(m: u32, xs: &[u32], b: &BoxOf, h: &mut H)
+fn tell_each<H: Hear>(m: u32, xs: &[u32], b: &BoxOf, h: &mut H)
     requires variables { AreVariables (length b.now) (m ∷ xs.now) }
     requires hearer { MayHearAll H.can_hear H.hears h.old (told_each (λ x. words.high_tell x (high_of b.now m)) xs.now) }
     ensures { HearsAll H.hears h.old (told_each (λ x. words.high_tell x (high_of b.now m)) xs.now) h.new }
 {
     for i in 0..xs.len() {
-        hear_limit(m, xs[i], b, h);
+        tell_limit(m, xs[i], b, h);
     }
 }
 
 /// Tells that the variable isn't greater than m can be.
-fn hear_limit<H: Hear>(m: u32, x: u32, b: &BoxOf, h: &mut H)
+fn tell_limit<H: Hear>(m: u32, x: u32, b: &BoxOf, h: &mut H)
     requires m { m < length b.now }
     requires hearer { MayHearAll H.can_hear H.hears h.old (words.high_tell x (high_of b.now m) ∷ []) }
     ensures { HearsAll H.hears h.old (words.high_tell x (high_of b.now m) ∷ []) h.new }
@@ -115,7 +115,7 @@ fn hear_limit<H: Hear>(m: u32, x: u32, b: &BoxOf, h: &mut H)
 }
 
 /// Where one variable alone can be as great as m, tells that it is.
-fn hear_sole<H: Hear>(m: u32, xs: &[u32], b: &BoxOf, h: &mut H)
+fn tell_sole<H: Hear>(m: u32, xs: &[u32], b: &BoxOf, h: &mut H)
     requires variables { AreVariables (length b.now) (m ∷ xs.now) }
     requires hearer { MayHearAll H.can_hear H.hears h.old
         (told_of (λ x. words.low_tell x (low_of b.now m)) (sole (filter (max_reaches m b.now) xs.now))) }
@@ -123,11 +123,11 @@ fn hear_sole<H: Hear>(m: u32, xs: &[u32], b: &BoxOf, h: &mut H)
         (told_of (λ x. words.low_tell x (low_of b.now m)) (sole (filter (max_reaches m b.now) xs.now))) h.new }
 {
     let found = sole_reaching(m, xs, b);
-    hear_found(m, found, b, h);
+    tell_found(m, found, b, h);
 }
 
 /// Tells the variable that was found, if one was, that it isn't less than m can be.
-fn hear_found<H: Hear>(m: u32, found: Option<u32>, b: &BoxOf, h: &mut H)
+fn tell_found<H: Hear>(m: u32, found: Option<u32>, b: &BoxOf, h: &mut H)
     requires m { m < length b.now }
     requires hearer { MayHearAll H.can_hear H.hears h.old (told_of (λ x. words.low_tell x (low_of b.now m)) found) }
     ensures { HearsAll H.hears h.old (told_of (λ x. words.low_tell x (low_of b.now m)) found) h.new }

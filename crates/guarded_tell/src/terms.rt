@@ -88,20 +88,21 @@ pub fn room_for(limit: i64, sum: i128, term: i128) -> i128
 }
 
 /// Tells that `coeff` times the variable is at most `room`.
-pub fn hear_product_at_most<H: Hear>(var: u32, coeff: i64, room: i128, h: &mut H)
+pub fn tell_product_at_most<H: Hear>(var: u32, coeff: i64, room: i128, h: &mut H)
     requires dividend { unsigned_abs room ≤ dividend_limit }
     requires hearer { MayHearAll H.can_hear H.hears h.old (product_at_most var coeff room) }
     ensures { HearsAll H.hears h.old (product_at_most var coeff room) h.new }
 {
     if coeff > 0 {
-        h.hear(high_tell(var, floor_div(room, coeff as i128)));
+        let greatest = floor_div(room, coeff as i128);
+        h.hear(high_tell(var, greatest));
     } else if coeff < 0 {
         h.hear(low_tell(var, ceil_div(room, coeff as i128)));
     }
 }
 
 /// Tells that `coeff` times the variable is at least `room`.
-pub fn hear_product_at_least<H: Hear>(var: u32, coeff: i64, room: i128, h: &mut H)
+pub fn tell_product_at_least<H: Hear>(var: u32, coeff: i64, room: i128, h: &mut H)
     requires dividend { unsigned_abs room ≤ dividend_limit }
     requires hearer { MayHearAll H.can_hear H.hears h.old (product_at_least var coeff room) }
     ensures { HearsAll H.hears h.old (product_at_least var coeff room) h.new }

@@ -21,23 +21,23 @@ pub fn visit_times<H: Hear>(x: u32, y: u32, z: u32, b: &BoxOf, h: &mut H)
     requires hearer { MayHearAll H.can_hear H.hears h.old (times.times_tells x y z b.now) }
     ensures { HearsAll H.hears h.old (times.times_tells x y z b.now) h.new }
 {
-    hear_product(x, y, z, b, h);
-    hear_factors(x, y, z, b, h);
+    tell_product(x, y, z, b, h);
+    tell_factors(x, y, z, b, h);
 }
 
 /// Tells that `z` is between the corner products.
-fn hear_product<H: Hear>(x: u32, y: u32, z: u32, b: &BoxOf, h: &mut H)
+fn tell_product<H: Hear>(x: u32, y: u32, z: u32, b: &BoxOf, h: &mut H)
     requires x { x < length b.now }
     requires y { y < length b.now }
     requires hearer { MayHearAll H.can_hear H.hears h.old (times.product_tells x y z b.now) }
     ensures { HearsAll H.hears h.old (times.product_tells x y z b.now) h.new }
 {
     let corners = corners_of(x, y, b);
-    hear_between(z, corners, h);
+    tell_between(z, corners, h);
 }
 
 /// Tells that each factor is between the corner quotients, where the other isn't 0.
-fn hear_factors<H: Hear>(x: u32, y: u32, z: u32, b: &BoxOf, h: &mut H)
+fn tell_factors<H: Hear>(x: u32, y: u32, z: u32, b: &BoxOf, h: &mut H)
     requires x { x < length b.now }
     requires y { y < length b.now }
     requires z { z < length b.now }
@@ -46,12 +46,12 @@ fn hear_factors<H: Hear>(x: u32, y: u32, z: u32, b: &BoxOf, h: &mut H)
     requires hearer { MayHearAll H.can_hear H.hears h.old (times.factor_tells x y z b.now ++ times.factor_tells y x z b.now) }
     ensures { HearsAll H.hears h.old (times.factor_tells x y z b.now ++ times.factor_tells y x z b.now) h.new }
 {
-    hear_factor(x, y, z, b, h);
-    hear_factor(y, x, z, b, h);
+    tell_factor(x, y, z, b, h);
+    tell_factor(y, x, z, b, h);
 }
 
 /// Tells that `x` is between the corner quotients of `z` by `y`, where 0 isn't in `y`.
-fn hear_factor<H: Hear>(x: u32, y: u32, z: u32, b: &BoxOf, h: &mut H)
+fn tell_factor<H: Hear>(x: u32, y: u32, z: u32, b: &BoxOf, h: &mut H)
     requires y { y < length b.now }
     requires z { z < length b.now }
     requires y_proper { low_of b.now y ≤ℤ high_of b.now y }
@@ -60,12 +60,12 @@ fn hear_factor<H: Hear>(x: u32, y: u32, z: u32, b: &BoxOf, h: &mut H)
 {
     let divisor = range_of(b, y);
     if excludes_zero(divisor) {
-        hear_quotient(x, range_of(b, z), divisor, h);
+        tell_quotient(x, range_of(b, z), divisor, h);
     }
 }
 
 /// Tells that `x` is between the corner quotients of `z` by `y`.
-fn hear_quotient<H: Hear>(x: u32, z: (i64, i64), y: (i64, i64), h: &mut H)
+fn tell_quotient<H: Hear>(x: u32, z: (i64, i64), y: (i64, i64), h: &mut H)
     requires z_low { IsBound z.0 }
     requires z_high { IsBound z.1 }
     requires y_proper { y.0 ≤ℤ y.1 }
@@ -74,11 +74,11 @@ fn hear_quotient<H: Hear>(x: u32, z: (i64, i64), y: (i64, i64), h: &mut H)
     ensures { HearsAll H.hears h.old (times.quotient_tells x z y) h.new }
 {
     let corners = corner_quotients(z, y);
-    hear_between(x, corners, h);
+    tell_between(x, corners, h);
 }
 
 /// Tells that `var` is between these two.
-fn hear_between<H: Hear>(var: u32, bounds: (i128, i128), h: &mut H)
+fn tell_between<H: Hear>(var: u32, bounds: (i128, i128), h: &mut H)
     requires hearer { MayHearAll H.can_hear H.hears h.old (words.low_tell var bounds.0 ∷ words.high_tell var bounds.1 ∷ []) }
     ensures { HearsAll H.hears h.old (words.low_tell var bounds.0 ∷ words.high_tell var bounds.1 ∷ []) h.new }
 {

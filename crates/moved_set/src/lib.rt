@@ -9,3 +9,6 @@ mod set;
 
 pub use masks::Masks;
 pub use set::MovedSet;
+
+#[cfg(test)]
+mod tests;

@@ -1,3 +1,6 @@
+pub mod BoxLaws
+pub mod CutLaws
+pub mod PremiseLaws
 pub mod EndLaws
 pub mod Examples
 pub mod NodeLaws
@@ -5,3 +8,7 @@ pub mod ValueLaws
 pub mod StackLaws
 pub mod RunLaws
 pub mod SearchLaws
+pub mod LeastLaws
+pub mod LimitLaws
+pub mod PostedLaws
+pub mod CostLaws

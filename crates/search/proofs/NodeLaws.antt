@@ -1,6 +1,5 @@
 -- What a node does to the stack, by what became of its settled box.
 use Rattle.std.proofs.Common.{ℤ, inl, inr, List, [], ◌∷◌, sym, ◌∙◌, refl, append-nil}
-use Rattle.std.specs.Prelude.{Result, Ok, Err, OnOk}
 use Rattle.interval.specs.Boxes.{Bounds}
 use Rattle.guarded_tell.specs.declared.kernel.Kernel.{Kernel}
 use Rattle.fixpoint_laws.specs.Fixpoints.{IsGreatest, Fails}
@@ -8,10 +7,6 @@ use Rattle.constraint_model.specs.declared.model.FznModel.{FznModel}
 use Rattle.branching.specs.Tree.{values_of}
 use Rattle.search.specs.Machine.{is_dropped, is_solved, is_parted}
 use Rattle.search.specs.Nodes.{IsSettled, IsNode}
-
-pub on_ok : {A E : Type 0} (P Q : Type 0) (r : Result A E) → (P → Q) → OnOk r P → OnOk r Q
-on_ok P Q (Ok value) f h = f h
-on_ok P Q (Err error) f h = h
 
 module _ (model : FznModel) (kernels : List Kernel) (top : Bounds) (before : List Bounds) (found : List (List ℤ)) where
   pub node_dropped : Fails top kernels → IsNode model kernels top before before found found

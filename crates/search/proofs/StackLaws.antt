@@ -1,16 +1,16 @@
--- The boxes of the stack: they fit the kernels, and they weigh less after each node.
-use Rattle.std.proofs.Common.{◌≡◌, ◌≢◌, ℕ, zero, suc, ℤ, ◌+◌, ◌<◌, ◌≤◌, Bool, List, [], ◌∷◌, ◌++◌, length, sym, ap, subst, ◌∙◌, arith, length-append}
+-- The boxes of the stack: they lie inside the one that is searched, and weigh less after each node.
+use Rattle.std.proofs.Common.{◌≡◌, ◌≢◌, ℕ, zero, suc, ℤ, pos, ◌+◌, ◌-ℤ◌, ◌<◌, ◌≤◌, List, [], ◌∷◌, ◌++◌, length, Option, Some, None, sym, ap, subst, ◌∙◌, arith, length-append}
 use Rattle.std.specs.List.{All, sum_by}
 use Rattle.std.proofs.lemmas.List.Sums.{sum_by-append}
 use Rattle.std.proofs.lemmas.List.Elements.{All-nil, All-cons, All-head, All-tail, All-append}
-use Rattle.interval.specs.Boxes.{Bounds, IsInRange, InsideOrder, width_sum_of}
-use Rattle.guarded_tell.specs.declared.kernel.Kernel.{Kernel}
+use Rattle.interval.specs.Boxes.{Bounds, IsInRange, IsInside, IsProper, InsideOrder, width_sum_of}
 use Rattle.fixpoint_laws.specs.Fixpoints.{IsGreatest}
-use Rattle.constraint_model.specs.declared.model.FznModel.{FznModel}
 use Rattle.constraint_model.specs.Searches.{IsSearchOf}
-use Rattle.branching.specs.Parts.{IsBranch, AreParts}
+use Rattle.branching.specs.Parts.{IsBranch, IsPart, AreParts}
 use Rattle.branching.specs.Tree.{BranchLaws}
-use Rattle.search.specs.Machine.{State, Node, is_dropped, is_solved, is_parted, Reached, begun, stepped}
+use Rattle.search.specs.declared.kind.Kind.{Kind}
+use Rattle.search.specs.Machine.{Search, State, Node, is_dropped, is_solved, is_parted, cut_by, Reached, begun, stepped}
+use Rattle.search.proofs.CutLaws.{at_most_inside}
 
 -- 3 to the power of n
 unfoldable pub power : ℕ → ℕ
@@ -48,49 +48,68 @@ module _ {A : Type 0} (P : A → Type 0) where
 pub some_left : {A : Type 0} (xs ys : List A) (x : A) → xs ≡ ys ++ x ∷ [] → xs ≢ []
 some_left xs ys x e n = absurd (omega (arith, ap length e, ap length n, length-append ys (x ∷ [])))
 
--- a box of this length, in range
-pub record Fits (n : ℕ) (b : Bounds) : Type 0 where
-  pub same_length : length b ≡ n
-  pub range : IsInRange b
+module _ (order : InsideOrder) (branches : BranchLaws) (s : Search) (rule : IsSearchOf s.model) (long : length s.model.vars < length s.sub) (range : IsInRange s.sub) where
+  -- a box inside the one that is searched
+  pub record Lies (b : Bounds) : Type 0 where
+    pub inside : IsInside b s.sub
+    pub in_range : IsInRange b
 
-module _ (order : InsideOrder) (branches : BranchLaws) (model : FznModel) (rule : IsSearchOf model) (kernels : List Kernel) (n : ℕ) (long : length model.vars < n) where
-  greatest_fits : (top g : Bounds) → Fits n top → IsGreatest g top kernels → Fits n g
-  greatest_fits top g f gr = record { same_length = gr.inside.same_length ∙ f.same_length; range = order.in_range g top gr.closed.proper f.range gr.inside }
+  pub sub_lies : Lies s.sub
+  sub_lies = record { inside = order.itself s.sub; in_range = range }
 
-  parts_of : (top g left right : Bounds) → Fits n top → IsGreatest g top kernels → IsBranch model g left right → AreParts g left right
-  parts_of top g left right f gr br =
-      let k = greatest_fits top g f gr in
-      branches.parts model g left right rule (let e = k.same_length in omega arith) k.range gr.closed.proper br
+  -- what a node looks at is inside its box
+  pub cut_inside : (k : Kind) (best : Option ℤ) (b : Bounds) → IsInside (cut_by k s.model.goal best b) b
+  cut_inside Kind.Least (Some best) b = at_most_inside order s.model.goal (best -ℤ pos 1) b
+  cut_inside Kind.Least None b = order.itself b
+  cut_inside Kind.First best b = order.itself b
+  cut_inside Kind.All best b = order.itself b
 
-  back_fits : (top : Bounds) (back : List Bounds) (recorded : List (List ℤ)) → Fits n top → Node model kernels top back recorded → All (Fits n) back
-  back_fits top back recorded f (is_dropped _ _ _ _ _ fails none nothing) = subst (All (Fits n)) (sym none) (All-nil (Fits n))
-  back_fits top back recorded f (is_solved _ _ _ _ _ g gr all none one) = subst (All (Fits n)) (sym none) (All-nil (Fits n))
-  back_fits top back recorded f (is_parted _ _ _ _ _ g left right gr br two nothing) =
-      let p = parts_of top g left right f gr br in
-      let e = (greatest_fits top g f gr).same_length in
-      subst (All (Fits n)) (sym two)
-      (All-cons (Fits n) right (left ∷ []) (record { same_length = p.second_part.inside.same_length ∙ e; range = p.second_part.in_range })
-      (All-cons (Fits n) left [] (record { same_length = p.first_part.inside.same_length ∙ e; range = p.first_part.in_range }) (All-nil (Fits n))))
+  pub greatest_lies : (top seen g : Bounds) → Lies top → IsInside seen top → IsGreatest g seen s.kernels → Lies g
+  greatest_lies top seen g l i gr =
+      let j = order.through g seen top gr.inside i in
+      record { inside = order.through g top s.sub j l.inside; in_range = order.in_range g top gr.closed.proper l.in_range j }
 
-  pub back_less : (top : Bounds) (back : List Bounds) (recorded : List (List ℤ)) → Fits n top → Node model kernels top back recorded → sum_by weight back < weight top
-  back_less top back recorded f (is_dropped _ _ _ _ _ fails none nothing) = omega (arith, ap (sum_by weight) none, power_more (width_sum_of top))
-  back_less top back recorded f (is_solved _ _ _ _ _ g gr all none one) = omega (arith, ap (sum_by weight) none, power_more (width_sum_of top))
-  back_less top back recorded f (is_parted _ _ _ _ _ g left right gr br two nothing) =
-      let p = parts_of top g left right f gr br in
-      let w : width_sum_of g ≤ width_sum_of top = order.not_wider g top gr.closed.proper gr.inside in
+  pub parts_of : (g left right : Bounds) → Lies g → IsProper g → IsBranch s.model g left right → AreParts g left right
+  parts_of g left right l proper br = branches.parts s.model g left right rule (let e = l.inside.same_length in omega arith) l.in_range proper br
+
+  part_lies : (g part : Bounds) → Lies g → IsPart g part → Lies part
+  part_lies g part l p = record { inside = order.through part g s.sub p.inside l.inside; in_range = p.in_range }
+
+  back_lies : (top seen : Bounds) (back : List Bounds) (recorded : List (List ℤ)) → Lies top → IsInside seen top → Node s.model s.kernels seen back recorded → All Lies back
+  back_lies top seen back recorded l i (is_dropped _ _ _ _ _ fails none nothing) = subst (All Lies) (sym none) (All-nil Lies)
+  back_lies top seen back recorded l i (is_solved _ _ _ _ _ g gr all none one) = subst (All Lies) (sym none) (All-nil Lies)
+  back_lies top seen back recorded l i (is_parted _ _ _ _ _ g left right gr br two nothing) =
+      let k = greatest_lies top seen g l i gr in
+      let p = parts_of g left right k gr.closed.proper br in
+      subst (All Lies) (sym two)
+      (All-cons Lies right (left ∷ []) (part_lies g right k p.second_part)
+      (All-cons Lies left [] (part_lies g left k p.first_part) (All-nil Lies)))
+
+  back_less : (top seen : Bounds) (back : List Bounds) (recorded : List (List ℤ)) → Lies top → IsInside seen top → Node s.model s.kernels seen back recorded →
+      sum_by weight back < weight top
+  back_less top seen back recorded l i (is_dropped _ _ _ _ _ fails none nothing) = omega (arith, ap (sum_by weight) none, power_more (width_sum_of top))
+  back_less top seen back recorded l i (is_solved _ _ _ _ _ g gr all none one) = omega (arith, ap (sum_by weight) none, power_more (width_sum_of top))
+  back_less top seen back recorded l i (is_parted _ _ _ _ _ g left right gr br two nothing) =
+      let k = greatest_lies top seen g l i gr in
+      let p = parts_of g left right k gr.closed.proper br in
+      let w : width_sum_of g ≤ width_sum_of top = order.not_wider g top gr.closed.proper (order.through g seen top gr.inside i) in
       let x = p.first_part.narrower in
       let y = p.second_part.narrower in
       omega (arith, ap (sum_by weight) two, two_powers (width_sum_of right) (width_sum_of left) (width_sum_of top) (omega arith) (omega arith))
 
-  pub step_less : (before after rest back : List Bounds) (top : Bounds) (recorded : List (List ℤ)) → before ≡ rest ++ top ∷ [] → after ≡ rest ++ back → Fits n top →
-      Node model kernels top back recorded → sum_by weight after < sum_by weight before
-  step_less before after rest back top recorded e k f node =
-      omega (arith, ap (sum_by weight) e, ap (sum_by weight) k, sum_by-append weight rest (top ∷ []), sum_by-append weight rest back, back_less top back recorded f node)
+  pub step_less : (before after rest back : List Bounds) (top seen : Bounds) (recorded : List (List ℤ)) → before ≡ rest ++ top ∷ [] → after ≡ rest ++ back →
+      Lies top → IsInside seen top → Node s.model s.kernels seen back recorded → sum_by weight after < sum_by weight before
+  step_less before after rest back top seen recorded e k l i node =
+      omega (arith, ap (sum_by weight) e, ap (sum_by weight) k, sum_by-append weight rest (top ∷ []), sum_by-append weight rest back, back_less top seen back recorded l i node)
 
-  pub reached_fits : (limit : ℕ) (is_first : Bool) (sub : Bounds) (s : State) → Fits n sub → Reached model kernels limit is_first sub s → All (Fits n) s.stack
-  reached_fits limit is_first sub s f (begun _ _ _ _ _ _ e none nothing) = subst (All (Fits n)) (sym e) (All-cons (Fits n) sub [] f (All-nil (Fits n)))
-  reached_fits limit is_first sub s f (stepped _ _ _ _ _ before _ r on st) =
-      let h = subst (All (Fits n)) st.taken (reached_fits limit is_first sub before f r) in
-      subst (All (Fits n)) (sym st.stack)
-      (All-append (Fits n) st.rest st.back (all_front (Fits n) st.rest (st.top ∷ []) h)
-      (back_fits st.top st.back st.recorded (all_last (Fits n) st.rest st.top h) st.node))
+  -- every box of the stack lies inside the one that is searched
+  pub reached_lies : (state : State) → Reached s state → All Lies state.stack
+  reached_lies state (begun _ _ e _ _ _) = subst (All Lies) (sym e) (All-cons Lies s.sub [] sub_lies (All-nil Lies))
+  reached_lies state (stepped _ before _ r on st) =
+      let h = subst (All Lies) st.takes.taken (reached_lies before r) in
+      subst (All Lies) (sym st.stack)
+      (All-append Lies st.rest st.back (all_front Lies st.rest (st.top ∷ []) h)
+      (back_lies st.top (cut_by s.kind s.model.goal st.best st.top) st.back st.recorded (all_last Lies st.rest st.top h) (cut_inside s.kind st.best st.top) st.node))
+
+  pub top_lies : (state : State) (rest : List Bounds) (top : Bounds) → Reached s state → state.stack ≡ rest ++ top ∷ [] → Lies top
+  top_lies state rest top r e = all_last Lies rest top (subst (All Lies) e (reached_lies state r))

@@ -1,6 +1,7 @@
+pub mod Costs
 pub mod Machine
 pub mod Nodes
 pub mod Ends
 pub mod Closings
-pub mod Prefixes
+pub mod Laws
 pub mod Examples

@@ -1,11 +1,20 @@
 -- What one node does to the stack and to the recorded solutions.
-use Rattle.std.specs.Prelude.{◌≡◌, ◌⊎◌, ℤ, List, [], ◌∷◌, ◌++◌}
+use Rattle.std.specs.Prelude.{◌≡◌, ◌⊎◌, ℕ, ℤ, List, [], ◌∷◌, ◌++◌}
 use Rattle.interval.specs.Boxes.{Bounds}
 use Rattle.guarded_tell.specs.declared.kernel.Kernel.{Kernel}
+use Rattle.fixpoint_laws.specs.Fixpoints.{IsGreatest, Fails}
 use Rattle.constraint_model.specs.declared.model.FznModel.{FznModel}
 use Rattle.branching.specs.Parts.{IsBranch}
 use Rattle.branching.specs.Tree.{AreFixed, values_of}
-use Rattle.search.specs.Machine.{Node}
+use Rattle.search.specs.declared.narrow.Narrowed.{Narrowed}
+use Rattle.search.specs.declared.node.Visit.{Visit}
+use Rattle.search.specs.Machine.{Node, MayGiveUp}
+
+-- the box after propagation: the greatest closed one, or there is none; or its propagation was given up
+abbrev pub IsNarrowed : List Kernel → ℕ → Bounds → Bounds → Narrowed → Type 0
+IsNarrowed kernels round_limit before after Narrowed.Fixed = IsGreatest after before kernels
+IsNarrowed kernels round_limit before after Narrowed.Failed = Fails before kernels
+IsNarrowed kernels round_limit before after Narrowed.GivenUp = MayGiveUp kernels round_limit before
 
 -- the two parts of a box are put behind the stack, the left one last
 pub record IsParted (model : FznModel) (b : Bounds) (before after : List Bounds) : Type 0 where
@@ -20,9 +29,14 @@ IsSettled model b before after found more =
     (AreFixed model b × ((after ≡ before) × (more ≡ found ++ values_of model b ∷ []))) ⊎ (IsParted model b before after × (more ≡ found))
 
 -- the box's node puts its boxes behind the stack, and what it records behind the solutions
-pub record IsNode (model : FznModel) (kernels : List Kernel) (top : Bounds) (before after : List Bounds) (found more : List (List ℤ)) : Type 0 where
+pub record IsNode (model : FznModel) (kernels : List Kernel) (b : Bounds) (before after : List Bounds) (found more : List (List ℤ)) : Type 0 where
   pub back : List Bounds
   pub recorded : List (List ℤ)
-  pub node : Node model kernels top back recorded
+  pub node : Node model kernels b back recorded
   pub stack : after ≡ before ++ back
   pub solutions : more ≡ found ++ recorded
+
+-- the box had its node, or was given up and nothing is put or recorded
+abbrev pub IsVisit : FznModel → List Kernel → ℕ → Bounds → List Bounds → List Bounds → List (List ℤ) → List (List ℤ) → Visit → Type 0
+IsVisit model kernels round_limit b before after found more Visit.Done = IsNode model kernels b before after found more
+IsVisit model kernels round_limit b before after found more Visit.GivenUp = MayGiveUp kernels round_limit b × (more ≡ found)

@@ -2,13 +2,27 @@
 
 use list_of::ListOf;
 
+/// Which limit stopped a search.
+#[derive(Clone, Copy, PartialEq, Eq, Debug)]
+pub enum Why {
+    /// That on nodes.
+    Nodes,
+    /// That on the rounds of a propagation.
+    Rounds,
+}
+
 /// How a run for the first solution ends.
 #[derive(Drop)]
 pub enum FirstEnd {
     /// With the first solution, one number for each declared variable, or with none where there is none.
     Done(Option<ListOf<i64>>),
-    /// By the limit, before a solution was found.
-    Spent { nodes: u64 },
+    /// By a limit, before a solution was found.
+    Spent {
+        /// How many nodes there were.
+        nodes: u64,
+        /// Which limit it was.
+        why: Why,
+    },
 }
 
 /// How a run for all solutions ends.
@@ -16,9 +30,13 @@ pub enum FirstEnd {
 pub enum AllEnd {
     /// With all solutions in their order, one number for each declared variable.
     Done(ListOf<ListOf<i64>>),
-    /// By the limit, with the solutions that were found so far.
+    /// By a limit, with the solutions that were found so far.
     Spent {
+        /// How many nodes there were.
         nodes: u64,
+        /// Which limit it was.
+        why: Why,
+        /// What was found.
         solutions: ListOf<ListOf<i64>>,
     },
 }

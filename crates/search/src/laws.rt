@@ -1,13 +1,48 @@
 //! Laws of searches, as functions that do nothing.
 
-ghost use Rattle.search.specs.Ends.{EndLaws};
-ghost use Rattle.search.specs.Prefixes.{PrefixLaws};
+ghost use Rattle.search.specs.Laws.{RecordsSolutions, PrefixLaws, FindsLeast, MorePosted, EndLaws, LimitLaws};
 
-use branching::{law_branches, law_every_list};
-use fixpoint_laws::law_one_fixpoint;
+use branching::{law_branches, law_every_list, law_points};
+use fixpoint_laws::{law_one_fixpoint, law_rounds_lead};
 use interval::law_inside_order;
+use solution_lists::{law_fixed_is_point, law_point_solves};
 
-/// A search stops in one state, and never both at its end and by its limit.
+/// What a search records are the model's solutions in its box.
+pub fn law_records_solutions()
+    ensures { RecordsSolutions }
+{
+    law_inside_order();
+    law_branches();
+    law_fixed_is_point();
+    law_point_solves();
+}
+
+/// What a search for the first solution or for all has found is a prefix of the list of solutions in its box; what its
+/// stack still holds is the rest.
+pub fn law_found_first()
+    ensures { PrefixLaws }
+{
+    law_inside_order();
+    law_branches();
+    law_every_list();
+}
+
+/// A search for the least cost loses no solution that costs less than the best.
+pub fn law_finds_least()
+    ensures { FindsLeast }
+{
+    law_inside_order();
+    law_branches();
+    law_fixed_is_point();
+    law_point_solves();
+}
+
+/// Where more costs are posted a search reaches what it reached.
+pub fn law_more_posted()
+    ensures { MorePosted }
+{}
+
+/// With no cost posted a search stops in one state, and never both at its end and by its limit on nodes.
 pub fn law_one_end()
     ensures { EndLaws }
 {
@@ -15,11 +50,12 @@ pub fn law_one_end()
     law_branches();
 }
 
-/// What a search has found is a prefix of the list of solutions in its box; what its stack still holds is the rest.
-pub fn law_found_first()
-    ensures { PrefixLaws }
+/// A limit that is great enough stops no search.
+pub fn law_limits()
+    ensures { LimitLaws }
 {
     law_inside_order();
     law_branches();
-    law_every_list();
+    law_points();
+    law_rounds_lead();
 }

@@ -6,12 +6,12 @@ ghost use Rattle.guarded_tell.specs.Kernels.{IsKernel};
 ghost use Rattle.branching.specs.Selection.{HasUnfixed};
 ghost use Rattle.constraint_model.specs.Searches.{IsSearchOf};
 ghost use Rattle.branching.specs.Tree.{values_of};
-ghost use Rattle.search.specs.Nodes.{IsParted, IsSettled, IsNode};
+ghost use Rattle.search.specs.Nodes.{IsParted, IsSettled, IsVisit};
 
+use crate::narrow::{Narrowed, narrow};
+use crate::run::Run;
 use branching::{are_fixed, choose};
 use constraint_model::FznModel;
-use fixpoint_laws::{Settled, settle_alone};
-use guarded_tell::Kernel;
 use interval::{BoxOf, NoMemory};
 use list_of::ListOf;
 use std::alloc::{AllocError, Global};
@@ -101,26 +101,39 @@ fn record_or_part(
     part(alloc, model, b, spare, stack)
 }
 
-/// One node: the box is dropped, recorded or parted. `spare` is overwritten.
+/// Whether a box had its node.
+#[derive(Clone, Copy)]
+pub(crate) enum Visit {
+    /// It was dropped, recorded or parted.
+    Done,
+    /// Its propagation was given up.
+    GivenUp,
+}
+
+/// One node: the box is dropped, recorded or parted, or given up where the limit on rounds is spent. `spare` is
+/// overwritten.
 pub(crate) fn node(
     alloc: Global,
-    model: &FznModel,
-    kernels: &[Kernel],
+    run: &Run<'_>,
     top: BoxOf,
     spare: &mut BoxOf,
     stack: &mut Vec<BoxOf>,
     found: &mut ListOf<ListOf<i64>>,
-) -> Result<(), NoMemory>
-    requires phases { IsSearchOf model.now }
-    requires kernels { All (IsKernel (length top)) kernels.now }
-    requires length { length model.now.vars < length top }
+) -> Result<Visit, NoMemory>
+    requires phases { IsSearchOf run.now.model.now }
+    requires kernels { All (IsKernel (length top)) run.now.program.now.kernels }
+    requires length { length run.now.model.now.vars < length top }
     requires spare { length spare.old ≡ length top }
     ensures spare { length spare.new ≡ length top }
-    ensures node { OnOk result (IsNode model.now kernels.now top stack.old.items stack.new.items found.old found.new) }
+    ensures visit { IfOk result (λ visit. IsVisit run.now.model.now run.now.program.now.kernels run.now.round_limit top stack.old.items stack.new.items found.old found.new visit) }
 {
     let mut b = top;
-    match settle_alone(&mut b, spare, kernels) {
-        Settled::Failed { .. } => Ok(()),
-        Settled::Fixed { .. } => record_or_part(alloc, model, b, spare, stack, found),
+    match narrow(run, &mut b, spare) {
+        Narrowed::Failed => Ok(Visit::Done),
+        Narrowed::GivenUp => Ok(Visit::GivenUp),
+        Narrowed::Fixed => {
+            record_or_part(alloc, run.model, b, spare, stack, found)?;
+            Ok(Visit::Done)
+        }
     }
 }

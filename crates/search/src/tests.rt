@@ -6,11 +6,11 @@ ghost use Rattle.guarded_tell.specs.Kernels.{IsKernel};
 ghost use Rattle.constraint_model.specs.Searches.{last_phase};
 
 use crate::runs::{all_in, first_in};
-use crate::{AllEnd, FirstEnd, Run, run_all, run_first};
+use crate::{AllEnd, FirstEnd, Run, Why, run_all, run_first};
 use constraint_model::{
     Constraint, ConstraintName, FznModel, Goal, Operand, Phase, Term, ValSel, VarDecl, VarSel,
 };
-use decompose::compile;
+use decompose::{Program, compile};
 use guarded_tell::{Kernel, Lit};
 use interval::{BoxOf, NoMemory, clamp_bound, law_inside_order};
 use list_of::ListOf;
@@ -118,32 +118,50 @@ fn put(b: &mut BoxOf, pair: u32, bounds: (i64, i64))
     );
 }
 
-/// Searches for the first solution.
-fn first(
+/// The program of a box and kernels.
+fn program_of(
     alloc: Global,
     bounds: [(i64, i64); 2],
-    kernels: &[Kernel],
-    limit: u64,
-) -> Result<FirstEnd, NoMemory>
-    requires { All (IsKernel 3) kernels.now }
+    kernels: ListOf<Kernel>,
+) -> Result<Program, NoMemory>
+    requires { All (IsKernel 3) kernels }
+    ensures start { IfOk result (λ program. length program.start ≡ 3) }
+    ensures kernels { IfOk result (λ program. All (IsKernel 3) program.kernels) }
+{
+    Ok(Program {
+        start: box_of(alloc, bounds)?,
+        kernels,
+    })
+}
+
+/// Searches for the first solution.
+fn first(alloc: Global, program: &Program, node_limit: u64) -> Result<FirstEnd, NoMemory>
+    requires start { length program.now.start ≡ 3 }
+    requires kernels { All (IsKernel 3) program.now.kernels }
 {
     let model = two_variables(alloc)?;
-    let b = box_of(alloc, bounds)?;
-    first_in(alloc, &model, kernels, limit, &b)
+    let run = Run {
+        model: &model,
+        program,
+        node_limit,
+        round_limit: 0,
+    };
+    first_in(alloc, &run, &program.start)
 }
 
 /// Searches for all solutions.
-fn all(
-    alloc: Global,
-    bounds: [(i64, i64); 2],
-    kernels: &[Kernel],
-    limit: u64,
-) -> Result<AllEnd, NoMemory>
-    requires { All (IsKernel 3) kernels.now }
+fn all(alloc: Global, program: &Program, node_limit: u64) -> Result<AllEnd, NoMemory>
+    requires start { length program.now.start ≡ 3 }
+    requires kernels { All (IsKernel 3) program.now.kernels }
 {
     let model = two_variables(alloc)?;
-    let b = box_of(alloc, bounds)?;
-    all_in(alloc, &model, kernels, limit, &b)
+    let run = Run {
+        model: &model,
+        program,
+        node_limit,
+        round_limit: 0,
+    };
+    all_in(alloc, &run, &program.start)
 }
 
 /// Whether a search ended with this solution, or with none.
@@ -158,7 +176,11 @@ fn is_first(end: &FirstEnd, expected: Option<[i64; 2]>) -> bool {
 /// Whether the limit stopped a search after so many nodes.
 fn is_stopped(end: &FirstEnd, expected: u64) -> bool {
     match end {
-        FirstEnd::Spent { nodes } => *nodes == expected,
+        FirstEnd::Spent {
+            nodes,
+            why: Why::Nodes,
+        } => *nodes == expected,
+        FirstEnd::Spent { .. } => false,
         FirstEnd::Done(_) => false,
     }
 }
@@ -188,46 +210,56 @@ fn is_all(end: &AllEnd, expected: &[[i64; 2]]) -> bool {
 /// Whether the limit stopped a search after so many nodes, with these solutions.
 fn is_stopped_with(end: &AllEnd, expected: u64, found: &[[i64; 2]]) -> bool {
     match end {
-        AllEnd::Spent { nodes, solutions } => *nodes == expected && are(solutions, found),
+        AllEnd::Spent {
+            nodes,
+            why: Why::Nodes,
+            solutions,
+        } => *nodes == expected && are(solutions, found),
+        AllEnd::Spent { .. } => false,
         AllEnd::Done(_) => false,
     }
 }
 
 #[test]
 fn two_values_take_three_nodes(rt: HostRuntime) -> Result<(), Fail> {
-    let bounds = [(1, 2), (0, 0)];
     let alloc = rt.alloc();
-    assert!(rt; is_all(&all(alloc, bounds, &[], 0)?, &[[1, 0], [2, 0]]));
-    assert!(rt; is_stopped_with(&all(alloc, bounds, &[], 1)?, 1, &[]));
-    assert!(rt; is_stopped_with(&all(alloc, bounds, &[], 2)?, 2, &[[1, 0]]));
-    assert!(rt; is_all(&all(alloc, bounds, &[], 3)?, &[[1, 0], [2, 0]]));
-    assert!(rt; is_first(&first(alloc, bounds, &[], 0)?, Some([1, 0])));
-    assert!(rt; is_stopped(&first(alloc, bounds, &[], 1)?, 1));
-    assert!(rt; is_first(&first(alloc, bounds, &[], 2)?, Some([1, 0])));
+    let program = program_of(alloc, [(1, 2), (0, 0)], ListOf::new(alloc))?;
+    assert!(rt; is_all(&all(alloc, &program, 0)?, &[[1, 0], [2, 0]]));
+    assert!(rt; is_stopped_with(&all(alloc, &program, 1)?, 1, &[]));
+    assert!(rt; is_stopped_with(&all(alloc, &program, 2)?, 2, &[[1, 0]]));
+    assert!(rt; is_all(&all(alloc, &program, 3)?, &[[1, 0], [2, 0]]));
+    assert!(rt; is_first(&first(alloc, &program, 0)?, Some([1, 0])));
+    assert!(rt; is_stopped(&first(alloc, &program, 1)?, 1));
+    assert!(rt; is_first(&first(alloc, &program, 2)?, Some([1, 0])));
     Ok(())
 }
 
 #[test]
 fn an_order_leaves_three_solutions(rt: HostRuntime) -> Result<(), Fail> {
     let alloc = rt.alloc();
-    let kernels = [below(alloc, 1, 2)?];
-    let bounds = [(0, 2), (0, 2)];
-    assert!(rt; is_all(&all(alloc, bounds, &kernels, 0)?, &[[0, 1], [0, 2], [1, 2]]));
-    assert!(rt; is_all(&all(alloc, bounds, &kernels, 5)?, &[[0, 1], [0, 2], [1, 2]]));
-    assert!(rt; is_stopped_with(&all(alloc, bounds, &kernels, 4)?, 4, &[[0, 1], [0, 2]]));
-    assert!(rt; is_first(&first(alloc, bounds, &kernels, 3)?, Some([0, 1])));
-    assert!(rt; is_stopped(&first(alloc, bounds, &kernels, 2)?, 2));
+    let mut kernels = ListOf::new(alloc);
+    kernels.push(below(alloc, 1, 2)?)?;
+    let program = program_of(alloc, [(0, 2), (0, 2)], kernels)?;
+    assert!(rt; is_all(&all(alloc, &program, 0)?, &[[0, 1], [0, 2], [1, 2]]));
+    assert!(rt; is_all(&all(alloc, &program, 5)?, &[[0, 1], [0, 2], [1, 2]]));
+    assert!(rt; is_stopped_with(&all(alloc, &program, 4)?, 4, &[[0, 1], [0, 2]]));
+    assert!(rt; is_first(&first(alloc, &program, 3)?, Some([0, 1])));
+    assert!(rt; is_stopped(&first(alloc, &program, 2)?, 2));
     Ok(())
 }
 
 #[test]
 fn nothing_is_found_in_one_node(rt: HostRuntime) -> Result<(), Fail> {
     let alloc = rt.alloc();
-    let kernels = [below(alloc, 1, 2)?, below(alloc, 2, 1)?];
-    assert!(rt; is_all(&all(alloc, [(0, 3), (0, 3)], &kernels, 1)?, &[]));
-    assert!(rt; is_first(&first(alloc, [(0, 3), (0, 3)], &kernels, 1)?, None));
-    assert!(rt; is_all(&all(alloc, [(2, 1), (0, 3)], &[], 1)?, &[]));
-    assert!(rt; is_first(&first(alloc, [(2, 1), (0, 3)], &[], 0)?, None));
+    let mut kernels = ListOf::new(alloc);
+    kernels.push(below(alloc, 1, 2)?)?;
+    kernels.push(below(alloc, 2, 1)?)?;
+    let program = program_of(alloc, [(0, 3), (0, 3)], kernels)?;
+    assert!(rt; is_all(&all(alloc, &program, 1)?, &[]));
+    assert!(rt; is_first(&first(alloc, &program, 1)?, None));
+    let crossed = program_of(alloc, [(2, 1), (0, 3)], ListOf::new(alloc))?;
+    assert!(rt; is_all(&all(alloc, &crossed, 1)?, &[]));
+    assert!(rt; is_first(&first(alloc, &crossed, 0)?, None));
     Ok(())
 }
 
@@ -252,7 +284,8 @@ fn the_first_solution_of_a_model_is_the_head_of_all(rt: HostRuntime) -> Result<(
     let run = Run {
         model: &model,
         program: &program,
-        limit: 0,
+        node_limit: 0,
+        round_limit: 0,
     };
     let first = run_first(alloc, &run, &program.start)?;
     let all = run_all(alloc, &run, &program.start)?;

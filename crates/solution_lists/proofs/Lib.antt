@@ -1,2 +1,4 @@
 pub mod StartLaws
 pub mod PointLaws
+pub mod OrderLaws
+pub mod LeastLaws

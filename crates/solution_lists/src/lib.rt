@@ -3,6 +3,7 @@
 #![tactic(auto)]
 
 ghost use Rattle.solution_lists.specs.Solutions.{FixedIsPoint, PointSolves, SolutionsAreListed};
+ghost use Rattle.solution_lists.specs.Order.{InDeclarationOrder, LeastComesFirst};
 
 use branching::law_each_once;
 use guarded_tell::law_point;
@@ -29,4 +30,20 @@ pub fn law_solutions_listed()
     law_fixed_is_point();
     law_point_solves();
     law_each_once();
+}
+
+/// Where a model's search is the last phase alone, the list of a box has its solutions in the order of the declarations:
+/// each comes before every later one. It does nothing.
+pub fn law_in_declaration_order()
+    ensures { InDeclarationOrder }
+{}
+
+/// There the list of the program's start begins with the least solution of the model in the order of the declarations, or
+/// is empty where the model has none. It does nothing.
+pub fn law_least_first()
+    ensures { LeastComesFirst }
+{
+    law_inside_order();
+    law_solutions_listed();
+    law_in_declaration_order();
 }

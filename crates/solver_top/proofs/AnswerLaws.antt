@@ -5,13 +5,15 @@ use Rattle.guarded_tell.specs.declared.kernel.Kernel.{Kernel}
 use Rattle.constraint_model.specs.declared.model.FznModel.{FznModel}
 use Rattle.constraint_model.specs.Relations.{IsSolution}
 use Rattle.constraint_model.specs.Searches.{IsSearchOf}
-
 use Rattle.decompose.specs.Kernels.{kernels_of}
 use Rattle.decompose.specs.Program.{start_of, extended, IsProgramOf}
 use Rattle.decompose.specs.declared.program.Program.{Program}
 use Rattle.branching.specs.Tree.{OneList, SolutionsIn}
 use Rattle.solution_lists.specs.Solutions.{SolutionsAreListed, ListsSolutionsInside, SolvesInside}
-use Rattle.search.specs.Ends.{IsFirstDone, head_of as first_of}
+use Rattle.solution_lists.specs.Order.{LeastComesFirst}
+use Rattle.search.specs.declared.kind.Kind.{Kind}
+use Rattle.search.specs.declared.ends.FirstEnd.{FirstEnd}
+use Rattle.search.specs.Ends.{IsFirstDone, IsFirstEnd, search_of, head_of as first_of}
 use Rattle.solver_top.specs.Texts.{IsTextOf}
 use Rattle.solver_top.specs.Answers.{Assignment, IsListOfSolutions, IsAnswer, head_of, answer_text}
 use Rattle.solver_top.specs.Outcome.{IsAnswerOf}
@@ -33,9 +35,12 @@ one_answer one lists searches text bytes others h g =
     h.printed ∙ ap (answer_text h.model) (one_of lists h.model (searches text h.model h.is_model) h.answer g.answer h.is_answer other) ∙ ap (λ m. answer_text m g.answer) (sym same) ∙ sym g.printed
 
 -- the list of the start is that of the model's solutions, each of which lies in the start
-pub first_answers : (order : InsideOrder) (listed : SolutionsAreListed) (model : FznModel) (program : Program) (limit : ℕ) (answer : Option Assignment) →
-    IsSearchOf model → IsProgramOf model program → IsFirstDone model program.kernels limit program.start answer → IsAnswer model answer
-first_answers order listed model program limit answer search is done =
+pub first_answers : (order : InsideOrder) (listed : SolutionsAreListed) (least : LeastComesFirst) (model : FznModel) (program : Program) (answer : Option Assignment) →
+    IsSearchOf model → IsProgramOf model program → (end : FirstEnd) → end ≡ FirstEnd.Done answer →
+    IsFirstEnd (search_of model program 0 0 Kind.First program.start) end → IsAnswer model answer
+first_answers order listed least model program answer search is end same ends =
+    let done : IsFirstDone (search_of model program 0 0 Kind.First program.start) answer =
+    subst (IsFirstEnd (search_of model program 0 0 Kind.First program.start)) same ends in
     let inside : IsInside program.start program.start = order.itself program.start in
     let lists = listed model program program.start done.solutions is search is.in_range inside done.listed in
     record {
@@ -45,9 +50,10 @@ first_answers order listed model program limit answer search is done =
             (subst (λ (ks : List Kernel). SolutionsIn model ks program.start done.solutions) is.kernels done.listed);
         each = λ a. (
           (λ h. ((lists.each a).0 h).solves),
-          (λ h. (lists.each a).1 (record { solves = h; inside = (is.points (extended model a)).1 (record { assignment = a; within = h.within; is_extension = refl }) }))
+          (λ h. (lists.each a).1 (record { solves = h; inside = (is.points (extended model a)).1 (record { assignment = a; within = h.within; is_extension = refl }) })),
         );
         once = lists.once;
+        plain = λ alone. least model program done.solutions is alone done.listed;
       };
       is_head = done.is_head ∙ same_head done.solutions;
     }

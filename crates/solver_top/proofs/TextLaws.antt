@@ -1,11 +1,12 @@
 -- A text has at most one model or one fault, and never both.
-use Rattle.std.proofs.Common.{◌≡◌, ℕ, List, inl, inr, sym, subst, ◌∙◌, arith}
+use Rattle.std.proofs.Common.{◌≡◌, ◌⊎◌, ℕ, List, length, inl, inr, refl, sym, subst, ◌∙◌, arith}
+use Rattle.std.proofs.lemmas.Bool.{cases_lt}
 use Rattle.fzn_lexer.specs.declared.Token.{Token}
 use Rattle.fzn_lexer.specs.Lexing.{LexesAs, FaultsAt as IsNoToken}
 use Rattle.fzn_parser.specs.Parsing.{ItemTree, ReadsAs, FaultsAt as IsNoItem}
 use Rattle.constraint_model.specs.declared.model.FznModel.{FznModel}
-use Rattle.fzn_model.specs.Resolving.{IsModelOf, HasFault}
-use Rattle.solver_top.specs.Texts.{HasItems, IsTextOf, LacksItem, IsFaultOf}
+use Rattle.fzn_model.specs.Resolving.{IsModelOf, HasFault, IsRead}
+use Rattle.solver_top.specs.Texts.{HasItems, IsTextOf, LacksItem, IsFaultOf, most_bytes, no_token as lex_kind, no_item as syntax_kind, too_long}
 
 -- what each step says by itself
 pub record StepsAreOne : Type 0 where
@@ -66,3 +67,24 @@ module _ (s : StepsAreOne) (text : List ℕ) where
   one_fault k l at place (inr (inr (inr f))) (inr (inr (inl g))) = absurd (no_item f.items l place f.read g)
   one_fault k l at place (inr (inr (inr f))) (inr (inr (inr g))) =
       s.fault text f.items k l at place f.fault (subst (λ is. HasFault text is l place) (one_items g.items f.items g.read f.read) g.fault)
+
+-- a text has a model or a fault, as each step gives something or has a fault
+pub some_text : (lexing : (text : List ℕ) → ((ts : List Token) × LexesAs text ts) ⊎ ((at : ℕ) × IsNoToken text at))
+    → (parsing : (text : List ℕ) (tokens : List Token) → ((items : List ItemTree) × ReadsAs text tokens items) ⊎ ((at : ℕ) × IsNoItem text tokens at))
+    → (reading : (text : List ℕ) (items : List ItemTree) → IsRead text items)
+    → (text : List ℕ) → ((model : FznModel) × IsTextOf text model) ⊎ ((kind : ℕ) × ((at : ℕ) × IsFaultOf text kind at))
+some_text lexing parsing reading text = elim (cases_lt most_bytes (length text)) [
+  | inl long ↦ inr (too_long, (0, inl (record { long = long; is_kind = refl; first = refl })))
+  | inr short ↦ elim (lexing text) [
+    | inr fault ↦ inr (lex_kind, (fault.0, inr (inl (record { short = short; fault = fault.1; is_kind = refl }))))
+    | inl lexed ↦ elim (parsing text lexed.0) [
+      | inr fault ↦ inr (syntax_kind, (fault.0, inr (inr (inl (record { short = short; tokens = lexed.0; lexed = lexed.1; fault = fault.1; is_kind = refl })))))
+      | inl parsed ↦
+          let read : HasItems text parsed.0 = record { tokens = lexed.0; lexed = lexed.1; parsed = parsed.1 } in
+          elim (reading text parsed.0) [
+            | inl model ↦ inl (model.model, record { short = short; items = parsed.0; read = read; resolved = model.is_model })
+            | inr refused ↦ inr (refused.kind, (refused.at, inr (inr (inr (record { short = short; items = parsed.0; read = read; fault = refused.fault })))))
+          ]
+    ]
+  ]
+]

@@ -7,6 +7,7 @@ use Rattle.constraint_model.specs.Relations.{IsSolution}
 use Rattle.decompose.specs.Kernels.{kernels_of}
 use Rattle.decompose.specs.Program.{start_of}
 use Rattle.branching.specs.Tree.{SolutionsIn, AreDistinct}
+use Rattle.solution_lists.specs.Order.{IsPlainSearch, BeginsWithLeast}
 use Rattle.fzn_print.specs.AnswerText.{solution_text, mark_text_of}
 use Rattle.fzn_print.specs.declared.marks.Mark.{Mark}
 
@@ -15,11 +16,13 @@ abbrev pub Assignment : Type 0
 Assignment = List ℤ
 
 -- This is the list of a model's solutions in the order of its search tree: that of propagation and branching alone. It has
--- each assignment that solves the model once, and nothing else.
+-- each assignment that solves the model once, and nothing else; and where no search annotation asks for anything it begins
+-- with the lexicographically smallest in the order of the declarations.
 pub record IsListOfSolutions (model : FznModel) (found : List Assignment) : Type 0 where
   pub in_order : SolutionsIn model (kernels_of model) (start_of model) found
   pub each : (a : Assignment) → Contains found a ↔ IsSolution model a
   pub once : AreDistinct found
+  pub plain : IsPlainSearch model → BeginsWithLeast model found
 
 -- the first of a list, or none
 abbrev pub head_of : List Assignment → Option Assignment

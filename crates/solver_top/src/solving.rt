@@ -11,14 +11,13 @@ use fzn_model::FznModel;
 use fzn_print::{Mark, mark_text, print_solution};
 use interval::{NoMemory, law_inside_order};
 use list_of::ListOf;
-use search::{FirstEnd, Run, run_first};
-use solution_lists::law_solutions_listed;
+use search::{FirstEnd, Run, Why, run_first};
+use solution_lists::{law_least_first, law_solutions_listed};
 use std::alloc::Global;
 
 /// The first solution of the model in the order of its search tree, or none where it has none.
 pub(crate) fn solve(alloc: Global, model: &FznModel) -> Result<Option<ListOf<i64>>, NoMemory>
-    requires model { IsWellFormed model.now }
-    requires search { IsSearchOf model.now }
+    requires { IsWellFormed model.now }
     ensures { IfOk result (λ answer. IsAnswer model.now answer) }
 {
     let program = compile(alloc, model)?;
@@ -37,15 +36,24 @@ fn first_solution(
 {
     law_inside_order();
     law_solutions_listed();
+    law_least_first();
     let run = Run {
         model,
         program,
-        limit: 0,
+        node_limit: 0,
+        round_limit: 0,
     };
     match run_first(alloc, &run, &program.start)? {
         FirstEnd::Done(answer) => Ok(answer),
-        // Without a limit no search is stopped by it.
-        FirstEnd::Spent { .. } => unreachable!(),
+        // Without limits no search is stopped by one.
+        FirstEnd::Spent {
+            why: Why::Nodes,
+            ..
+        } => unreachable!(),
+        FirstEnd::Spent {
+            why: Why::Rounds,
+            ..
+        } => unreachable!(),
     }
 }
 
@@ -59,9 +67,6 @@ pub(crate) fn print_answer(
 {
     match answer {
         Some(values) => print_solution(alloc, model, values.as_slice()),
-        None => Ok(Vec::from_slice(
-            alloc,
-            mark_text(Mark::Unsatisfiable).as_bytes(),
-        )?),
+        None => Ok(Vec::from_slice(alloc, mark_text(Mark::Unsatisfiable).as_bytes())?),
     }
 }

@@ -49,7 +49,7 @@ module _ (order : InsideOrder) (laws : CutLaws) (model : FznModel) (kernels : Li
   one_path (suc depth) b number found other rule h k =
       let same = laws.one model kernels b h.0 k.0 rule h.1 k.1 in
       below_one (2 ^ depth) (LeadsTo model kernels depth) (λ c n f o. one_path depth c n f o rule) k.0 number found other
-        (subst (λ (c : Cut). IsBelow c (2 ^ depth) (LeadsTo model kernels depth) number found) same h.2) k.2
+      (subst (λ (c : Cut). IsBelow c (2 ^ depth) (LeadsTo model kernels depth) number found) same h.2) k.2
 
   -- ---- all paths, and the subproblems among them
 
@@ -109,12 +109,12 @@ module _ (order : InsideOrder) (laws : CutLaws) (model : FznModel) (kernels : Li
       low : (number : ℕ) → number < 2 ^ depth → LeadsTo model kernels depth l number (get_or (xs ++ ys) number None)
       low number below =
           subst (LeadsTo model kernels depth l number) (sym (get_or_append_left xs ys None number (let a = lefts.1.count in omega arith)))
-            (lefts.1.each number below)
+          (lefts.1.each number below)
 
       upper : (number : ℕ) → 2 ^ depth ≤ number → number < 2 ^ suc depth → LeadsTo model kernels depth r (number - 2 ^ depth) (get_or (xs ++ ys) number None)
       upper number high below =
           subst (LeadsTo model kernels depth r (number - 2 ^ depth)) (sym (get_or-append_right xs ys (2 ^ depth) number None lefts.1.count high))
-            (rights.1.each (number - 2 ^ depth) (let d = double depth in omega arith))
+          (rights.1.each (number - 2 ^ depth) (let d = double depth in omega arith))
 
   made_by : (depth : ℕ) (b : Bounds) → CanBeCut model kernels b → ((c : Bounds) → CanBeCut model kernels c → Made depth c) →
       (cut : Cut) → IsCutInto model kernels b cut → Made (suc depth) b
@@ -142,7 +142,7 @@ module _ (order : InsideOrder) (laws : CutLaws) (model : FznModel) (kernels : Li
       ArePaths model kernels depth b paths → ArePaths model kernels depth b others → paths ≡ others
   same_paths depth b paths others rule h k =
       ext_get_or None paths others (h.count ∙ sym k.count)
-        (λ number inside. let below : number < 2 ^ depth = (let c = h.count in omega arith) in one_path depth b number (get_or paths number None) (get_or others number None) rule (h.each number below) (k.each number below))
+      (λ number inside. let below : number < 2 ^ depth = (let c = h.count in omega arith) in one_path depth b number (get_or paths number None) (get_or others number None) rule (h.each number below) (k.each number below))
 
   pub subs_of_paths : (depth : ℕ) (b : Bounds) (paths : List (Option Bounds)) → CanBeCut model kernels b →
       ArePaths model kernels depth b paths → AreSubproblems model kernels depth b (boxes_of paths)
@@ -163,7 +163,7 @@ module _ (order : InsideOrder) (laws : CutLaws) (model : FznModel) (kernels : Li
   below_inside depth b can next (Parted l r) number found h k = dite (dec_le (suc number) (2 ^ depth))
       (λ (low : number < 2 ^ depth). let side = laws.left model kernels b l r can h in order.through found l b (next l number found side.1 (k.0 low)) side.0)
       (λ (no : ¬ (number < 2 ^ depth)). let high : 2 ^ depth ≤ number = omega arith in let side = laws.right model kernels b l r can h in
-        order.through found r b (next r (number - 2 ^ depth) found side.1 (k.1 high)) side.0)
+      order.through found r b (next r (number - 2 ^ depth) found side.1 (k.1 high)) side.0)
 
   pub inside_path : (depth : ℕ) (b : Bounds) (number : ℕ) (found : Bounds) → CanBeCut model kernels b →
       LeadsTo model kernels depth b number (Some found) → IsInside found b
@@ -193,5 +193,5 @@ path_laws order laws subproblems = record {
       subproblems.solutions model kernels depth b (boxes_of paths) found can.search (subs_of_paths order laws model kernels depth b paths can h) (each_of_all order laws model kernels paths found s);
   solutions_back = λ model kernels depth b paths found can h s.
       all_of_each order laws model kernels paths found
-        (subproblems.solutions_back model kernels depth b (boxes_of paths) found can.search (subs_of_paths order laws model kernels depth b paths can h) s);
+      (subproblems.solutions_back model kernels depth b (boxes_of paths) found can.search (subs_of_paths order laws model kernels depth b paths can h) s);
 }

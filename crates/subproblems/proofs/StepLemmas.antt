@@ -37,5 +37,5 @@ module _ (model : FznModel) (kernels : List Kernel) where
       IsMore model kernels above left before middle → IsMore model kernels above right middle after → IsMore model kernels depth b before after
   more_parted depth above b left right before middle after e h first second =
       more_by depth above b before after (first.subs ++ second.subs) e (Parted left right) h
-        (first.subs, second.subs, first.are_subs, second.are_subs, refl)
-        (second.is_after ∙ ap (λ (l : List Bounds). l ++ second.subs) first.is_after ∙ append_assoc before first.subs second.subs)
+      (first.subs, second.subs, first.are_subs, second.are_subs, refl)
+      (second.is_after ∙ ap (λ (l : List Bounds). l ++ second.subs) first.is_after ∙ append_assoc before first.subs second.subs)

@@ -28,7 +28,7 @@ module _ (order : InsideOrder) (laws : CutLaws) (model : FznModel) (kernels : Li
   one_subs (suc depth) b subs others rule h k =
       let same = laws.one model kernels b h.0 k.0 rule h.1 k.1 in
       below_one (AreSubproblems model kernels depth) (λ c xs ys. one_subs depth c xs ys rule) k.0 subs others
-        (subst (λ (c : Cut). AreBelow c (AreSubproblems model kernels depth) subs) same h.2) k.2
+      (subst (λ (c : Cut). AreBelow c (AreSubproblems model kernels depth) subs) same h.2) k.2
 
   below_some : (depth : ℕ) (b : Bounds) → CanBeCut model kernels b → ((c : Bounds) → CanBeCut model kernels c → (subs : List Bounds) × AreSubproblems model kernels depth c subs) →
       (cut : Cut) → IsCutInto model kernels b cut → (subs : List Bounds) × AreSubproblems model kernels (suc depth) b subs
@@ -55,8 +55,8 @@ module _ (order : InsideOrder) (laws : CutLaws) (model : FznModel) (kernels : Li
       let lefts = laws.left model kernels b l r can h in
       let rights = laws.right model kernels b l r can h in
       subst (All (λ s. IsInside s b)) (sym k.4) (All-append (λ s. IsInside s b) k.0 k.1
-        (All-weaker (λ s. IsInside s l) (λ s. IsInside s b) (λ s i. order.through s l b i lefts.0) k.0 (next l k.0 lefts.1 k.2))
-        (All-weaker (λ s. IsInside s r) (λ s. IsInside s b) (λ s i. order.through s r b i rights.0) k.1 (next r k.1 rights.1 k.3)))
+      (All-weaker (λ s. IsInside s l) (λ s. IsInside s b) (λ s i. order.through s l b i lefts.0) k.0 (next l k.0 lefts.1 k.2))
+      (All-weaker (λ s. IsInside s r) (λ s. IsInside s b) (λ s i. order.through s r b i rights.0) k.1 (next r k.1 rights.1 k.3)))
 
   pub inside_subs : (depth : ℕ) (b : Bounds) (subs : List Bounds) → CanBeCut model kernels b → AreSubproblems model kernels depth b subs → All (λ s. IsInside s b) subs
   inside_subs zero b subs can h = subst (All (λ s. IsInside s b)) (sym h) (All-cons (λ s. IsInside s b) b [] (order.itself b) (All-nil (λ s. IsInside s b)))
@@ -68,9 +68,13 @@ module _ (order : InsideOrder) (laws : CutLaws) (model : FznModel) (kernels : Li
       (first : List (List ℤ)) × (second : List (List ℤ)) × SolutionsInEach model kernels xs first × SolutionsInEach model kernels ys second × (found ≡ first ++ second)
   each_apart [] ys found h = ([], found, refl, h, refl)
   each_apart (x ∷ xs) ys found h =
-      let rest = each_apart xs ys h.1 h.3 in
-      (h.0 ++ rest.0, rest.1, (h.0, rest.0, h.2, rest.2, refl), rest.3,
-        h.4 ∙ ap (λ (l : List (List ℤ)). h.0 ++ l) rest.4 ∙ sym (append_assoc h.0 rest.0 rest.1))
+      let rest = each_apart xs ys h.1 h.3 in (
+        h.0 ++ rest.0,
+        rest.1,
+        (h.0, rest.0, h.2, rest.2, refl),
+        rest.3,
+        h.4 ∙ ap (λ (l : List (List ℤ)). h.0 ++ l) rest.4 ∙ sym (append_assoc h.0 rest.0 rest.1),
+      )
 
   each_joined : (xs ys : List Bounds) (first second : List (List ℤ)) → SolutionsInEach model kernels xs first → SolutionsInEach model kernels ys second →
       SolutionsInEach model kernels (xs ++ ys) (first ++ second)
@@ -111,7 +115,7 @@ module _ (order : InsideOrder) (laws : CutLaws) (model : FznModel) (kernels : Li
   solutions_of_subs zero b subs found rule h s = each_one b found (subst (λ (l : List Bounds). SolutionsInEach model kernels l found) h s)
   solutions_of_subs (suc depth) b subs found rule h s =
       solutions_by_cut model kernels b found h.0 h.1
-        (below_solutions depth b rule (λ c xs l a e. solutions_of_subs depth c xs l rule a e) h.0 subs found h.1 h.2 s)
+      (below_solutions depth b rule (λ c xs l a e. solutions_of_subs depth c xs l rule a e) h.0 subs found h.1 h.2 s)
 
   below_back : (depth : ℕ) (b : Bounds) → IsSearchOf model →
       ((c : Bounds) (subs : List Bounds) (found : List (List ℤ)) → AreSubproblems model kernels depth c subs → SolutionsIn model kernels c found → SolutionsInEach model kernels subs found) →
@@ -120,11 +124,11 @@ module _ (order : InsideOrder) (laws : CutLaws) (model : FznModel) (kernels : Li
   below_back depth b rule next Failed subs found h k s = subst (λ (l : List Bounds). SolutionsInEach model kernels l found) (sym k) s
   below_back depth b rule next (Fixed g) subs found h k s =
       subst (λ (l : List Bounds). SolutionsInEach model kernels l found) (sym k)
-        (one_each g found (solutions_by_cut model kernels g found (Fixed g) (fixed_again b g h) s))
+      (one_each g found (solutions_by_cut model kernels g found (Fixed g) (fixed_again b g h) s))
   below_back depth b rule next (Parted l r) subs found h k s =
       subst (λ (l : List Bounds). SolutionsInEach model kernels l found) (sym k.4)
-        (subst (λ (f : List (List ℤ)). SolutionsInEach model kernels (k.0 ++ k.1) f) (sym s.4)
-          (each_joined k.0 k.1 s.0 s.1 (next l k.0 s.0 k.2 s.2) (next r k.1 s.1 k.3 s.3)))
+      (subst (λ (f : List (List ℤ)). SolutionsInEach model kernels (k.0 ++ k.1) f) (sym s.4)
+      (each_joined k.0 k.1 s.0 s.1 (next l k.0 s.0 k.2 s.2) (next r k.1 s.1 k.3 s.3)))
 
   pub solutions_back_of_subs : (depth : ℕ) (b : Bounds) (subs : List Bounds) (found : List (List ℤ)) → IsSearchOf model →
       AreSubproblems model kernels depth b subs → SolutionsIn model kernels b found → SolutionsInEach model kernels subs found
@@ -132,7 +136,7 @@ module _ (order : InsideOrder) (laws : CutLaws) (model : FznModel) (kernels : Li
   solutions_back_of_subs (suc depth) b subs found rule h s =
       let c = solutions_of_cut model kernels b found s in
       below_back depth b rule (λ d xs l a e. solutions_back_of_subs depth d xs l rule a e) h.0 subs found h.1 h.2
-        (subst (λ (x : Cut). SolutionsOfCut model kernels x found) (laws.one model kernels b c.0 h.0 rule c.1 h.1) c.2)
+      (subst (λ (x : Cut). SolutionsOfCut model kernels x found) (laws.one model kernels b c.0 h.0 rule c.1 h.1) c.2)
 
 pub subproblem_laws : InsideOrder → CutLaws → SubproblemLaws
 subproblem_laws order laws = record {

@@ -25,7 +25,12 @@ pub enum Cut {
 }
 
 /// Cuts a box.
-pub fn cut_box(alloc: Global, model: &FznModel, kernels: &[Kernel], b: BoxOf) -> Result<Cut, NoMemory>
+pub fn cut_box(
+    alloc: Global,
+    model: &FznModel,
+    kernels: &[Kernel],
+    b: BoxOf,
+) -> Result<Cut, NoMemory>
     requires { CanBeCut model.now kernels.now b }
     ensures { IfOk result (IsCutInto model.now kernels.now b) }
 {

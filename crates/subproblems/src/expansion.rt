@@ -33,7 +33,14 @@ pub fn expand(
     let _length = start.len();
     let b = start.copy(alloc)?;
     let mut subs = Vec::new(alloc);
-    add_below(alloc, model, program.kernels.as_slice(), b, depth, &mut subs)?;
+    add_below(
+        alloc,
+        model,
+        program.kernels.as_slice(),
+        b,
+        depth,
+        &mut subs,
+    )?;
     Ok(subs)
 }
 

@@ -1,4 +1,4 @@
-use Rattle.guarded_tell.proofs.ArithmeticExamples.{absolute_kernel}
+use Rattle.guarded_tell.proofs.Examples.{absolute_kernel}
 use Rattle.guarded_tell.proofs.arithmetic_tests.absolute_value.Goals as goal
 
 pub returns : goal.returns

@@ -1,4 +1,4 @@
-use Rattle.guarded_tell.proofs.ArithmeticExamples.{product_kernel}
+use Rattle.guarded_tell.proofs.Examples.{product_kernel}
 use Rattle.guarded_tell.proofs.arithmetic_tests.product.Goals as goal
 
 pub returns : goal.returns

@@ -13,8 +13,8 @@ hear-requires g c =
     let Q : Tell → Type 0 = g.H.Hear.can_hear c.args.h.now in
     subst Q (sym c.no_number.ensures) may.0
 
-pub hear_some-requires-clause-some : goal.hear_some-requires-clause-some
-hear_some-requires-clause-some g c = some_there c.args.lits.now _ c.is_empty.ensures c.if-is_empty.false
+pub tell_some-requires-clause-some : goal.tell_some-requires-clause-some
+tell_some-requires-clause-some g c = some_there c.args.lits.now _ c.is_empty.ensures c.if-is_empty.false
 
 pub returns-then-is_empty : goal.returns-then-is_empty
 returns-then-is_empty g c =

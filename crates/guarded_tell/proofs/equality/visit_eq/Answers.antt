@@ -12,8 +12,8 @@ use Rattle.guarded_tell.proofs.equality.visit_eq.Goals as goal
 pub sum_range-sum-requires-clause-variables : goal.sum_range-sum-requires-clause-variables
 sum_range-sum-requires-clause-variables g c = record { each = λ i h. c.requires.variables.each (suc i) (omega arith) }
 
-pub hear_terms-requires-clause-variables : goal.hear_terms-requires-clause-variables
-hear_terms-requires-clause-variables g c = record { each = λ i h. c.requires.variables.each (suc i) (omega arith) }
+pub tell_terms-requires-clause-variables : goal.tell_terms-requires-clause-variables
+tell_terms-requires-clause-variables g c = record { each = λ i h. c.requires.variables.each (suc i) (omega arith) }
 
 pub returns : goal.returns
 unfolding eq_tells
@@ -23,12 +23,12 @@ returns g c =
     let terms = zip c.args.coeffs.now c.args.vars.now in
     let m = sum_over (least_of c.args.b.now) terms in
     let n = sum_over (greatest_of c.args.b.now) terms in
-    let now = c.hear_equation.new.h in
-    let after = c.hear_terms.new.h in
+    let now = c.tell_equation.new.h in
+    let after = c.tell_terms.new.h in
     let first = along (λ (x : ℤ) (y : ℤ) (z : ℤ). HearsAll g.H.Hear.hears c.args.h.now (equation_tells c.args.lit x y z) now)
-    limit sum.least sum.greatest c.hear_equation.ensures in
+    limit sum.least sum.greatest c.tell_equation.ensures in
     let second = along (λ (x : ℤ) (y : ℤ) (z : ℤ). HearsAll g.H.Hear.hears now (equal_tells c.args.lit terms x y z c.args.b.now ++ unequal_tells c.args.lit terms x y z c.args.b.now) after)
-    limit sum.least sum.greatest c.hear_terms.ensures in
+    limit sum.least sum.greatest c.tell_terms.ensures in
     hears_both g.H.Hear.can_hear g.H.Hear.hears c.args.h.now now after
     (equation_tells c.args.lit c.args.limit m n)
     (equal_tells c.args.lit terms c.args.limit m n c.args.b.now ++ unequal_tells c.args.lit terms c.args.limit m n c.args.b.now)

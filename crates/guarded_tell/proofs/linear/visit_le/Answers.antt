@@ -8,8 +8,8 @@ use Rattle.guarded_tell.specs.Linear.{literal_tells, bound_tells, sum_over, leas
 use Rattle.guarded_tell.proofs.HearingLaws.{may_first, may_rest, hears_both, along}
 use Rattle.guarded_tell.proofs.linear.visit_le.Goals as goal
 
-pub hear_literal-requires : goal.hear_literal-requires
-hear_literal-requires g c =
+pub tell_literal-requires : goal.tell_literal-requires
+tell_literal-requires g c =
     let sum = c.sum_range-sum.ensures in
     let terms = zip c.args.coeffs.now c.args.vars.now in
     let may = may_first g.H.Hear.can_hear g.H.Hear.hears c.args.h.now
@@ -19,13 +19,13 @@ hear_literal-requires g c =
     along (λ (x : ℤ) (y : ℤ) (z : ℤ). MayHearAll g.H.Hear.can_hear g.H.Hear.hears c.args.h.now (literal_tells c.args.lit x y z))
     (sym (to_z-of_z w64 c.args.limit c.ranges.limit)) (sym sum.least) (sym sum.greatest) may
 
-pub hear_bounds-requires-clause-hearer : goal.hear_bounds-requires-clause-hearer
-hear_bounds-requires-clause-hearer g c =
+pub tell_bounds-requires-clause-hearer : goal.tell_bounds-requires-clause-hearer
+tell_bounds-requires-clause-hearer g c =
     let sum = c.sum_range-sum.ensures in
     let terms = zip c.args.coeffs.now c.args.vars.now in
-    let now = c.hear_literal.new.h in
+    let now = c.tell_literal.new.h in
     let heard = along (λ (x : ℤ) (y : ℤ) (z : ℤ). HearsAll g.H.Hear.hears c.args.h.now (literal_tells c.args.lit x y z) now)
-    (to_z-of_z w64 c.args.limit c.ranges.limit) sum.least sum.greatest c.hear_literal.ensures in
+    (to_z-of_z w64 c.args.limit c.ranges.limit) sum.least sum.greatest c.tell_literal.ensures in
     let may = may_rest g.H.Hear.can_hear g.H.Hear.hears c.args.h.now now
     (literal_tells c.args.lit c.args.limit (sum_over (least_of c.args.b.now) terms) (sum_over (greatest_of c.args.b.now) terms))
     (bound_tells c.args.lit terms c.args.limit (sum_over (least_of c.args.b.now) terms) (sum_over (greatest_of c.args.b.now) terms) c.args.b.now)
@@ -37,12 +37,12 @@ pub returns : goal.returns
 returns g c =
     let sum = c.sum_range-sum.ensures in
     let terms = zip c.args.coeffs.now c.args.vars.now in
-    let now = c.hear_literal.new.h in
-    let after = c.hear_bounds.new.h in
+    let now = c.tell_literal.new.h in
+    let after = c.tell_bounds.new.h in
     let first = along (λ (x : ℤ) (y : ℤ) (z : ℤ). HearsAll g.H.Hear.hears c.args.h.now (literal_tells c.args.lit x y z) now)
-    (to_z-of_z w64 c.args.limit c.ranges.limit) sum.least sum.greatest c.hear_literal.ensures in
+    (to_z-of_z w64 c.args.limit c.ranges.limit) sum.least sum.greatest c.tell_literal.ensures in
     let second = along (λ (x : ℤ) (y : ℤ) (z : ℤ). HearsAll g.H.Hear.hears now (bound_tells c.args.lit terms x y z c.args.b.now) after)
-    (to_z-of_z w64 c.args.limit c.ranges.limit) sum.least sum.greatest c.hear_bounds.ensures in
+    (to_z-of_z w64 c.args.limit c.ranges.limit) sum.least sum.greatest c.tell_bounds.ensures in
     hears_both g.H.Hear.can_hear g.H.Hear.hears c.args.h.now now after
     (literal_tells c.args.lit c.args.limit (sum_over (least_of c.args.b.now) terms) (sum_over (greatest_of c.args.b.now) terms))
     (bound_tells c.args.lit terms c.args.limit (sum_over (least_of c.args.b.now) terms) (sum_over (greatest_of c.args.b.now) terms) c.args.b.now)
@@ -52,5 +52,5 @@ returns g c =
 pub sum_range-sum-requires-clause-variables : goal.sum_range-sum-requires-clause-variables
 sum_range-sum-requires-clause-variables g c = record { each = λ i h. c.requires.variables.each (suc i) (omega arith) }
 
-pub hear_bounds-requires-clause-variables : goal.hear_bounds-requires-clause-variables
-hear_bounds-requires-clause-variables g c = record { each = λ i h. c.requires.variables.each (suc i) (omega arith) }
+pub tell_bounds-requires-clause-variables : goal.tell_bounds-requires-clause-variables
+tell_bounds-requires-clause-variables g c = record { each = λ i h. c.requires.variables.each (suc i) (omega arith) }

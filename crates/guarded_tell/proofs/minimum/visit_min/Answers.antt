@@ -13,11 +13,11 @@ hear-requires g c =
     let Q : Tell → Type 0 = g.H.Hear.can_hear c.args.h.now in
     subst Q (sym c.no_number.ensures) may.0
 
-pub hear_least-requires-clause-some : goal.hear_least-requires-clause-some
-hear_least-requires-clause-some g c = some_there c.args.xs.now _ c.is_empty.ensures c.if-is_empty.false
+pub tell_least-requires-clause-some : goal.tell_least-requires-clause-some
+tell_least-requires-clause-some g c = some_there c.args.xs.now _ c.is_empty.ensures c.if-is_empty.false
 
-pub hear_least-requires-clause-hearer : goal.hear_least-requires-clause-hearer
-hear_least-requires-clause-hearer g c =
+pub tell_least-requires-clause-hearer : goal.tell_least-requires-clause-hearer
+tell_least-requires-clause-hearer g c =
     let P : List Tell → Type 0 = λ ts. MayHearAll g.H.Hear.can_hear g.H.Hear.hears c.args.h.now ts in
     subst P (min_of_some c.args.m c.args.xs.now c.args.b.now (some_there c.args.xs.now _ c.is_empty.ensures c.if-is_empty.false)) c.requires.hearer
 
@@ -29,5 +29,5 @@ returns-then-is_empty g c =
 
 pub returns-else-is_empty : goal.returns-else-is_empty
 returns-else-is_empty g c =
-    let P : List Tell → Type 0 = λ ts. HearsAll g.H.Hear.hears c.args.h.now ts c.hear_least.new.h in
-    subst P (sym (min_of_some c.args.m c.args.xs.now c.args.b.now (some_there c.args.xs.now _ c.is_empty.ensures c.if-is_empty.false))) c.hear_least.ensures
+    let P : List Tell → Type 0 = λ ts. HearsAll g.H.Hear.hears c.args.h.now ts c.tell_least.new.h in
+    subst P (sym (min_of_some c.args.m c.args.xs.now c.args.b.now (some_there c.args.xs.now _ c.is_empty.ensures c.if-is_empty.false))) c.tell_least.ensures

@@ -1,10 +1,15 @@
-use Rattle.std.proofs.Common.{false}
-use Rattle.search.specs.Ends.{EndsDone}
-use Rattle.search.proofs.RunLaws.{of_false, all_done}
+use Rattle.std.proofs.Common.{refl}
+use Rattle.search.specs.declared.kind.Kind.{Kind}
+use Rattle.search.specs.Ends.{search_of}
+use Rattle.search.proofs.RunLaws.{all_done, done_of, spent_of}
 use Rattle.search.proofs.runs.all_in.Goals as goal
 
-pub returns : goal.returns
-returns c =
-    let found = c.in_ok-closing.closing.found in
-    all_done c.args.model.now c.args.kernels.now c.args.limit c.args.sub.now found
-    (of_false c.in_ok-closing.closing.is_spent (EndsDone c.args.model.now c.args.kernels.now c.args.limit false c.args.sub.now found) c.if-is_spent.false c.in_ok-closing.ensures.done)
+pub returns-in-None : goal.returns-in-None
+returns-in-None c =
+    let s = (search_of c.args.run.now.model.now c.args.run.now.program.now c.args.run.now.node_limit c.args.run.now.round_limit Kind.All c.args.sub.now) in
+    all_done s refl c.in_ok-closing.closing.found (done_of s c.in_ok-closing.closing c.in-None.is c.in_ok-closing.ensures)
+
+pub returns-in-Some : goal.returns-in-Some
+returns-in-Some c =
+    let s = (search_of c.args.run.now.model.now c.args.run.now.program.now c.args.run.now.node_limit c.args.run.now.round_limit Kind.All c.args.sub.now) in
+    spent_of s c.in_ok-closing.closing c.in-Some.why c.in-Some.is c.in_ok-closing.ensures

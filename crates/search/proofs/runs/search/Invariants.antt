@@ -1,15 +1,18 @@
-use Rattle.std.proofs.Common.{◌≡◌, ◌≤◌, ◌⊎◌, ℕ, length}
+use Rattle.std.proofs.Common.{◌≡◌, ℕ, length, None}
 use Rattle.std.specs.List.{sum_by}
 use Rattle.search.specs.Machine.{Reached}
+use Rattle.search.specs.Ends.{search_of}
 use Rattle.search.proofs.StackLaws.{weight}
+use Rattle.search.proofs.SearchLaws.{IsCounted}
 use Rattle.search.proofs.runs.search.Given as goal
 
--- the stack and what was found are those of a state that is reached; the nodes are counted where there is a limit
+-- the stack and what was found are those of a state that is reached, in which the nodes are counted
 abbrev pub invariant-loop-top : goal.invariant-loop-top
 invariant-loop-top l = record {
   count : ℕ;
-  reached : Reached l.model l.kernels l.limit l.is_first l.sub (record { stack = l.stack.items; count = count; found = l.found });
-  counted : (l.limit ≡ 0) ⊎ ((l.nodes ≡ count) × (l.nodes ≤ l.limit));
+  reached : Reached (search_of l.run.model.now l.run.program.now l.run.node_limit l.run.round_limit l.kind l.sub)
+      (record { stack = l.stack.items; best = None; count = count; found = l.found });
+  counted : IsCounted l.run.node_limit l.nodes count;
   spare : length l.spare ≡ length l.sub;
 }
 

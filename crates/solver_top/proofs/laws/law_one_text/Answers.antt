@@ -1,5 +1,8 @@
-use Rattle.solver_top.proofs.TextLaws.{one_model, one_fault, never_both}
+use Rattle.solver_top.proofs.TextLaws.{some_text, one_model, one_fault, never_both}
 use Rattle.solver_top.proofs.laws.law_one_text.Goals as goal
+
+pub returns-clause-some : goal.returns-clause-some
+returns-clause-some c = some_text c.law_one_reading.ensures.lexes_or_faults c.law_one_reading-2.ensures.reads_or_faults c.law_one_model.ensures.some
 
 pub returns-clause-one_model : goal.returns-clause-one_model
 returns-clause-one_model c = one_model (record {

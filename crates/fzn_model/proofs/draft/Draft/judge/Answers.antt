@@ -4,7 +4,7 @@ use Rattle.fzn_model.specs.declared.effect.Effect.{Effect}
 use Rattle.fzn_model.specs.Drafts.{seen}
 use Rattle.fzn_model.specs.Effects.{effect_of}
 use Rattle.fzn_model.specs.Faults.{fault_of, own_tests, place_tests, first_kind, Refuses}
-use Rattle.fzn_model.proofs.FaultLaws.{refused_place}
+use Rattle.fzn_model.proofs.FaultLaws.{refused_own, refused_place}
 use Rattle.fzn_model.proofs.draft.Draft.judge.Goals as goal
 
 pub returns-in-Err-place-clause-fault : goal.returns-in-Err-place-clause-fault
@@ -19,3 +19,10 @@ returns-in-Err-place-clause-fault c =
     let e : c.in-Ok.effect ≡ effect_of c.args.text.now before.scope (length before.vars) what =
     c.in-Ok.ensures.effect ∙ ap (λ n. effect_of c.args.text.now before.scope n what) c.len-count.ensures in
     subst P e (refused_place own (place_tests before what c.in-Ok.effect) c.in-Err-place.stop l f)
+
+pub returns-in-Err-clause-fault : goal.returns-in-Err-clause-fault
+unfolding fault_of
+returns-in-Err-clause-fault c =
+    let before = seen c.args.self.now in
+    let what = what_tree c.args.what.now in
+    refused_own (own_tests c.args.text.now before.scope what) (place_tests before what (effect_of c.args.text.now before.scope (length before.vars) what)) c.in-Err.stop c.in-Err.ensures.fault

@@ -1,6 +1,0 @@
-use Rattle.std.proofs.Common.{◌∙◌}
-use Rattle.guarded_tell.proofs.RowExamples.{clause_made}
-use Rattle.guarded_tell.proofs.rows.clause.Goals as goal
-
-pub returns : goal.returns
-returns c = clause_made c.from_vec-lits.result (c.from_vec-lits.ensures ∙ c.in_ok-vec.ensures.items)

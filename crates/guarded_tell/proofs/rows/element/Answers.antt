@@ -1,6 +1,0 @@
-use Rattle.std.proofs.Common.{◌∙◌}
-use Rattle.guarded_tell.proofs.RowExamples.{element_made}
-use Rattle.guarded_tell.proofs.rows.element.Goals as goal
-
-pub returns : goal.returns
-returns c = element_made c.from_vec-entries.result (c.from_vec-entries.ensures ∙ c.in_ok-vec.ensures.items)

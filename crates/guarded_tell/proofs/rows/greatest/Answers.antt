@@ -1,6 +1,0 @@
-use Rattle.std.proofs.Common.{◌∙◌}
-use Rattle.guarded_tell.proofs.RowExamples.{greatest_made}
-use Rattle.guarded_tell.proofs.rows.greatest.Goals as goal
-
-pub returns : goal.returns
-returns c = greatest_made c.from_vec-xs.result (c.from_vec-xs.ensures ∙ c.in_ok-vec.ensures.items)

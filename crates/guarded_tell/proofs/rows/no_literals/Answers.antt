@@ -1,5 +1,0 @@
-use Rattle.guarded_tell.proofs.RowExamples.{no_literals_made}
-use Rattle.guarded_tell.proofs.rows.no_literals.Goals as goal
-
-pub returns : goal.returns
-returns c = no_literals_made c.new.result c.new.ensures

@@ -1,0 +1,395 @@
+//! The tells of the linear inequality and the linear equation, with the bounds worked out by hand.
+
+ghost use Rattle.std.specs.Prelude.{◌≡◌, ◌≤◌, IfOk, unsigned_abs};
+ghost use Rattle.interval.specs.Limits.{IsNumber, largest_number};
+ghost use Rattle.guarded_tell.specs.Kernels.{IsKernel};
+
+use crate::test_support::{LARGEST, PAST, after, expect, high, low, number};
+use crate::{Kernel, Lit};
+use list_of::ListOf;
+use std::alloc::{AllocError, Global};
+use std::test::Fail;
+
+/// The literal of variable 0 is true exactly where the two products with variables 1 and 2 sum up to at most the limit.
+fn inequality(
+    alloc: Global,
+    positive: bool,
+    first: i64,
+    second: i64,
+    limit: i64,
+) -> Result<Kernel, AllocError>
+    requires first { IsNumber first }
+    requires second { IsNumber second }
+    requires limit { IsNumber limit }
+    ensures { IfOk result (IsKernel 4) }
+{
+    let coeffs = ListOf::from_vec(vec![in alloc; first, second]?);
+    let vars = ListOf::from_vec(vec![in alloc; 1u32, 2u32]?);
+    let lit = Lit { var: 0, positive };
+    Ok(Kernel::Le {
+        lit,
+        coeffs,
+        vars,
+        limit,
+    })
+}
+
+/// The literal of variable 0 is true exactly where 0 is at most the limit.
+fn no_terms(alloc: Global, limit: i64) -> Kernel
+    requires { IsNumber limit }
+    ensures { IsKernel 4 result }
+{
+    let lit = Lit {
+        var: 0,
+        positive: true,
+    };
+    Kernel::Le {
+        lit,
+        coeffs: ListOf::new(alloc),
+        vars: ListOf::new(alloc),
+        limit,
+    }
+}
+
+/// The literal of variable 0 is true exactly where the two products with variables 1 and 2 have the limit as their sum.
+fn equation(
+    alloc: Global,
+    positive: bool,
+    first: i64,
+    second: i64,
+    limit: i64,
+) -> Result<Kernel, AllocError>
+    requires first { IsNumber first }
+    requires second { IsNumber second }
+    requires limit { IsNumber limit }
+    ensures { IfOk result (IsKernel 4) }
+{
+    let coeffs = ListOf::from_vec(vec![in alloc; first, second]?);
+    let vars = ListOf::from_vec(vec![in alloc; 1u32, 2u32]?);
+    let lit = Lit { var: 0, positive };
+    Ok(Kernel::Eq {
+        lit,
+        coeffs,
+        vars,
+        limit,
+    })
+}
+
+#[test]
+fn the_inequality_gives_its_tells_in_order(rt: HostRuntime) -> Result<(), Fail> {
+    let alloc = rt.alloc();
+    let sure = inequality(
+        alloc,
+        true,
+        number(&rt, 2),
+        number(&rt, -3),
+        number(&rt, -13),
+    )?;
+    expect(
+        &rt,
+        alloc,
+        &sure,
+        [(1, 1), (-5, 5), (0, 2), (0, 0)],
+        &[high(1, -4), low(2, 1)],
+    )?;
+    let loose = inequality(alloc, true, number(&rt, 2), number(&rt, -3), number(&rt, 1))?;
+    expect(
+        &rt,
+        alloc,
+        &loose,
+        [(1, 1), (-5, 5), (0, 2), (0, 0)],
+        &[high(1, 3), low(2, -3)],
+    )?;
+    let out = inequality(alloc, true, number(&rt, 2), number(&rt, -3), number(&rt, 4))?;
+    expect(
+        &rt,
+        alloc,
+        &out,
+        [(0, 0), (-5, 5), (0, 2), (0, 0)],
+        &[low(1, 3), high(2, 1)],
+    )?;
+    let met = inequality(alloc, true, number(&rt, 2), number(&rt, 0), number(&rt, 10))?;
+    expect(
+        &rt,
+        alloc,
+        &met,
+        [(1, 1), (-5, 5), (0, 2), (0, 0)],
+        &[low(0, 1), high(1, 5)],
+    )?;
+    Ok(())
+}
+
+#[test]
+fn the_inequality_reaches_the_ends_of_the_range(rt: HostRuntime) -> Result<(), Fail> {
+    let alloc = rt.alloc();
+    let wide = inequality(
+        alloc,
+        true,
+        number(&rt, LARGEST),
+        number(&rt, -LARGEST),
+        number(&rt, -LARGEST),
+    )?;
+    expect(
+        &rt,
+        alloc,
+        &wide,
+        [(1, 1), (-PAST, PAST), (-PAST, PAST), (0, 0)],
+        &[high(1, LARGEST), low(2, -LARGEST)],
+    )?;
+    let clamped = inequality(
+        alloc,
+        true,
+        number(&rt, 1),
+        number(&rt, 1),
+        number(&rt, LARGEST),
+    )?;
+    expect(
+        &rt,
+        alloc,
+        &clamped,
+        [(1, 1), (-PAST, -PAST), (-PAST, -PAST), (0, 0)],
+        &[low(0, 1), high(1, PAST), high(2, PAST)],
+    )?;
+    Ok(())
+}
+
+#[test]
+fn the_inequality_tells_what_is_worked_out_by_hand(rt: HostRuntime) -> Result<(), Fail> {
+    let alloc = rt.alloc();
+    // The literal's sign, the coefficient and the limit; the bounds of the literal's variable and of the term's; both
+    // after the tells.
+    for (positive, coeff, limit, literal, x, literal_after, x_after) in [
+        (true, 2, -3, (1, 1), (-5, 5), (1, 1), (-5, -2)),
+        (true, 1, 4, (0, 1), (0, 4), (1, 1), (0, 4)),
+        (true, -2, 3, (1, 1), (-5, 5), (1, 1), (-1, 5)),
+        (true, 3, 4, (0, 0), (-5, 5), (0, 0), (2, 5)),
+        (true, -3, 4, (0, 0), (-5, 5), (0, 0), (-5, -2)),
+        (false, 2, -3, (0, 0), (-5, 5), (0, 0), (-5, -2)),
+        (true, 1, 4, (0, 1), (5, 7), (0, 0), (5, 7)),
+        (false, 1, 4, (0, 1), (5, 7), (1, 1), (5, 7)),
+        (true, 0, -1, (0, 1), (5, 7), (0, 0), (5, 7)),
+        (true, 1, 4, (0, 1), (3, 7), (0, 1), (3, 7)),
+    ] {
+        let kernel = inequality(alloc, positive, number(&rt, coeff), 0, number(&rt, limit))?;
+        assert_eq!(rt;
+            after(&rt, alloc, &kernel, [literal, x, (0, 0), (0, 0)])?,
+            [literal_after, x_after, (0, 0), (0, 0)],
+            "at {coeff} and {limit}"
+        );
+    }
+    let kernel = no_terms(alloc, number(&rt, -1));
+    expect(
+        &rt,
+        alloc,
+        &kernel,
+        [(1, 1), (0, 0), (0, 0), (0, 0)],
+        &[high(0, 0)],
+    )?;
+    Ok(())
+}
+
+#[test]
+fn the_equation_gives_its_tells_in_order(rt: HostRuntime) -> Result<(), Fail> {
+    let alloc = rt.alloc();
+    let sure = equation(alloc, true, number(&rt, 2), number(&rt, -3), number(&rt, 1))?;
+    expect(
+        &rt,
+        alloc,
+        &sure,
+        [(1, 1), (-5, 5), (0, 2), (0, 0)],
+        &[high(1, 3), low(1, 1), low(2, -3), high(2, 3)],
+    )?;
+    let out = equation(alloc, true, number(&rt, 1), number(&rt, -1), number(&rt, 0))?;
+    expect(
+        &rt,
+        alloc,
+        &out,
+        [(0, 0), (1, 3), (1, 1), (0, 0)],
+        &[low(1, 2)],
+    )?;
+    expect(
+        &rt,
+        alloc,
+        &out,
+        [(1, 1), (3, 3), (1, 1), (0, 0)],
+        &[high(0, 0), high(1, 1), low(1, 1), low(2, 3), high(2, 3)],
+    )?;
+    Ok(())
+}
+
+#[test]
+fn the_equation_reaches_the_ends_of_the_range(rt: HostRuntime) -> Result<(), Fail> {
+    let alloc = rt.alloc();
+    let wide = equation(
+        alloc,
+        true,
+        number(&rt, LARGEST),
+        number(&rt, -LARGEST),
+        number(&rt, 0),
+    )?;
+    expect(
+        &rt,
+        alloc,
+        &wide,
+        [(1, 1), (PAST, PAST), (-PAST, PAST), (0, 0)],
+        &[high(1, PAST), low(1, -PAST), low(2, PAST), high(2, PAST)],
+    )?;
+    let last = equation(
+        alloc,
+        true,
+        number(&rt, 1),
+        number(&rt, 0),
+        number(&rt, LARGEST),
+    )?;
+    expect(
+        &rt,
+        alloc,
+        &last,
+        [(0, 0), (LARGEST, LARGEST), (-PAST, PAST), (0, 0)],
+        &[low(0, 1), low(1, PAST), high(1, LARGEST - 1)],
+    )?;
+    Ok(())
+}
+
+#[test]
+fn the_equation_tells_what_is_worked_out_by_hand(rt: HostRuntime) -> Result<(), Fail> {
+    let alloc = rt.alloc();
+    // The literal's sign, the two coefficients and the limit; the bounds of the literal's variable and of the terms'; all
+    // after the tells.
+    for (positive, first, second, limit, literal, x, y, after_all) in [
+        (
+            false,
+            1,
+            -1,
+            0,
+            (1, 1),
+            (1, 3),
+            (1, 1),
+            [(1, 1), (2, 3), (1, 1), (0, 0)],
+        ),
+        (
+            false,
+            1,
+            -1,
+            0,
+            (1, 1),
+            (-1, 1),
+            (1, 1),
+            [(1, 1), (-1, 0), (1, 1), (0, 0)],
+        ),
+        (
+            true,
+            1,
+            -1,
+            0,
+            (0, 0),
+            (4, 4),
+            (4, 7),
+            [(0, 0), (4, 4), (5, 7), (0, 0)],
+        ),
+        (
+            true,
+            2,
+            0,
+            6,
+            (0, 0),
+            (3, 3),
+            (4, 7),
+            [(1, 0), (4, 2), (4, 7), (0, 0)],
+        ),
+        (
+            true,
+            2,
+            0,
+            5,
+            (0, 0),
+            (2, 3),
+            (4, 7),
+            [(0, 0), (2, 3), (4, 7), (0, 0)],
+        ),
+        (
+            true,
+            1,
+            -1,
+            0,
+            (0, 0),
+            (1, 3),
+            (1, 3),
+            [(0, 0), (1, 3), (1, 3), (0, 0)],
+        ),
+        (
+            true,
+            2,
+            -3,
+            1,
+            (1, 1),
+            (-5, 5),
+            (0, 2),
+            [(1, 1), (1, 3), (0, 2), (0, 0)],
+        ),
+        (
+            true,
+            2,
+            -3,
+            1,
+            (1, 1),
+            (3, 9),
+            (-9, 2),
+            [(1, 1), (3, 3), (2, 2), (0, 0)],
+        ),
+        (
+            true,
+            1,
+            1,
+            5,
+            (0, 1),
+            (2, 2),
+            (3, 3),
+            [(1, 1), (2, 2), (3, 3), (0, 0)],
+        ),
+        (
+            true,
+            1,
+            1,
+            5,
+            (0, 1),
+            (2, 3),
+            (0, 1),
+            [(0, 0), (2, 3), (0, 1), (0, 0)],
+        ),
+        (
+            false,
+            1,
+            1,
+            5,
+            (0, 1),
+            (3, 4),
+            (3, 4),
+            [(1, 1), (3, 4), (3, 4), (0, 0)],
+        ),
+        (
+            true,
+            1,
+            1,
+            5,
+            (0, 1),
+            (0, 9),
+            (0, 9),
+            [(0, 1), (0, 9), (0, 9), (0, 0)],
+        ),
+    ] {
+        let kernel = equation(
+            alloc,
+            positive,
+            number(&rt, first),
+            number(&rt, second),
+            number(&rt, limit),
+        )?;
+        assert_eq!(rt;
+            after(&rt, alloc, &kernel, [literal, x, y, (0, 0)])?,
+            after_all,
+            "at {first}, {second} and {limit}"
+        );
+    }
+    Ok(())
+}

@@ -1,0 +1,46 @@
+//! What the loops of all runs share: how a search closes, its count and its stack.
+
+ghost use Rattle.std.specs.Prelude.{◌≡◌, ◌≢◌, ◌⊎◌, ◌<◌, ◌≤◌, ◌+◌, [], ◌∷◌, IfOk};
+ghost use Rattle.std.specs.Bool.{OnTrue, OnFalse};
+
+use crate::ends::Why;
+use interval::BoxOf;
+use list_of::ListOf;
+use std::alloc::{AllocError, Global};
+
+/// How a search ended.
+#[derive(Drop)]
+pub(crate) struct Closing {
+    /// What it recorded.
+    pub(crate) found: ListOf<ListOf<i64>>,
+    /// The number of its nodes.
+    pub(crate) nodes: u64,
+    /// Which limit stopped it, if one did.
+    pub(crate) stopped: Option<Why>,
+}
+
+/// Whether the limit allows no further node.
+pub(crate) fn is_full(limit: u64, nodes: u64) -> bool
+    ensures full { OnTrue result ((limit ≢ 0) × (nodes ≡ limit)) }
+    ensures below { OnFalse result ((limit ≡ 0) ⊎ (nodes ≢ limit)) }
+    ensures short { limit ≤ 18446744073709551615 }
+{
+    limit != 0 && nodes == limit
+}
+
+/// One node more, or the greatest number where there is no greater.
+pub(crate) fn counted(nodes: u64) -> u64
+    ensures more { nodes < 18446744073709551615 → result ≡ nodes + 1 }
+    ensures most { 18446744073709551615 ≤ nodes → result ≡ nodes }
+{
+    if nodes < u64::MAX { nodes + 1 } else { nodes }
+}
+
+/// The stack of one box.
+pub(crate) fn stack_of(alloc: Global, b: BoxOf) -> Result<Vec<BoxOf>, AllocError>
+    ensures { IfOk result (λ stack. stack.items ≡ b ∷ []) }
+{
+    let mut stack = Vec::new(alloc);
+    stack.push(b)?;
+    Ok(stack)
+}

@@ -7,3 +7,4 @@ pub mod Settling
 pub mod Widths
 pub mod QuietLaws
 pub mod Asking
+pub mod Examples

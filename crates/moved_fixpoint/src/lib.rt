@@ -6,6 +6,8 @@ mod laws;
 mod round;
 mod running;
 mod settle;
+#[cfg(test)]
+mod tests;
 
 pub use joiner::MovedSets;
 pub use laws::law_quiet_unless_moved;

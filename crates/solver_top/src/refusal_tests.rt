@@ -179,7 +179,7 @@ const LINES: &[(&str, u8, u64, &str)] = &[
         "refused 2 Syntax line 2\n",
     ),
     (
-        "var 1..2: x; constraint int_le(1,\n9999999999);\nconstraint int_le(q,1);\nsolve satisfy;\n",
+        "var 1..2: x; constraint int_le(1,\n999999999999999);\nconstraint int_le(q,1);\nsolve satisfy;\n",
         8,
         1,
         "refused 8 OutOfRange line 1\n",

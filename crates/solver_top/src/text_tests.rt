@@ -103,7 +103,7 @@ const WRITTEN: &[(&str, &str)] = &[
     (
         "var 1..3: x :: output_var;constraint int_le(2,x)::domain::defines_var(x)::a([b,c(1..2)],{3},\"s\");\
          solve::int_search([x],first_fail,indomain_max,complete)satisfy;",
-        "x = 2;\n----------\n",
+        "x = 3;\n----------\n",
     ),
     (
         "predicate p(var int: x); predicate my_own(array [int] of var bool: xs, set of int: s, var 1..3: y); \
@@ -113,7 +113,17 @@ const WRITTEN: &[(&str, &str)] = &[
     (
         "var 1..3: x :: output_var; array [1..2] of var int: a :: output_array([1..2]) = [x,4]; \
          array [1..0] of bool: e = []; var 2..3: y :: output_var; solve satisfy;",
-        "x = 1;\ny = 2;\n----------\n",
+        "x = 1;\na = array1d(1..2, [1, 4]);\ny = 2;\n----------\n",
+    ),
+    (
+        "var 0..2: x :: output_var; var 0..1: y :: output_var; \
+         solve :: int_search([x,y], first_fail, indomain_max, complete) satisfy;",
+        "x = 2;\ny = 1;\n----------\n",
+    ),
+    (
+        "array [1..4] of var bool: a :: output_array([1..2,1..2]) = [true,false,false,true]; \
+         array [1..0] of var int: e :: output_array([1..0]) = []; solve satisfy;",
+        "a = array2d(1..2, 1..2, [true, false, false, true]);\ne = array1d(1..0, []);\n----------\n",
     ),
 ];
 

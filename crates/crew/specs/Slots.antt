@@ -13,7 +13,7 @@ pub record AreEmpty {E : Type 0} (count : ℕ) (slots : List (Option E)) : Type 
 pub record HoldEnds {E : Type 0} (count : ℕ) (runs : List (ℕ × E)) (slots : List (Option E)) : Type 0 where
   pub length_is : length slots ≡ count
   pub missing : (k : ℕ) → k < count → slice_index_or slots k None ≡ None → times k (numbers_of runs) ≡ 0
-  pub of_run : (k : ℕ) (end : E) → slice_index_or slots k None ≡ Some end → Contains runs (k , end)
+  pub of_run : (k : ℕ) (end : E) → slice_index_or slots k None ≡ Some end → Contains runs (k, end)
 
 -- the slots hold these ends
 abbrev pub AreFilledWith : {E : Type 0} → List (Option E) → List E → Type 0

@@ -92,7 +92,12 @@ impl Job<Counter, u64, u64> for Doubles {
 
 /// Whether the ends are the doubled numbers, in order.
 fn are_doubled(ends: &ListOf<u64>, count: u32) -> bool {
-    ends.len() == count as usize && ends.as_slice().iter().enumerate().all(|(i, end)| i as u64 * 2 == *end)
+    ends.len() == count as usize
+        && ends
+            .as_slice()
+            .iter()
+            .enumerate()
+            .all(|(i, end)| i as u64 * 2 == *end)
 }
 
 #[test]
@@ -154,6 +159,32 @@ fn turns_go_on_over_two_calls(rt: HostRuntime) -> Result<(), Fail> {
     }
     assert!(rt; !gate.was_wrong.load(Ordering::SeqCst));
     assert_eq!(rt; gate.next.load(Ordering::SeqCst), 5);
+    Ok(())
+}
+
+/// Counts the passes of all workers.
+#[derive(Drop)]
+struct Passes {
+    count: AtomicU64,
+}
+
+impl Gate for Passes {
+    fn pass(&self, _worker: u32, _turn: u64) {
+        self.count.fetch_add(1, Ordering::SeqCst);
+    }
+}
+
+#[test]
+fn each_worker_passes_before_each_number_and_once_more(rt: HostRuntime) -> Result<(), Fail> {
+    let gate = Passes {
+        count: AtomicU64::new(0),
+    };
+    let mut crew = Workers::new(rt.alloc(), 3)?;
+    let job = Doubles::new(7);
+    let mut seat = Counter { runs: 0 };
+    let ends = run_numbers(&rt, rt.alloc(), &mut crew, &job, 7, &gate, &mut seat)?;
+    assert!(rt; are_doubled(&ends, 7));
+    assert_eq!(rt; gate.count.load(Ordering::SeqCst), 10);
     Ok(())
 }
 

@@ -29,7 +29,6 @@ fn remainder(x: u32, y: u32, z: u32) -> Kernel
 
 #[test]
 fn the_division_gives_its_tells_in_order(rt: HostRuntime) -> Result<(), Fail> {
-    let kernel = quotient(0, 1, 2);
     // The bounds of dividend, divisor and quotient, and the tells.
     let table: [((i64, i64), (i64, i64), (i64, i64), &[Tell]); 11] = [
         (
@@ -163,6 +162,7 @@ fn the_division_gives_its_tells_in_order(rt: HostRuntime) -> Result<(), Fail> {
         ),
     ];
     for (x, y, z, tells) in table {
+        let kernel = quotient(0, 1, 2);
         expect(&rt, rt.alloc(), &kernel, [x, y, z, (0, 0)], tells)?;
     }
     Ok(())
@@ -170,7 +170,6 @@ fn the_division_gives_its_tells_in_order(rt: HostRuntime) -> Result<(), Fail> {
 
 #[test]
 fn the_remainder_gives_its_tells_in_order(rt: HostRuntime) -> Result<(), Fail> {
-    let kernel = remainder(0, 1, 2);
     // The bounds of dividend and divisor, and the tells.
     let table: [((i64, i64), (i64, i64), &[Tell]); 11] = [
         ((-7, 7), (2, 3), &[low(2, -2), high(2, 2)]),
@@ -213,6 +212,7 @@ fn the_remainder_gives_its_tells_in_order(rt: HostRuntime) -> Result<(), Fail> {
         ),
     ];
     for (x, y, tells) in table {
+        let kernel = remainder(0, 1, 2);
         expect(&rt, rt.alloc(), &kernel, [x, y, (0, 0), (0, 0)], tells)?;
     }
     Ok(())
@@ -220,13 +220,13 @@ fn the_remainder_gives_its_tells_in_order(rt: HostRuntime) -> Result<(), Fail> {
 
 #[test]
 fn a_variable_may_stand_at_several_places(rt: HostRuntime) -> Result<(), Fail> {
-    let itself = remainder(0, 0, 0);
     let table: [((i64, i64), &[Tell]); 3] = [
         ((-5, 5), &[low(0, -4), high(0, 4)]),
         ((0, 0), &[low(0, 1), high(0, -1)]),
         ((1, 1), &[low(0, 0), high(0, 0), low(0, 0), high(0, 0)]),
     ];
     for (x, tells) in table {
+        let itself = remainder(0, 0, 0);
         expect(&rt, rt.alloc(), &itself, [x, (0, 0), (0, 0), (0, 0)], tells)?;
     }
     let by_itself = quotient(0, 0, 1);

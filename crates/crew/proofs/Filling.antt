@@ -1,8 +1,8 @@
 -- Slots that are filled with the ends of runs.
-use Rattle.std.proofs.Common.{ℕ, zero, suc, ◌≡◌, ◌≢◌, ◌+◌, ◌<◌, ◌≤◌, List, [], ◌∷◌, ◌++◌, map, set, get_or, length, Bool, cond, refl, sym, ap, subst, ◌∙◌, lt_of_not-le, arith, eq-eqb, ne_eqb}
+use Rattle.std.proofs.Common.{ℕ, zero, suc, ◌≡◌, ◌≢◌, ◌+◌, ◌<◌, ◌≤◌, List, [], ◌∷◌, ◌++◌, set, get_or, length, Bool, cond, refl, sym, ap, subst, ◌∙◌, lt_of_not-le, arith, eq-eqb, ne_eqb}
 use Rattle.std.specs.Prelude.{◌==◌, Option, None, Some, IsSome, unwrap_or}
 use Rattle.std.specs.List.{All, Contains}
-use Rattle.std.proofs.lemmas.List.{map-append, get_or-set_same, get_or-set_other, length-set, length-map, get_or-map}
+use Rattle.std.proofs.lemmas.List.{map-append, get_or-set_other, length-set, length-map, get_or-map}
 use Rattle.std.proofs.lemmas.Grind.{get_or-set_at}
 use Rattle.std.proofs.lemmas.Option.{none-some, slice_get-get_or, slice_get_within, get_or_from_slice_get}
 use Rattle.std.proofs.lemmas.List.Sums.{sum_by-append, sum_by-cons}
@@ -41,7 +41,7 @@ times-snoc : {E : Type 0} (j k : ℕ) (end : E) (runs : List (ℕ × E)) → tim
 times-snoc j k end runs = ap (times j) (map-append (λ run. run.0) runs ((k, end) ∷ [])) ∙ times-append j (numbers_of runs) (k ∷ [])
 
 -- one run more
-pub hold_more : {E : Type 0} (count k : ℕ) (end : E) (runs : List (ℕ × E)) (slots : List (Option E)) → k < count → HoldEnds count runs slots → HoldEnds count (runs ++ (k, end) ∷ []) (set slots k (Some end))
+hold_more : {E : Type 0} (count k : ℕ) (end : E) (runs : List (ℕ × E)) (slots : List (Option E)) → k < count → HoldEnds count runs slots → HoldEnds count (runs ++ (k, end) ∷ []) (set slots k (Some end))
 hold_more {E} count k end runs slots below hold =
     let size = hold.length_is in
     let within : k < length slots = omega arith in record {
@@ -58,6 +58,10 @@ hold_more {E} count k end runs slots below hold =
           subst (Contains (runs ++ (k, end) ∷ [])) (ap (λ (n : ℕ). (n, end)) (sym e) ∙ ap (λ (o : E). (j, o)) same) (Contains-push runs (k, end)))
           (λ (ne : j ≢ k). Contains-append_left runs ((k, end) ∷ []) (j, other) (hold.of_run j other (sym (get_or-set_other slots k j (Some end) None ne) ∙ found)));
     }
+
+pub hold_after : {E : Type 0} (count k : ℕ) (end : E) (runs : List (ℕ × E)) (slots after : List (Option E)) → k < count → HoldEnds count runs slots → after ≡ set slots k (Some end) → HoldEnds count (runs ++ (k, end) ∷ []) after
+hold_after count k end runs slots after below hold is =
+    subst (HoldEnds count (runs ++ (k, end) ∷ [])) (sym is) (hold_more count k end runs slots below hold)
 
 is_some_unless : {E : Type 0} (slot : Option E) → (slot ≡ None → ⊥) → IsSome slot
 is_some_unless None not_none = absurd (not_none refl)

@@ -1,5 +1,5 @@
 -- The runs that some workers made, and their ends in order.
-use Rattle.std.specs.Prelude.{ℕ, ◌≡◌, ◌↔◌, List, map, length, slice_get, Option, Some}
+use Rattle.std.specs.Prelude.{ℕ, ◌≡◌, ◌↔◌, List, map, length, slice_get, Some}
 use Rattle.std.specs.List.{Contains}
 use Rattle.tickets.specs.Counting.{IsEachOnce}
 

@@ -1,5 +1,5 @@
 -- Slots of ends, one for each number.
-use Rattle.std.specs.Prelude.{ℕ, ◌≡◌, ◌<◌, List, map, length, slice_get, slice_index_or, Option, None, Some}
+use Rattle.std.specs.Prelude.{ℕ, ◌≡◌, ◌<◌, List, map, length, slice_index_or, Option, None, Some}
 use Rattle.std.specs.List.{All, Contains}
 use Rattle.tickets.specs.Counting.{times}
 use Rattle.crew.specs.Ends.{numbers_of}

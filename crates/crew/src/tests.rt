@@ -256,17 +256,17 @@ fn two_workers_meet(rt: HostRuntime) -> Result<(), Fail> {
     Ok(())
 }
 
-/// Numbers for which the workers share nothing.
+/// Halves the numbers of a list, for which the workers share nothing.
 #[derive(Drop)]
-struct Halves {
-    count: u32,
+struct Halves<'a> {
+    numbers: &'a [u32],
 }
 
-impl Job<(), (), u32> for Halves {
-    ghost use Rattle.std.specs.Prelude.{◌≡◌, ◌/◌, ⊤};
+impl<'a> Job<(), (), u32> for Halves<'a> {
+    ghost use Rattle.std.specs.Prelude.{◌≡◌, ◌/◌, length, slice_index, ⊤};
     ghost use Rattle.std.specs.List.{All};
 
-    ghost count = { λ job. job.count };
+    ghost count = { λ job. length job.numbers.now };
 
     ghost fits = { λ _ _. ⊤ };
 
@@ -274,7 +274,7 @@ impl Job<(), (), u32> for Halves {
 
     ghost owns = { λ _ _. ⊤ };
 
-    ghost stands = { λ _ _ runs. All (λ run. run.1 ≡ run.0 / 2) runs };
+    ghost stands = { λ job _ runs. All (λ run. run.1 ≡ slice_index job.numbers.now run.0 / 2) runs };
 
     fn own(&self, _alloc: Global) -> Result<(), NoMemory> {
         Ok(())
@@ -292,15 +292,16 @@ impl Job<(), (), u32> for Halves {
         _seat: &mut (),
         number: u32,
     ) -> Result<u32, NoMemory> {
-        Ok(number / 2)
+        Ok(self.numbers[number as usize] / 2)
     }
 }
 
 #[test]
 fn workers_may_share_nothing(rt: HostRuntime) -> Result<(), Fail> {
     let mut crew = Workers::new(rt.alloc(), 2)?;
-    let job = Halves { count: 5 };
+    let numbers = [9, 8, 1, 0, 7];
+    let job = Halves { numbers: &numbers };
     let ends = run_numbers(&rt, rt.alloc(), &mut crew, &job, 5, &NoGate, &mut ())?;
-    assert_eq!(rt; ends.as_slice(), [0, 0, 1, 1, 2].as_slice());
+    assert_eq!(rt; ends.as_slice(), [4, 4, 0, 0, 3].as_slice());
     Ok(())
 }

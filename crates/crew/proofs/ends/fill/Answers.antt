@@ -1,8 +1,7 @@
-use Rattle.std.proofs.Common.{◌≡◌, ◌<◌, ◌++◌, [], ◌∷◌, ap, sym, subst, ◌∙◌, arith, append_assoc}
+use Rattle.std.proofs.Common.{◌≡◌, ◌++◌, [], ◌∷◌, ap, sym, subst, ◌∙◌, arith, append_assoc}
 use Rattle.tickets.specs.Counting.{IsEachOnce}
 use Rattle.crew.specs.Ends.{numbers_of}
-use Rattle.crew.specs.Slots.{HoldEnds}
-use Rattle.crew.proofs.Filling.{number_below, hold_more}
+use Rattle.crew.proofs.Filling.{number_below, hold_after}
 use Rattle.crew.proofs.ends.fill.Goals as goal
 
 pub put-requires : goal.put-requires
@@ -20,6 +19,5 @@ loop-number-preserved g c =
     let below = number_below c.args.count c.in-Some.number c.in-Some.end c.loop-number.yielded c.next.new.self.rest.items
     (subst (λ xs. IsEachOnce c.args.count (numbers_of xs)) (sym all) c.requires.each_once) in record {
       all = append_assoc c.loop-number.yielded ((c.in-Some.number, c.in-Some.end) ∷ []) c.next.new.self.rest.items ∙ all;
-      held = subst (HoldEnds c.args.count (c.loop-number.yielded ++ (c.in-Some.number, c.in-Some.end) ∷ [])) (sym c.put.ensures)
-          (hold_more c.args.count c.in-Some.number c.in-Some.end c.loop-number.yielded c.loop-number.slots.items below c.loop-number.invariant.held);
+      held = hold_after c.args.count c.in-Some.number c.in-Some.end c.loop-number.yielded c.loop-number.slots.items c.put.new.slots.items below c.loop-number.invariant.held c.put.ensures;
     }

@@ -10,7 +10,7 @@ use Rattle.interval.specs.Limits.{IsNumber, IsBound, bound_limit, largest_number
 use Rattle.interval.specs.Boxes.{Bounds, IsInRange}
 use Rattle.guarded_tell.specs.declared.tell.Lit.{Lit}
 use Rattle.guarded_tell.specs.declared.kernel.Kernel.{Kernel}
-use Rattle.guarded_tell.specs.declared.kernel.Kernel.TheVariants.{Le, Eq, Times, Abs, Max, Min, Clause, Element, InSet}
+use Rattle.guarded_tell.specs.declared.kernel.Kernel.TheVariants.{Le, Eq, Times, Div, Mod, Abs, Max, Min, Clause, Element, InSet}
 use Rattle.guarded_tell.specs.Words.{AreVariables}
 use Rattle.guarded_tell.specs.Linear.{IsLinear, term_limit}
 use Rattle.guarded_tell.specs.Extremes.{member_limit}
@@ -60,9 +60,21 @@ module _ (l : Lit) (coeffs : List ℤ) (vars : List ℕ) (limit z : ℤ) (e : z 
   unfolding vars_of HasNumbers
   equal_made = subst (λ (y : ℤ). IsKernel 40 (Eq l coeffs vars y)) (sym e) (record { variables = are_variables (l.var ∷ vars) (more l.var vars h below); numbers = linear coeffs vars limit small n m k })
 
-pub times_made : (x y z : ℕ) → x < 40 → y < 40 → z < 40 → IsKernel 40 (Times x y z)
-unfolding vars_of HasNumbers
-times_made x y z p q r = record { variables = are_variables (x ∷ y ∷ z ∷ []) (more x (y ∷ z ∷ []) p (more y (z ∷ []) q (more z [] r none))); numbers = tt }
+module _ (x y z : ℕ) (p : x < 40) (q : y < 40) (r : z < 40) where
+  three_variables : AreVariables 40 (x ∷ y ∷ z ∷ [])
+  three_variables = are_variables (x ∷ y ∷ z ∷ []) (more x (y ∷ z ∷ []) p (more y (z ∷ []) q (more z [] r none)))
+
+  pub product_made : IsKernel 40 (Times x y z)
+  unfolding vars_of HasNumbers
+  product_made = record { variables = three_variables; numbers = tt }
+
+  pub quotient_made : IsKernel 40 (Div x y z)
+  unfolding vars_of HasNumbers
+  quotient_made = record { variables = three_variables; numbers = tt }
+
+  pub remainder_made : IsKernel 40 (Mod x y z)
+  unfolding vars_of HasNumbers
+  remainder_made = record { variables = three_variables; numbers = tt }
 
 pub absolute_made : (x y : ℕ) → x < 40 → y < 40 → IsKernel 40 (Abs x y)
 unfolding vars_of HasNumbers

@@ -126,14 +126,18 @@ fn equal(alloc: Global, draws: &mut Draws) -> Result<Kernel, AllocError>
     })
 }
 
-/// A product.
-fn times(draws: &mut Draws) -> Kernel
+/// A product, a quotient or a remainder.
+fn product(draws: &mut Draws) -> Kernel
     ensures { IsKernel 40 result }
 {
     let x = draws.var();
     let y = draws.var();
     let z = draws.var();
-    Kernel::Times { x, y, z }
+    match draws.below(3) {
+        0 => Kernel::Times { x, y, z },
+        1 => Kernel::Div { x, y, z },
+        _ => Kernel::Mod { x, y, z },
+    }
 }
 
 /// An absolute value.
@@ -212,7 +216,7 @@ fn kernel(alloc: Global, draws: &mut Draws) -> Result<Kernel, AllocError>
     match draws.below(9) {
         0 => at_most(alloc, draws),
         1 => equal(alloc, draws),
-        2 => Ok(times(draws)),
+        2 => Ok(product(draws)),
         3 => Ok(absolute(draws)),
         4 | 5 => extreme(alloc, draws),
         6 => clause(alloc, draws),

@@ -101,13 +101,7 @@ fn the_division_gives_its_tells_in_order(rt: HostRuntime) -> Result<(), Fail> {
             (5, 5),
             (0, 2),
             (-9, 9),
-            &[
-                low(1, 1),
-                low(2, -5),
-                high(2, 5),
-                low(0, -19),
-                high(0, 19),
-            ],
+            &[low(1, 1), low(2, -5), high(2, 5), low(0, -19), high(0, 19)],
         ),
         (
             (-5, 4),

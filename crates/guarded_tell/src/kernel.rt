@@ -138,11 +138,12 @@ impl Kernel {
                     vars.as_slice()[place - 1]
                 }
             }
-            Kernel::Times { x, y, z } | Kernel::Div { x, y, z } | Kernel::Mod { x, y, z } => match place {
-                0 => *x,
-                1 => *y,
-                _ => *z,
-            },
+            Kernel::Times { x, y, z } | Kernel::Div { x, y, z } | Kernel::Mod { x, y, z } =>
+                match place {
+                    0 => *x,
+                    1 => *y,
+                    _ => *z,
+                },
             Kernel::Abs { x, y } => { if place == 0 { *x } else { *y } }
             Kernel::Max { m, xs } | Kernel::Min { m, xs } => {
                 if place == 0 {

@@ -12,3 +12,6 @@ pub mod LeastLaws
 pub mod LimitLaws
 pub mod PostedLaws
 pub mod CostLaws
+pub mod LeastRunLaws
+pub mod LeastExamples
+pub mod SearcherLaws

@@ -1,0 +1,6 @@
+//! The answer of a model: its subproblems are searched by workers, and their results put together.
+#![tactic(auto)]
+
+mod options;
+
+pub use options::{Answer, Options};

@@ -1,0 +1,9 @@
+pub mod AlongLaws
+pub mod HeadLaws
+pub mod ObjectiveLaws
+pub mod ListedLaws
+pub mod PathBoxes
+pub mod SolveLaws
+pub mod OneFinished
+pub mod RunLists
+pub mod LeastRunLists

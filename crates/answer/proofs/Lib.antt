@@ -7,3 +7,5 @@ pub mod SolveLaws
 pub mod OneFinished
 pub mod RunLists
 pub mod LeastRunLists
+pub mod CoverLaws
+pub mod BestLaws

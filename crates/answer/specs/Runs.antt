@@ -1,7 +1,8 @@
 -- What is known of the runs that workers have made so far: with what their seats have seen and posted.
-use Rattle.std.specs.Prelude.{◌≡◌, ℕ, ℤ, List, Option, Some, None, Contains}
+use Rattle.std.specs.Prelude.{◌≡◌, ℕ, ℤ, List, flat_map, Option, Some, None, All, Any, Contains}
 use Rattle.interval.specs.Boxes.{Bounds}
 use Rattle.constraint_model.specs.declared.model.FznModel.{FznModel}
+use Rattle.constraint_model.specs.Relations.{cost_of, IsSolution}
 use Rattle.best_bound.specs.Lists.{Among}
 use Rattle.search.specs.declared.ends.FirstEnd.{FirstEnd}
 use Rattle.search.specs.declared.ends.AllEnd.{AllEnd}
@@ -11,7 +12,7 @@ use Rattle.search.specs.LeastEnds.{CostAtLeast, OnDone}
 use Rattle.answer.specs.declared.options.Options.{Options}
 use Rattle.answer.specs.Lists.{Assignment}
 use Rattle.answer.specs.Places.{HasResult}
-use Rattle.answer.specs.Results.{first_of, IsAllResult, IsLeastResult, least_collected, CostsAtMost}
+use Rattle.answer.specs.Results.{first_of, IsAllResult, IsLeastResult, least_collected, IsLeastSpent, CostsAtMost, AreLeastResults}
 
 -- ---- for the first solution
 
@@ -46,3 +47,12 @@ pub record AreLeastRuns (model : FznModel) (options : Options) (b : Bounds) (see
   pub each : (number : ℕ) (end : LeastEnd) → Contains runs (number, end) → HasResult model options.depth b (IsLeastRun model options seen) number end
   pub reached : (cost : ℤ) → Among posted cost →
       (number : ℕ) × (end : LeastEnd) × (a : Assignment) × Contains runs (number, end) × Contains (least_collected end) a × CostsAtMost model.goal cost a
+
+-- of each solution's cost there is one among these that costs so much at most
+abbrev pub ReachAll : FznModel → List Assignment → Type 0
+ReachAll model collected = (a : Assignment) (cost : ℤ) → IsSolution model a → cost_of model.goal a ≡ Some cost → Any (CostsAtMost model.goal cost) collected
+
+-- what is known of the results for the least cost: they are such, and where no search was stopped they reach all costs
+pub record AreWholeResults (model : FznModel) (options : Options) (results : List LeastEnd) : Type 0 where
+  pub are : AreLeastResults model options results
+  pub reach : All (λ result. IsLeastSpent result → ⊥) results → ReachAll model (flat_map least_collected results)

@@ -8,7 +8,7 @@ use Rattle.std.proofs.lemmas.List.{length-set, length-drop, length-append, lengt
 use Rattle.std.proofs.lemmas.List.Elements.{All-head, All-tail, All-push, All-take}
 use Rattle.std.proofs.lemmas.List.Quantifiers.{all_pairs_push}
 use Rattle.interval.specs.Boxes.{Bounds, low_of, high_of, put_of}
-use Rattle.trailed_box.specs.Trailed.{IsPart}
+use Rattle.trailed_box.specs.Trailed.{Left, left_of, IsPart}
 use Rattle.trailed_box.specs.Trail.{undone, left_at, stack_of, var_at, AreOn, AreParts, Spares, Appends}
 use Rattle.trailed_box.specs.declared.trail.Change.{Change}
 use Rattle.trailed_box.specs.declared.trail.Mark.{Mark}
@@ -146,7 +146,7 @@ on_pop trail marks m on =
           omega (arith, ap (λ (n : Mark). n.from) first, ap (λ (n : Mark). n.from) second);
     }
 
-map_same : (f g : Mark → Bounds) (marks : List Mark) → All (λ m. f m ≡ g m) marks → map f marks ≡ map g marks
+map_same : (f g : Mark → Left) (marks : List Mark) → All (λ m. f m ≡ g m) marks → map f marks ≡ map g marks
 map_same f g [] same = refl
 map_same f g (m ∷ marks) same =
     let head : f m ≡ g m = All-head (λ n. f n ≡ g n) m marks same in
@@ -159,26 +159,26 @@ pub stack_spared : (marks : List Mark) (old new : List Change) (b : Bounds) (v :
     → Spares marks old new b v → stack_of new (put_of b v low high) marks ≡ stack_of old b marks
 stack_spared marks old new b v low high spares =
     map_same (left_at new (put_of b v low high)) (left_at old b) marks
-    (λ j d h. ap (λ (a : Bounds). put_of a (get_or marks j d).part.var (get_or marks j d).part.low (get_or marks j d).part.high) (spares.boxes low high j d h))
+    (λ j d h. ap (λ (a : Bounds). left_of a (get_or marks j d).part.var (get_or marks j d).part.low (get_or marks j d).part.high) (spares.boxes low high j d h))
 
 pub at_end : (trail : List Change) (b : Bounds) (from : ℕ) → from ≡ length trail → undone (drop from trail) b ≡ b
 unfolding undone
 at_end trail b from is = ap (λ (cs : List Change). undone cs b) (drop_all from trail (omega arith))
 
 pub stack_push : (trail : List Change) (b : Bounds) (marks : List Mark) (m : Mark) → m.from ≡ length trail
-    → stack_of trail b (marks ++ m ∷ []) ≡ stack_of trail b marks ++ put_of b m.part.var m.part.low m.part.high ∷ []
+    → stack_of trail b (marks ++ m ∷ []) ≡ stack_of trail b marks ++ left_of b m.part.var m.part.low m.part.high ∷ []
 stack_push trail b marks m is =
-    map-append (left_at trail b) marks (m ∷ []) ∙ ap (λ (a : Bounds). stack_of trail b marks ++ put_of a m.part.var m.part.low m.part.high ∷ []) (at_end trail b m.from is)
+    map-append (left_at trail b) marks (m ∷ []) ∙ ap (λ (a : Bounds). stack_of trail b marks ++ left_of a m.part.var m.part.low m.part.high ∷ []) (at_end trail b m.from is)
 
 pub stack_pop : (trail : List Change) (b : Bounds) (marks : List Mark) (m : Mark) → AreOn trail (marks ++ m ∷ [])
-    → stack_of trail b (marks ++ m ∷ []) ≡ stack_of (take m.from trail) (undone (drop m.from trail) b) marks ++ put_of (undone (drop m.from trail) b) m.part.var m.part.low m.part.high ∷ []
+    → stack_of trail b (marks ++ m ∷ []) ≡ stack_of (take m.from trail) (undone (drop m.from trail) b) marks ++ left_of (undone (drop m.from trail) b) m.part.var m.part.low m.part.high ∷ []
 stack_pop trail b marks m on =
     map-append (left_at trail b) marks (m ∷ [])
-    ∙ ap (λ (bs : List Bounds). bs ++ left_at trail b m ∷ [])
+    ∙ ap (λ (ls : List Left). ls ++ left_at trail b m ∷ [])
     (sym (map_same (left_at (take m.from trail) (undone (drop m.from trail) b)) (left_at trail b) marks
     (λ j d h.
     let n : Mark = get_or marks j d in
-    ap (λ (a : Bounds). put_of a n.part.var n.part.low n.part.high)
+    ap (λ (a : Bounds). left_of a n.part.var n.part.low n.part.high)
     (at_kept trail b m.from n.from (earlier_within trail marks m on j d h) (last_within trail marks m on)))))
 
 -- ---- going back
@@ -239,7 +239,7 @@ stack_after_put marks lent old new b now v low high is now_is spares =
     ap (λ (a : Bounds). stack_of new a marks) now_is ∙ stack_spared marks old new b v low high (subst (λ (ms : List Mark). Spares ms old new b v) is spares)
 
 pub stack_after_push : (trail : List Change) (b : Bounds) (marks new : List Mark) (m : Mark) → new ≡ marks ++ m ∷ [] → m.from ≡ length trail
-    → stack_of trail b new ≡ stack_of trail b marks ++ put_of b m.part.var m.part.low m.part.high ∷ []
+    → stack_of trail b new ≡ stack_of trail b marks ++ left_of b m.part.var m.part.low m.part.high ∷ []
 stack_after_push trail b marks new m is from = ap (stack_of trail b) is ∙ stack_push trail b marks m from
 
 pub on_after_push : (trail : List Change) (marks new : List Mark) (m : Mark) → new ≡ marks ++ m ∷ [] → m.from ≡ length trail → AreOn trail marks → AreOn trail new
@@ -250,11 +250,11 @@ parts_after_push count trail marks new m is part are = subst (AreParts count tra
 
 pub stack_after_pop : (old new : List Change) (b now : Bounds) (marks rest : List Mark) (m : Mark)
     → marks ≡ rest ++ m ∷ [] → new ≡ take m.from old → now ≡ undone (drop m.from old) b → AreOn old marks
-    → stack_of old b marks ≡ stack_of new now rest ++ put_of now m.part.var m.part.low m.part.high ∷ []
+    → stack_of old b marks ≡ stack_of new now rest ++ left_of now m.part.var m.part.low m.part.high ∷ []
 stack_after_pop old new b now marks rest m is new_is now_is on =
     ap (stack_of old b) is ∙ stack_pop old b rest m (subst (AreOn old) is on)
-    ∙ ap (λ (a : Bounds). stack_of (take m.from old) a rest ++ put_of a m.part.var m.part.low m.part.high ∷ []) (sym now_is)
-    ∙ ap (λ (cs : List Change). stack_of cs now rest ++ put_of now m.part.var m.part.low m.part.high ∷ []) (sym new_is)
+    ∙ ap (λ (a : Bounds). stack_of (take m.from old) a rest ++ left_of a m.part.var m.part.low m.part.high ∷ []) (sym now_is)
+    ∙ ap (λ (cs : List Change). stack_of cs now rest ++ left_of now m.part.var m.part.low m.part.high ∷ []) (sym new_is)
 
 pub on_after_pop : (old new : List Change) (marks rest : List Mark) (m : Mark) → marks ≡ rest ++ m ∷ [] → new ≡ take m.from old → AreOn old marks → AreOn new rest
 on_after_pop old new marks rest m is new_is on = subst (λ (cs : List Change). AreOn cs rest) (sym new_is) (on_pop old rest m (subst (AreOn old) is on))

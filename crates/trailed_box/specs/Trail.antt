@@ -1,8 +1,8 @@
--- How a box, a trail of its changes and marks in the trail stand for a box and a stack of boxes. Each box of the stack
--- is the box as it was at a mark, with other bounds for one variable; so no box is copied.
+-- How a box, a trail of its changes and marks in the trail stand for a box and a stack of boxes. The base of each of these
+-- is the box as it was at a mark; so no box is copied.
 use Rattle.std.specs.Prelude.{◌≡◌, ℕ, ℤ, pos, ◌≤◌, List, [], ◌∷◌, ◌++◌, length, map, drop, slice_index_or, All, AllPairs}
 use Rattle.interval.specs.Boxes.{Bounds, put_of, low_of, high_of}
-use Rattle.trailed_box.specs.Trailed.{IsPart}
+use Rattle.trailed_box.specs.Trailed.{Left, left_of, IsPart}
 use Rattle.trailed_box.specs.declared.trail.Change.{Change}
 use Rattle.trailed_box.specs.declared.trail.Mark.{Mark}
 
@@ -15,12 +15,12 @@ undone (c ∷ cs) b = put_of (undone cs b) c.var c.low c.high
 abbrev pub box_at : List Change → Bounds → Mark → Bounds
 box_at trail b m = undone (drop m.from trail) b
 
--- the box that was left for later at a mark
-abbrev pub left_at : List Change → Bounds → Mark → Bounds
-left_at trail b m = put_of (box_at trail b m) m.part.var m.part.low m.part.high
+-- what was left for later at a mark
+abbrev pub left_at : List Change → Bounds → Mark → Left
+left_at trail b m = left_of (box_at trail b m) m.part.var m.part.low m.part.high
 
--- the boxes that were left for later
-abbrev pub stack_of : List Change → Bounds → List Mark → List Bounds
+-- all that was left for later
+abbrev pub stack_of : List Change → Bounds → List Mark → List Left
 stack_of trail b marks = map (left_at trail b) marks
 
 -- the marks lie on the trail, none before an earlier one

@@ -3,16 +3,16 @@
 ghost use Rattle.std.specs.Prelude.{◌≡◌, ◌<◌, ◌++◌, [], ◌∷◌, length, IfOk, OnOk, OnErr, IfSome, IfNone};
 ghost use Rattle.interval.specs.Limits.{IsBound};
 ghost use Rattle.interval.specs.Boxes.{low_of, high_of, put_of, IsInRange};
-ghost use Rattle.trailed_box.specs.Trailed.{IsPart};
+ghost use Rattle.trailed_box.specs.Trailed.{left_of, IsPart};
 
 use crate::trail::{Change, Mark, Part, note, undo};
 use interval::{BoxOf, NoMemory};
 use std::alloc::Global;
 use std::marker::Model;
 
-/// A box, and a stack of boxes that are left for later. Contracts see these two. A box of the stack is kept as the part
-/// in which it differs from the box as it was when it was left, and the changes of that box since then are kept on a
-/// trail. So no box is copied, and each step costs what it changes.
+/// A box, and a stack of boxes that are left for later. Contracts see these two, and of each box of the stack its base,
+/// the box as it was when that one was left. It is kept as the part in which it differs from its base, and the changes of
+/// the base since then are kept on a trail. So no box is copied, and each step costs what it changes.
 #[derive(Drop)]
 pub struct TrailedBox {
     current: BoxOf,
@@ -109,7 +109,7 @@ impl TrailedBox {
         requires low_in_range { IsBound low }
         requires high_in_range { IsBound high }
         ensures current { OnOk result (self.new.current ≡ self.old.current) }
-        ensures stack { OnOk result (self.new.stack ≡ self.old.stack ++ put_of self.old.current v low high ∷ []) }
+        ensures stack { OnOk result (self.new.stack ≡ self.old.stack ++ left_of self.old.current v low high ∷ []) }
         ensures err { OnErr result (self.new ≡ self.old) }
     {
         let mark = Mark {
@@ -122,12 +122,12 @@ impl TrailedBox {
         Ok(())
     }
 
-    /// Goes back to the box as it was when the last box was left for later, and gives the part in which that box
-    /// differs from it: the caller puts the part. It takes no memory.
+    /// Goes back to the base of the box that was left for later last, and gives the part in which that box differs from
+    /// it: the caller puts the part. It takes no memory.
     pub fn pop(&mut self) -> Option<Part>
         ensures none { IfNone result (self.old.stack ≡ []) }
         ensures unchanged { IfNone result (self.new ≡ self.old) }
-        ensures some { IfSome result (λ p. self.old.stack ≡ self.new.stack ++ put_of self.new.current p.var p.low p.high ∷ []) }
+        ensures some { IfSome result (λ p. self.old.stack ≡ self.new.stack ++ left_of self.new.current p.var p.low p.high ∷ []) }
         ensures part { IfSome result (λ p. IsPart (length self.new.current) p.var p.low p.high) }
         ensures same_length { length self.new.current ≡ length self.old.current }
     {

@@ -1,7 +1,6 @@
 use Rattle.std.proofs.Common.{◌≡◌, ap, ◌∙◌, arith, length, ◌++◌, ◌∷◌, []}
 use Rattle.std.proofs.lemmas.Grind.{common_steps}
-use Rattle.interval.specs.Boxes.{put_of}
-use Rattle.trailed_box.specs.Trailed.{Trailed, IsPart}
+use Rattle.trailed_box.specs.Trailed.{Trailed, left_of, IsPart}
 use Rattle.trailed_box.specs.declared.trail.Mark.{Mark}
 use Rattle.trailed_box.proofs.TrailLaws.{stack_after_push, on_after_push, parts_after_push}
 use Rattle.trailed_box.proofs.trailed.TrailedBox.push.Goals as goal
@@ -29,4 +28,4 @@ returns-clause-stack c =
     let items : c.push.new.self.items ≡ c.self.inside.marks.items ++ m ∷ [] = grind (arith, common_steps) in
     let from = ap length c.as_slice.ensures.value in
     stack_after_push c.self.inside.trail.items c.self.inside.current c.self.inside.marks.items c.push.new.self.items m items from
-    ∙ ap (λ (t : Trailed). t.stack ++ put_of t.current c.args.v c.args.low c.args.high ∷ []) c.self.view_is
+    ∙ ap (λ (t : Trailed). t.stack ++ left_of t.current c.args.v c.args.low c.args.high ∷ []) c.self.view_is

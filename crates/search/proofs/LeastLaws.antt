@@ -1,8 +1,9 @@
 -- What a search records are solutions; and what a search for the least cost keeps of them.
-use Rattle.std.proofs.Common.{◌≡◌, ◌≢◌, ℕ, zero, suc, ℤ, pos, ◌+◌, ◌-ℤ◌, ◌<◌, ◌≤ℤ◌, ◌<ℤ◌, List, [], ◌∷◌, ◌++◌, length, refl, sym, ap, subst, ◌∙◌, ◌⊎◌, inl, inr, Option, Some, None, arith, neg_ℤ}
-use Rattle.std.specs.List.{All, Any, Contains}
+use Rattle.std.proofs.Common.{◌≡◌, ◌≢◌, ℕ, zero, suc, ℤ, pos, ◌+◌, ◌-ℤ◌, ◌<◌, ◌≤ℤ◌, ◌<ℤ◌, List, [], ◌∷◌, ◌++◌, length, get_or, refl, sym, ap, subst, ◌∙◌, ◌⊎◌, inl, inr, Option, Some, None, arith, neg_ℤ}
+use Rattle.std.specs.List.{All, AllPairs, Any, Contains}
 use Rattle.std.proofs.lemmas.Int.{ints, by_lt_z}
-use Rattle.std.proofs.lemmas.List.Elements.{All-nil, All-cons, All-append, All-weaker, Contains-append_cases}
+use Rattle.std.proofs.lemmas.List.Elements.{All-nil, All-cons, All-append, All-weaker, All-contains, Contains-append_cases, Contains-get_or}
+use Rattle.std.proofs.lemmas.List.Kept.{AllPairs-cons}
 use Rattle.interval.specs.Boxes.{Bounds, low_of, high_of, IsInside, IsPoint, IsProper, InsideOrder}
 use Rattle.guarded_tell.specs.declared.kernel.Kernel.{Kernel}
 use Rattle.fixpoint_laws.specs.Fixpoints.{IsGreatest}
@@ -16,7 +17,7 @@ use Rattle.solution_lists.specs.Solutions.{LiesIn, SolvesInside, FixedIsPoint, P
 use Rattle.search.specs.declared.kind.Kind.{Kind}
 use Rattle.search.specs.Costs.{IsBelow, IsAtMost}
 use Rattle.search.specs.Machine.{Search, State, Node, is_dropped, is_solved, is_parted, MayFall, cut_by, best_after, Reached, begun, stepped}
-use Rattle.search.specs.Laws.{IsInsideStart, RecordsSolutions, IsLeastSoFar, FindsLeast}
+use Rattle.search.specs.Laws.{IsInsideStart, RecordsSolutions, IsLeastSoFar, FindsLeast, CostsFall}
 use Rattle.search.proofs.CutLaws.{stays, costs_at_most}
 use Rattle.search.proofs.StackLaws.{Lies, cut_inside, greatest_lies, parts_of, top_lies}
 use Rattle.search.proofs.PremiseLaws.{long_sub}
@@ -281,6 +282,39 @@ module _ (order : InsideOrder) (branches : BranchLaws) (fixed : FixedIsPoint) (s
               (recorded_at_most st.best st.recorded a cost (one_recorded seen st.back st.recorded a node k) c)
         ]
 
+    -- ---- costs fall
+
+    abbrev Falls : List ℤ → List ℤ → Type 0
+    Falls a b = (c d : ℤ) → cost_of goal a ≡ Some c → cost_of goal b ≡ Some d → d <ℤ c
+
+    pairs_append : (found recorded : List (List ℤ)) → AllPairs Falls found → AllPairs Falls recorded → ((a b : List ℤ) → Contains found a → Contains recorded b → Falls a b) → AllPairs Falls (found ++ recorded)
+    pairs_append [] recorded h k both = k
+    pairs_append (x ∷ found) recorded h k both = AllPairs-cons Falls x (found ++ recorded)
+        (All-append (Falls x) found recorded (λ i d l. h 0 (suc i) d (omega arith) (omega arith)) (λ i d l. both x (get_or recorded i d) (0, omega arith, refl) (Contains-get_or recorded i d l)))
+        (pairs_append found recorded (λ i j d l w. h (suc i) (suc j) d (omega arith) (omega arith)) k (λ a b p q. both a b (let m = p in (suc m.0, omega (arith, m.1), m.2)) q))
+
+    one_falls : (seen : Bounds) (back : List Bounds) (recorded : List (List ℤ)) → Node s.model s.kernels seen back recorded → AllPairs Falls recorded
+    one_falls seen back recorded (is_dropped _ _ _ _ _ fails none nothing) = subst (AllPairs Falls) (sym nothing) (λ i j d l w. absurd (omega arith))
+    one_falls seen back recorded (is_solved _ _ _ _ _ g gr all none one) = subst (AllPairs Falls) (sym one) (λ i j d l w. absurd (omega arith))
+    one_falls seen back recorded (is_parted _ _ _ _ _ g left right gr br two nothing) = subst (AllPairs Falls) (sym nothing) (λ i j d l w. absurd (omega arith))
+
+    less_than : (best : Option ℤ) (c d : ℤ) → IsAtMost best c → IsBelow d best → d <ℤ c
+    less_than None c d a b = absurd a
+    less_than (Some best) c d a b = omega (arith, ints, a, b)
+
+    pub falls : (state : State) → Reached s state → AllPairs Falls state.found
+    falls state (begun _ _ _ _ _ nothing) = subst (AllPairs Falls) (sym nothing) (λ i j d l w. absurd (omega arith))
+    falls state (stepped _ before _ r on st) =
+        let l = top_lies order branches s p.phases (long_sub s p) p.in_range before st.rest st.top r st.takes.taken in
+        let seen = cut_by Kind.Least goal st.best st.top in
+        let i = cut_inside order branches s p.phases (long_sub s p) p.in_range Kind.Least st.best st.top in
+        let node : Node s.model s.kernels seen st.back st.recorded = subst (λ (k : Kind). Node s.model s.kernels (cut_by k goal st.best st.top) st.back st.recorded) least st.node in
+        let all = recorded_solve st.top seen st.back st.recorded l i node in
+        subst (AllPairs Falls) (sym st.found)
+        (pairs_append before.found st.recorded (falls before r) (one_falls seen st.back st.recorded node)
+        (λ a b p q c d e f. less_than st.best c d (after_fall s.posted before.best st.best c st.takes.falls (above before r a c p e))
+        (recorded_below st.top st.best b d l (All-contains (Solves seen) st.recorded b all q) f)))
+
     -- ---- where the best cost comes from
 
     abbrev Origin : Option ℤ → List (List ℤ) → Type 0
@@ -311,3 +345,6 @@ records_solutions order branches fixed solve s state p r = records order branche
 
 pub finds_least : InsideOrder → BranchLaws → FixedIsPoint → PointSolves → FindsLeast
 finds_least order branches fixed solve s state least p r = least_so_far order branches fixed solve s p least state r
+
+pub costs_fall : InsideOrder → BranchLaws → FixedIsPoint → PointSolves → CostsFall
+costs_fall order branches fixed solve s state least p r = falls order branches fixed solve s p least state r

@@ -12,3 +12,5 @@ pub mod LeastLaws
 pub mod LimitLaws
 pub mod PostedLaws
 pub mod CostLaws
+pub mod LeastRunLaws
+pub mod LeastExamples

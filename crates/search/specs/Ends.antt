@@ -1,9 +1,10 @@
 -- What a run answers: that of the state in which its search ends.
-use Rattle.std.specs.Prelude.{◌≡◌, ℕ, ℤ, min, List, [], ◌∷◌, Option, Some, None}
+use Rattle.std.specs.Prelude.{◌≡◌, ℕ, ◌<◌, ℤ, min, List, [], ◌∷◌, Option, Some, None}
 use Rattle.interval.specs.Boxes.{Bounds}
 use Rattle.constraint_model.specs.declared.model.FznModel.{FznModel}
 use Rattle.decompose.specs.declared.program.Program.{Program}
 use Rattle.branching.specs.Tree.{SolutionsIn}
+use Rattle.best_bound.specs.Lists.{Among}
 use Rattle.search.specs.declared.kind.Kind.{Kind}
 use Rattle.search.specs.declared.ends.Why.{Why}
 use Rattle.search.specs.declared.ends.FirstEnd.{FirstEnd}
@@ -64,9 +65,19 @@ pub record IsAllDone (s : Search) (found : List (List ℤ)) : Type 0 where
   pub ends : EndsDone s found
   pub listed : SolutionsIn s.model s.kernels s.sub found
 
-abbrev pub IsFirstEnd : Search → FirstEnd → Type 0
-IsFirstEnd s (FirstEnd.Done answer) = IsFirstDone s answer
-IsFirstEnd s (FirstEnd.Spent nodes why) = EndsSpent s why nodes []
+-- The run of subproblem `number` ends: the search is at its end, a limit has stopped it, or a lesser number was seen, of a
+-- subproblem that has a solution.
+abbrev pub IsFirstEnd : Search → ℕ → List ℕ → FirstEnd → Type 0
+IsFirstEnd s number seen (FirstEnd.Done answer) = IsFirstDone s answer
+IsFirstEnd s number seen (FirstEnd.Spent nodes why) = EndsSpent s why nodes []
+IsFirstEnd s number seen (FirstEnd.Cut lesser) = (lesser < number) × Among seen lesser
+
+-- the number of the subproblem is posted where a solution was found, and nothing else
+abbrev pub posts_of : ℕ → List ℕ → FirstEnd → List ℕ
+posts_of number before (FirstEnd.Done (Some answer)) = number ∷ before
+posts_of number before (FirstEnd.Done None) = before
+posts_of number before (FirstEnd.Spent nodes why) = before
+posts_of number before (FirstEnd.Cut lesser) = before
 
 abbrev pub IsAllEnd : Search → AllEnd → Type 0
 IsAllEnd s (AllEnd.Done found) = IsAllDone s found

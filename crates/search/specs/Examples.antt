@@ -26,3 +26,17 @@ small_model = record {
   goal = Goal.Satisfy;
   output = [];
 }
+
+-- x is 1..3
+abbrev pub least_variable : VarDecl
+least_variable = record { name = []; is_bool = false; low = pos 1; high = pos 3 }
+
+-- x is to be minimized
+abbrev pub least_model : FznModel
+least_model = record {
+  vars = least_variable ∷ [];
+  constraints = [];
+  search = last_phase 1 ∷ [];
+  goal = Goal.Minimize (Term.Var 0);
+  output = [];
+}

@@ -1,5 +1,5 @@
 -- The laws of searches.
-use Rattle.std.specs.Prelude.{◌≡◌, ◌≢◌, ◌⊎◌, ℕ, ◌+◌, ◌*◌, ◌≤◌, ◌<◌, ℤ, List, [], ◌∷◌, ◌++◌, length, All, Any, Option, Some, Contains}
+use Rattle.std.specs.Prelude.{◌≡◌, ◌≢◌, ◌⊎◌, ℕ, ◌+◌, ◌*◌, ◌≤◌, ◌<◌, ℤ, ◌<ℤ◌, List, [], ◌∷◌, ◌++◌, length, All, AllPairs, Any, Option, Some, Contains}
 use Rattle.interval.specs.Boxes.{Bounds, IsInRange, IsInside, width_sum_of}
 use Rattle.guarded_tell.specs.declared.kernel.Kernel.{Kernel}
 use Rattle.guarded_tell.specs.Kernels.{IsKernel}
@@ -62,6 +62,11 @@ pub record IsLeastSoFar (s : Search) (state : State) : Type 0 where
 
 abbrev pub FindsLeast : Type 0
 FindsLeast = (s : Search) (state : State) → s.kind ≡ Kind.Least → IsInsideStart s → Reached s state → IsLeastSoFar s state
+
+-- each solution that is recorded costs less than all that were recorded before it
+abbrev pub CostsFall : Type 0
+CostsFall = (s : Search) (state : State) → s.kind ≡ Kind.Least → IsInsideStart s → Reached s state →
+    AllPairs (λ a b. (c d : ℤ) → cost_of s.model.goal a ≡ Some c → cost_of s.model.goal b ≡ Some d → d <ℤ c) state.found
 
 -- where more costs are posted a search reaches what it reached
 abbrev pub MorePosted : Type 0

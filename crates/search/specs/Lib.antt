@@ -2,6 +2,9 @@ pub mod Costs
 pub mod Machine
 pub mod Nodes
 pub mod Ends
+pub mod LeastEnds
 pub mod Closings
+pub mod Premises
+pub mod Stacks
 pub mod Laws
 pub mod Examples

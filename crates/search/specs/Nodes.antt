@@ -1,5 +1,5 @@
 -- What one node does to the stack and to the recorded solutions.
-use Rattle.std.specs.Prelude.{◌≡◌, ◌⊎◌, ℕ, ℤ, List, [], ◌∷◌, ◌++◌}
+use Rattle.std.specs.Prelude.{◌≡◌, ◌⊎◌, ℕ, ℤ, List, [], ◌∷◌, ◌++◌, Option}
 use Rattle.interval.specs.Boxes.{Bounds}
 use Rattle.guarded_tell.specs.declared.kernel.Kernel.{Kernel}
 use Rattle.fixpoint_laws.specs.Fixpoints.{IsGreatest, Fails}
@@ -8,7 +8,8 @@ use Rattle.branching.specs.Parts.{IsBranch}
 use Rattle.branching.specs.Tree.{AreFixed, values_of}
 use Rattle.search.specs.declared.narrow.Narrowed.{Narrowed}
 use Rattle.search.specs.declared.node.Visit.{Visit}
-use Rattle.search.specs.Machine.{Node, MayGiveUp}
+use Rattle.search.specs.declared.kind.Kind.TheVariants.{Least}
+use Rattle.search.specs.Machine.{Node, MayGiveUp, cut_by}
 
 -- the box after propagation: the greatest closed one, or there is none; or its propagation was given up
 abbrev pub IsNarrowed : List Kernel → ℕ → Bounds → Bounds → Narrowed → Type 0
@@ -40,3 +41,10 @@ pub record IsNode (model : FznModel) (kernels : List Kernel) (b : Bounds) (befor
 abbrev pub IsVisit : FznModel → List Kernel → ℕ → Bounds → List Bounds → List Bounds → List (List ℤ) → List (List ℤ) → Visit → Type 0
 IsVisit model kernels round_limit b before after found more Visit.Done = IsNode model kernels b before after found more
 IsVisit model kernels round_limit b before after found more Visit.GivenUp = MayGiveUp kernels round_limit b × (more ≡ found)
+
+-- the last box of a stack was taken, and what of it costs less than the best had its node
+pub record IsTopVisit (model : FznModel) (kernels : List Kernel) (round_limit : ℕ) (best : Option ℤ) (before after : List Bounds) (found more : List (List ℤ)) (how : Visit) : Type 0 where
+  pub rest : List Bounds
+  pub top : Bounds
+  pub taken : before ≡ rest ++ top ∷ []
+  pub visit : IsVisit model kernels round_limit (cut_by Least model.goal best top) rest after found more how

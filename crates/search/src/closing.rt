@@ -1,12 +1,10 @@
-//! What the loops of all runs share: how a search closes, its count and its stack.
+//! What the loops of all runs share: how a search closes, and its count.
 
-ghost use Rattle.std.specs.Prelude.{◌≡◌, ◌≢◌, ◌⊎◌, ◌<◌, ◌≤◌, ◌+◌, [], ◌∷◌, IfOk};
+ghost use Rattle.std.specs.Prelude.{◌≡◌, ◌≢◌, ◌⊎◌, ◌<◌, ◌≤◌, ◌+◌};
 ghost use Rattle.std.specs.Bool.{OnTrue, OnFalse};
 
 use crate::ends::Why;
-use interval::BoxOf;
 use list_of::ListOf;
-use std::alloc::{AllocError, Global};
 
 /// How a search ended.
 #[derive(Drop)]
@@ -34,13 +32,4 @@ pub(crate) fn counted(nodes: u64) -> u64
     ensures most { 18446744073709551615 ≤ nodes → result ≡ nodes }
 {
     if nodes < u64::MAX { nodes + 1 } else { nodes }
-}
-
-/// The stack of one box.
-pub(crate) fn stack_of(alloc: Global, b: BoxOf) -> Result<Vec<BoxOf>, AllocError>
-    ensures { IfOk result (λ stack. stack.items ≡ b ∷ []) }
-{
-    let mut stack = Vec::new(alloc);
-    stack.push(b)?;
-    Ok(stack)
 }

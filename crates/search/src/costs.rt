@@ -34,7 +34,8 @@ fn negated(z: i64) -> i64
 pub(crate) fn cost(goal: Goal, a: &[i64]) -> i64
     requires objective { IsObjectiveIn (length a.now) goal }
     requires numbers { (cost : ℤ) → cost_of goal a.now ≡ Some cost → IsNumber cost }
-    ensures { cost_of goal a.now ≡ Some result }
+    ensures costs { cost_of goal a.now ≡ Some result }
+    ensures number { IsNumber result }
 {
     match goal {
         Goal::Satisfy => 0,
@@ -118,8 +119,7 @@ fn keep_at_most(goal: Goal, most: i64, b: &mut BoxOf)
 #[tactic(auto, unfolding(interval::specs::Limits::bound_limit, interval::specs::Limits::largest_number))]
 pub(crate) fn cut_below(goal: Goal, best: Option<i64>, b: &mut BoxOf)
     requires some { 0 < length b.old }
-    requires objective { IsObjectiveIn (length b.old - 1) goal }
-    requires best { IfSome best IsNumber }
+    requires best { IfSome best (λ cost. IsNumber cost × IsObjectiveIn (length b.old - 1) goal) }
     ensures cut { b.new ≡ cut_by Least goal best b.old }
     ensures same_length { length b.new ≡ length b.old }
 {

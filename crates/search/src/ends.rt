@@ -23,6 +23,8 @@ pub enum FirstEnd {
         /// Which limit it was.
         why: Why,
     },
+    /// Since a subproblem of this lesser number has a solution.
+    Cut(u32),
 }
 
 /// How a run for all solutions ends.
@@ -38,5 +40,21 @@ pub enum AllEnd {
         why: Why,
         /// What was found.
         solutions: ListOf<ListOf<i64>>,
+    },
+}
+
+/// How a run for the least cost ends.
+#[derive(Drop)]
+pub enum LeastEnd {
+    /// With the last solution that it recorded, or with none.
+    Done(Option<ListOf<i64>>),
+    /// By a limit.
+    Spent {
+        /// How many nodes there were.
+        nodes: u64,
+        /// Which limit it was.
+        why: Why,
+        /// The last solution that was recorded, if one was.
+        so_far: Option<ListOf<i64>>,
     },
 }

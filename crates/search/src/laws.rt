@@ -1,6 +1,6 @@
 //! Laws of searches, as functions that do nothing.
 
-ghost use Rattle.search.specs.Laws.{RecordsSolutions, PrefixLaws, FindsLeast, MorePosted, EndLaws, LimitLaws};
+ghost use Rattle.search.specs.Laws.{RecordsSolutions, PrefixLaws, FindsLeast, CostsFall, MorePosted, EndLaws, LimitLaws};
 
 use branching::{law_branches, law_every_list, law_points};
 use fixpoint_laws::{law_one_fixpoint, law_rounds_lead};
@@ -30,6 +30,16 @@ pub fn law_found_first()
 /// A search for the least cost loses no solution that costs less than the best.
 pub fn law_finds_least()
     ensures { FindsLeast }
+{
+    law_inside_order();
+    law_branches();
+    law_fixed_is_point();
+    law_point_solves();
+}
+
+/// A search for the least cost records solutions that cost less and less.
+pub fn law_costs_fall()
+    ensures { CostsFall }
 {
     law_inside_order();
     law_branches();

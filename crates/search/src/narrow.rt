@@ -20,7 +20,7 @@ pub(crate) enum Narrowed {
 }
 
 /// Propagates a box. `spare` is overwritten. No limit on rounds stops it yet.
-pub(crate) fn narrow(run: &Run<'_>, b: &mut BoxOf, spare: &mut BoxOf) -> Narrowed
+pub(crate) fn narrow<L>(run: &Run<'_, L>, b: &mut BoxOf, spare: &mut BoxOf) -> Narrowed
     requires kernels { All (IsKernel (length b.old)) run.now.program.now.kernels }
     requires spare { length spare.old ≡ length b.old }
     ensures same_length { length b.new ≡ length b.old }

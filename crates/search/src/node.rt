@@ -112,9 +112,9 @@ pub(crate) enum Visit {
 
 /// One node: the box is dropped, recorded or parted, or given up where the limit on rounds is spent. `spare` is
 /// overwritten.
-pub(crate) fn node(
+pub(crate) fn node<L>(
     alloc: Global,
-    run: &Run<'_>,
+    run: &Run<'_, L>,
     top: BoxOf,
     spare: &mut BoxOf,
     stack: &mut Vec<BoxOf>,
@@ -125,7 +125,7 @@ pub(crate) fn node(
     requires length { length run.now.model.now.vars < length top }
     requires spare { length spare.old ≡ length top }
     ensures spare { length spare.new ≡ length top }
-    ensures visit { IfOk result (λ visit. IsVisit run.now.model.now run.now.program.now.kernels run.now.round_limit top stack.old.items stack.new.items found.old found.new visit) }
+    ensures visit { IfOk result (λ how. IsVisit run.now.model.now run.now.program.now.kernels run.now.round_limit top stack.old.items stack.new.items found.old found.new how) }
 {
     let mut b = top;
     match narrow(run, &mut b, spare) {

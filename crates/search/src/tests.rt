@@ -1,12 +1,15 @@
 //! Models of two variables, searched by hand.
 
-ghost use Rattle.std.specs.Prelude.{◌≡◌, ◌<◌, length, All, IfOk};
+ghost use Rattle.std.specs.Prelude.{◌≡◌, ◌<◌, ◌≤◌, length, All, IfOk};
+ghost use Rattle.best_bound.specs.Seats.{IsFoundSeatOf};
 ghost use Rattle.search.specs.Examples.{small_variable, small_order, small_model};
 ghost use Rattle.guarded_tell.specs.Kernels.{IsKernel};
 ghost use Rattle.constraint_model.specs.Searches.{last_phase};
 
-use crate::runs::{all_in, first_in};
+use crate::all::all_in;
+use crate::first::first_in;
 use crate::{AllEnd, FirstEnd, Run, Why, run_all, run_first};
+use best_bound::{Found, FoundSeat, Numbers};
 use constraint_model::{
     Constraint, ConstraintName, FznModel, Goal, Operand, Phase, Term, ValSel, VarDecl, VarSel,
 };
@@ -14,8 +17,20 @@ use decompose::{Program, compile};
 use guarded_tell::{Kernel, Lit};
 use interval::{BoxOf, NoMemory, clamp_bound, law_inside_order};
 use list_of::ListOf;
+use moved_set::Masks;
+use rounds::NoGate;
 use std::alloc::{AllocError, Global};
 use std::test::Fail;
+use std::thread::Threads;
+
+/// Any number passes.
+struct AnyNumber;
+
+impl Numbers for AnyNumber {
+    ghost use Rattle.std.specs.Prelude.{⊤};
+
+    ghost has_solution = { λ _. ⊤ };
+}
 
 /// A variable of the values 0, 1 and 2.
 fn declared(alloc: Global) -> VarDecl
@@ -134,34 +149,96 @@ fn program_of(
     })
 }
 
-/// Searches for the first solution.
-fn first(alloc: Global, program: &Program, node_limit: u64) -> Result<FirstEnd, NoMemory>
+/// How far a test searches, and with how many lanes.
+#[derive(Clone, Copy)]
+struct How {
+    nodes: u64,
+    rounds: u64,
+    lanes: u32,
+}
+
+/// With one lane, at most so many nodes.
+fn nodes(limit: u64) -> How
+    ensures { result.lanes ≡ 1 }
+{
+    How {
+        nodes: limit,
+        rounds: 0,
+        lanes: 1,
+    }
+}
+
+/// Searches for the first solution as subproblem `number`.
+fn first_of<R: Threads + Sync>(
+    rt: &R,
+    alloc: Global,
+    program: &Program,
+    how: How,
+    number: u32,
+    found: &Found<AnyNumber>,
+    seat: &mut FoundSeat,
+) -> Result<FirstEnd, NoMemory>
     requires start { length program.now.start ≡ 3 }
     requires kernels { All (IsKernel 3) program.now.kernels }
+    requires some_lanes { 1 ≤ how.lanes }
+    requires most_lanes { how.lanes ≤ 64 }
+    requires seat { IsFoundSeatOf found.now seat.old }
+    ensures { IsFoundSeatOf found.now seat.new }
 {
     let model = two_variables(alloc)?;
+    let masks = Masks::new(alloc, program.kernels.as_slice(), 3)?;
     let run = Run {
         model: &model,
         program,
-        node_limit,
-        round_limit: 0,
+        masks: &masks,
+        lanes: how.lanes,
+        node_limit: how.nodes,
+        round_limit: how.rounds,
+        gate: &NoGate,
     };
-    first_in(alloc, &run, &program.start)
+    first_in(rt, alloc, &run, &program.start, number, found, seat)
+}
+
+/// Searches for the first solution, where nobody else does.
+fn first<R: Threads + Sync>(
+    rt: &R,
+    alloc: Global,
+    program: &Program,
+    how: How,
+) -> Result<FirstEnd, NoMemory>
+    requires start { length program.now.start ≡ 3 }
+    requires kernels { All (IsKernel 3) program.now.kernels }
+    requires some_lanes { 1 ≤ how.lanes }
+    requires most_lanes { how.lanes ≤ 64 }
+{
+    let (found, mut seat) = Found::<AnyNumber>::new(alloc)?;
+    first_of(rt, alloc, program, how, 0, &found, &mut seat)
 }
 
 /// Searches for all solutions.
-fn all(alloc: Global, program: &Program, node_limit: u64) -> Result<AllEnd, NoMemory>
+fn all<R: Threads + Sync>(
+    rt: &R,
+    alloc: Global,
+    program: &Program,
+    how: How,
+) -> Result<AllEnd, NoMemory>
     requires start { length program.now.start ≡ 3 }
     requires kernels { All (IsKernel 3) program.now.kernels }
+    requires some_lanes { 1 ≤ how.lanes }
+    requires most_lanes { how.lanes ≤ 64 }
 {
     let model = two_variables(alloc)?;
+    let masks = Masks::new(alloc, program.kernels.as_slice(), 3)?;
     let run = Run {
         model: &model,
         program,
-        node_limit,
-        round_limit: 0,
+        masks: &masks,
+        lanes: how.lanes,
+        node_limit: how.nodes,
+        round_limit: how.rounds,
+        gate: &NoGate,
     };
-    all_in(alloc, &run, &program.start)
+    all_in(rt, alloc, &run, &program.start)
 }
 
 /// Whether a search ended with this solution, or with none.
@@ -173,15 +250,22 @@ fn is_first(end: &FirstEnd, expected: Option<[i64; 2]>) -> bool {
     }
 }
 
-/// Whether the limit stopped a search after so many nodes.
+/// Whether the limit on nodes stopped a search after so many.
 fn is_stopped(end: &FirstEnd, expected: u64) -> bool {
     match end {
         FirstEnd::Spent {
             nodes,
             why: Why::Nodes,
         } => *nodes == expected,
-        FirstEnd::Spent { .. } => false,
-        FirstEnd::Done(_) => false,
+        _ => false,
+    }
+}
+
+/// Whether a search was cut by this number.
+fn is_cut(end: &FirstEnd, expected: u32) -> bool {
+    match end {
+        FirstEnd::Cut(number) => *number == expected,
+        _ => false,
     }
 }
 
@@ -215,8 +299,7 @@ fn is_stopped_with(end: &AllEnd, expected: u64, found: &[[i64; 2]]) -> bool {
             why: Why::Nodes,
             solutions,
         } => *nodes == expected && are(solutions, found),
-        AllEnd::Spent { .. } => false,
-        AllEnd::Done(_) => false,
+        _ => false,
     }
 }
 
@@ -224,13 +307,13 @@ fn is_stopped_with(end: &AllEnd, expected: u64, found: &[[i64; 2]]) -> bool {
 fn two_values_take_three_nodes(rt: HostRuntime) -> Result<(), Fail> {
     let alloc = rt.alloc();
     let program = program_of(alloc, [(1, 2), (0, 0)], ListOf::new(alloc))?;
-    assert!(rt; is_all(&all(alloc, &program, 0)?, &[[1, 0], [2, 0]]));
-    assert!(rt; is_stopped_with(&all(alloc, &program, 1)?, 1, &[]));
-    assert!(rt; is_stopped_with(&all(alloc, &program, 2)?, 2, &[[1, 0]]));
-    assert!(rt; is_all(&all(alloc, &program, 3)?, &[[1, 0], [2, 0]]));
-    assert!(rt; is_first(&first(alloc, &program, 0)?, Some([1, 0])));
-    assert!(rt; is_stopped(&first(alloc, &program, 1)?, 1));
-    assert!(rt; is_first(&first(alloc, &program, 2)?, Some([1, 0])));
+    assert!(rt; is_all(&all(&rt, alloc, &program, nodes(0))?, &[[1, 0], [2, 0]]));
+    assert!(rt; is_stopped_with(&all(&rt, alloc, &program, nodes(1))?, 1, &[]));
+    assert!(rt; is_stopped_with(&all(&rt, alloc, &program, nodes(2))?, 2, &[[1, 0]]));
+    assert!(rt; is_all(&all(&rt, alloc, &program, nodes(3))?, &[[1, 0], [2, 0]]));
+    assert!(rt; is_first(&first(&rt, alloc, &program, nodes(0))?, Some([1, 0])));
+    assert!(rt; is_stopped(&first(&rt, alloc, &program, nodes(1))?, 1));
+    assert!(rt; is_first(&first(&rt, alloc, &program, nodes(2))?, Some([1, 0])));
     Ok(())
 }
 
@@ -240,11 +323,21 @@ fn an_order_leaves_three_solutions(rt: HostRuntime) -> Result<(), Fail> {
     let mut kernels = ListOf::new(alloc);
     kernels.push(below(alloc, 1, 2)?)?;
     let program = program_of(alloc, [(0, 2), (0, 2)], kernels)?;
-    assert!(rt; is_all(&all(alloc, &program, 0)?, &[[0, 1], [0, 2], [1, 2]]));
-    assert!(rt; is_all(&all(alloc, &program, 5)?, &[[0, 1], [0, 2], [1, 2]]));
-    assert!(rt; is_stopped_with(&all(alloc, &program, 4)?, 4, &[[0, 1], [0, 2]]));
-    assert!(rt; is_first(&first(alloc, &program, 3)?, Some([0, 1])));
-    assert!(rt; is_stopped(&first(alloc, &program, 2)?, 2));
+    assert!(rt;
+        is_all(
+            &all(&rt, alloc, &program, nodes(0))?,
+            &[[0, 1], [0, 2], [1, 2]]
+        )
+    );
+    assert!(rt;
+        is_all(
+            &all(&rt, alloc, &program, nodes(5))?,
+            &[[0, 1], [0, 2], [1, 2]]
+        )
+    );
+    assert!(rt; is_stopped_with(&all(&rt, alloc, &program, nodes(4))?, 4, &[[0, 1], [0, 2]]));
+    assert!(rt; is_first(&first(&rt, alloc, &program, nodes(3))?, Some([0, 1])));
+    assert!(rt; is_stopped(&first(&rt, alloc, &program, nodes(2))?, 2));
     Ok(())
 }
 
@@ -255,11 +348,42 @@ fn nothing_is_found_in_one_node(rt: HostRuntime) -> Result<(), Fail> {
     kernels.push(below(alloc, 1, 2)?)?;
     kernels.push(below(alloc, 2, 1)?)?;
     let program = program_of(alloc, [(0, 3), (0, 3)], kernels)?;
-    assert!(rt; is_all(&all(alloc, &program, 1)?, &[]));
-    assert!(rt; is_first(&first(alloc, &program, 1)?, None));
+    assert!(rt; is_all(&all(&rt, alloc, &program, nodes(1))?, &[]));
+    assert!(rt; is_first(&first(&rt, alloc, &program, nodes(1))?, None));
     let crossed = program_of(alloc, [(2, 1), (0, 3)], ListOf::new(alloc))?;
-    assert!(rt; is_all(&all(alloc, &crossed, 1)?, &[]));
-    assert!(rt; is_first(&first(alloc, &crossed, 0)?, None));
+    assert!(rt; is_all(&all(&rt, alloc, &crossed, nodes(1))?, &[]));
+    assert!(rt; is_first(&first(&rt, alloc, &crossed, nodes(0))?, None));
+    Ok(())
+}
+
+#[test]
+fn a_lesser_number_cuts_a_search(rt: HostRuntime) -> Result<(), Fail> {
+    let alloc = rt.alloc();
+    let program = program_of(alloc, [(1, 2), (0, 0)], ListOf::new(alloc))?;
+    let (found, mut seat) = Found::<AnyNumber>::new(alloc)?;
+    let mut other = found.split(&mut seat);
+    found.post(&mut other, 3);
+    // the number itself and greater ones cut nothing
+    let end = first_of(&rt, alloc, &program, nodes(0), 2, &found, &mut seat)?;
+    assert!(rt; is_first(&end, Some([1, 0])));
+    assert_eq!(rt; found.seen(&mut other), Some(2));
+    let end = first_of(&rt, alloc, &program, nodes(1), 2, &found, &mut seat)?;
+    assert!(rt; is_stopped(&end, 1));
+    // a lesser one does, before the first node
+    let end = first_of(&rt, alloc, &program, nodes(0), 3, &found, &mut seat)?;
+    assert!(rt; is_cut(&end, 2));
+    assert_eq!(rt; found.seen(&mut other), Some(2));
+    Ok(())
+}
+
+#[test]
+fn a_box_without_solutions_posts_nothing(rt: HostRuntime) -> Result<(), Fail> {
+    let alloc = rt.alloc();
+    let program = program_of(alloc, [(2, 1), (0, 3)], ListOf::new(alloc))?;
+    let (found, mut seat) = Found::<AnyNumber>::new(alloc)?;
+    let end = first_of(&rt, alloc, &program, nodes(0), 0, &found, &mut seat)?;
+    assert!(rt; is_first(&end, None));
+    assert_eq!(rt; found.seen(&mut seat), None);
     Ok(())
 }
 
@@ -281,14 +405,19 @@ fn the_first_solution_of_a_model_is_the_head_of_all(rt: HostRuntime) -> Result<(
     let alloc = rt.alloc();
     let model = two_variables(alloc)?;
     let program = compile(alloc, &model)?;
+    let masks = Masks::new(alloc, program.kernels.as_slice(), program.start.len())?;
     let run = Run {
         model: &model,
         program: &program,
+        masks: &masks,
+        lanes: 1,
         node_limit: 0,
         round_limit: 0,
+        gate: &NoGate,
     };
-    let first = run_first(alloc, &run, &program.start)?;
-    let all = run_all(alloc, &run, &program.start)?;
+    let (found, mut seat) = Found::<AnyNumber>::new(alloc)?;
+    let first = run_first(&rt, alloc, &run, &program.start, 0, &found, &mut seat)?;
+    let all = run_all(&rt, alloc, &run, &program.start)?;
     assert!(rt; is_head(&first, &all));
     assert!(rt; is_all(&all, &[[0, 1], [0, 2], [1, 2]]));
     Ok(())

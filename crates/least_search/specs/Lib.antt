@@ -1,4 +1,0 @@
-pub mod Nodes
-pub mod Closings
-pub mod LeastEnds
-pub mod Examples

@@ -1,0 +1,23 @@
+use Rattle.std.proofs.Common.{◌≡◌, ℕ, length, None}
+use Rattle.std.specs.List.{sum_by}
+use Rattle.search.specs.declared.kind.Kind.{Kind}
+use Rattle.search.specs.Machine.{Reached}
+use Rattle.search.specs.Ends.{search_of}
+use Rattle.search.specs.Stacks.{boxes_of, count_of, IsReady}
+use Rattle.search.proofs.StackLaws.{weight}
+use Rattle.search.proofs.SearchLaws.{IsCounted}
+use Rattle.search.proofs.all.search_all.Given as goal
+
+-- the boxes and what was found are those of a state that is reached, in which the nodes are counted
+abbrev pub invariant-loop-boxes : goal.invariant-loop-boxes
+invariant-loop-boxes g l = record {
+  count : ℕ;
+  reached : Reached (search_of l.run.model.now l.run.program.now l.run.node_limit l.run.round_limit Kind.All l.sub)
+      (record { stack = boxes_of l.searcher; best = None; count = count; found = l.found });
+  counted : IsCounted l.run.node_limit l.nodes count;
+  ready : IsReady l.run l.searcher;
+  same_count : count_of l.searcher ≡ length l.sub;
+}
+
+abbrev pub decreases-loop-boxes : goal.decreases-loop-boxes
+decreases-loop-boxes g l = sum_by weight (boxes_of l.searcher)

@@ -1,0 +1,26 @@
+use Rattle.best_bound.specs.Seats.{costs_seen}
+use Rattle.search.specs.LeastEnds.{least_of}
+use Rattle.search.proofs.LeastRunLaws.{popped_last, done_of, spent_of}
+use Rattle.search.proofs.least.run_least.Goals as goal
+
+pub returns-in-Some-clause-end : goal.returns-in-Some-clause-end
+returns-in-Some-clause-end g c = record {
+  found = c.in_ok-closing.closing.found;
+  ends = (
+    spent_of (least_of c.args.run.now.model.now c.args.run.now.program.now c.args.run.now.node_limit c.args.run.now.round_limit (costs_seen c.search_least.new.seat) c.args.sub.now) c.in_ok-closing.closing c.in-Some.why c.in-Some.is c.in_ok-closing.ensures.closing,
+    (popped_last c.in_ok-closing.closing.found c.pop-last.new.self.items c.into_vec-solutions.result.items c.pop-last.result c.into_vec-solutions.result.len c.pop-last.new.self.len
+        c.into_vec-solutions.ensures c.pop-last.ensures.items c.pop-last.ensures.rest c.pop-last.ensures.cases),
+  );
+  posts = c.in_ok-closing.ensures.posted;
+}
+
+pub returns-clause-end : goal.returns-clause-end
+returns-clause-end g c = record {
+  found = c.in_ok-closing.closing.found;
+  ends = (
+    done_of (least_of c.args.run.now.model.now c.args.run.now.program.now c.args.run.now.node_limit c.args.run.now.round_limit (costs_seen c.search_least.new.seat) c.args.sub.now) c.in_ok-closing.closing c.in-None.is c.in_ok-closing.ensures.closing,
+    (popped_last c.in_ok-closing.closing.found c.pop-last.new.self.items c.into_vec-solutions.result.items c.pop-last.result c.into_vec-solutions.result.len c.pop-last.new.self.len
+        c.into_vec-solutions.ensures c.pop-last.ensures.items c.pop-last.ensures.rest c.pop-last.ensures.cases),
+  );
+  posts = c.in_ok-closing.ensures.posted;
+}

@@ -1,0 +1,31 @@
+use Rattle.std.proofs.Common.{◌≡◌, ℕ, ℤ, Option, length}
+use Rattle.std.specs.List.{sum_by}
+use Rattle.best_bound.specs.Lists.{Among}
+use Rattle.best_bound.specs.Seats.{IsBestSeatOf, best_parts, costs_seen, costs_posted}
+use Rattle.search.specs.Machine.{Reached}
+use Rattle.search.specs.LeastEnds.{least_of, PostsCosts}
+use Rattle.search.specs.Stacks.{boxes_of, count_of, IsReady}
+use Rattle.search.proofs.StackLaws.{weight}
+use Rattle.search.proofs.SearchLaws.{IsCounted}
+use Rattle.search.proofs.LeastRunLaws.{IsLow}
+use Rattle.search.proofs.least.search_least.Given as goal
+
+-- the boxes and what was found are those of a state that is reached with the costs that the seat has seen
+abbrev pub invariant-loop-boxes : goal.invariant-loop-boxes
+invariant-loop-boxes g l = record {
+  lowest : Option ℤ;
+  count : ℕ;
+  reached : Reached (least_of l.run.model.now l.run.program.now l.run.node_limit l.run.round_limit (costs_seen l.seat) l.sub)
+      (record { stack = boxes_of l.searcher; best = lowest; count = count; found = l.found });
+  low : IsLow lowest (costs_seen l.seat);
+  counted : IsCounted l.run.node_limit l.nodes count;
+  ready : IsReady l.run l.searcher;
+  same_count : count_of l.searcher ≡ length l.sub;
+  seat : IsBestSeatOf l.best l.seat;
+  parts : best_parts l.seat ≡ best_parts l.initial.seat;
+  kept : (cost : ℤ) → Among (costs_seen l.initial.seat) cost → Among (costs_seen l.seat) cost;
+  posted : PostsCosts l.run.model.now.goal l.found (costs_posted l.initial.seat) (costs_posted l.seat);
+}
+
+abbrev pub decreases-loop-boxes : goal.decreases-loop-boxes
+decreases-loop-boxes g l = sum_by weight (boxes_of l.searcher)

@@ -1,0 +1,68 @@
+-- What a run for the least cost answers, and what it posts.
+use Rattle.std.specs.Prelude.{◌≡◌, ℕ, ℤ, ◌≤ℤ◌, List, [], ◌∷◌, ◌++◌, map, reverse, Option, Some, None, Any, Contains}
+use Rattle.interval.specs.Boxes.{Bounds}
+use Rattle.constraint_model.specs.declared.model.Goal.{Goal}
+use Rattle.constraint_model.specs.declared.model.FznModel.{FznModel}
+use Rattle.constraint_model.specs.Relations.{cost_of, IsSolution}
+use Rattle.best_bound.specs.Lists.{Among}
+use Rattle.decompose.specs.declared.program.Program.{Program}
+use Rattle.solution_lists.specs.Solutions.{SolvesInside}
+use Rattle.search.specs.declared.kind.Kind.{Kind}
+use Rattle.search.specs.declared.ends.LeastEnd.{LeastEnd}
+use Rattle.search.specs.Machine.{Search}
+use Rattle.search.specs.Ends.{EndsDone, EndsSpent}
+
+-- the search of a box for the least cost, with these costs posted
+abbrev pub least_of : FznModel → Program → ℕ → ℕ → List ℤ → Bounds → Search
+least_of model program node_limit round_limit posted sub = record {
+  model = model;
+  kernels = program.kernels;
+  sub = sub;
+  kind = Kind.Least;
+  node_limit = node_limit;
+  round_limit = round_limit;
+  posted = posted;
+}
+
+-- the cost of a solution of the model
+pub record IsCost (model : FznModel) (cost : ℤ) : Type 0 where
+  pub assignment : List ℤ
+  pub solves : IsSolution model assignment
+  pub costs : cost_of model.goal assignment ≡ Some cost
+
+-- the costs of what was recorded were posted, one after the other; the last stands first
+pub record PostsCosts (goal : Goal) (found : List (List ℤ)) (before after : List ℤ) : Type 0 where
+  pub costs : List ℤ
+  pub each : map (cost_of goal) found ≡ map (λ (cost : ℤ). Some cost) (reverse costs)
+  pub posted : after ≡ costs ++ before
+
+-- what a seat has seen once it has posted the costs of what was recorded: all that it had seen, and costs as low
+pub record SeesCosts (goal : Goal) (found : List (List ℤ)) (before after : List ℤ) : Type 0 where
+  pub kept : (cost : ℤ) → Among before cost → Among after cost
+  pub each : (a : List ℤ) (cost : ℤ) → Contains found a → cost_of goal a ≡ Some cost → Any (λ c. c ≤ℤ cost) after
+
+-- the last of a list, or none where it is empty
+abbrev pub last_of : List (List ℤ) → Option (List ℤ)
+last_of [] = None
+last_of (values ∷ []) = Some values
+last_of (values ∷ other ∷ others) = last_of (other ∷ others)
+
+-- the answer is what was recorded last
+abbrev pub EndsLeast : Search → List (List ℤ) → LeastEnd → Type 0
+EndsLeast s found (LeastEnd.Done answer) = EndsDone s found × (answer ≡ last_of found)
+EndsLeast s found (LeastEnd.Spent nodes why so_far) = EndsSpent s why nodes found × (so_far ≡ last_of found)
+
+-- the search ends, and what it recorded was posted
+pub record IsLeastEnd (s : Search) (before after : List ℤ) (end : LeastEnd) : Type 0 where
+  pub found : List (List ℤ)
+  pub ends : EndsLeast s found end
+  pub posts : PostsCosts s.model.goal found before after
+
+-- each solution in the box costs at least one of these costs
+abbrev pub CostAtLeast : FznModel → Bounds → List ℤ → Type 0
+CostAtLeast model sub seen = (a : List ℤ) (cost : ℤ) → SolvesInside model sub a → cost_of model.goal a ≡ Some cost → Any (λ c. c ≤ℤ cost) seen
+
+-- p holds, if the search is at its end
+abbrev pub OnDone : LeastEnd → Type 0 → Type 0
+OnDone (LeastEnd.Done answer) p = p
+OnDone (LeastEnd.Spent nodes why so_far) p = Unit {0}

@@ -1,0 +1,148 @@
+//! The run for the first solution.
+
+ghost use Rattle.std.specs.Prelude.{◌≡◌, ◌≢◌, ◌<◌, ℕ, ℤ, List, [], length, IfOk, OnErr, IfSome};
+ghost use Rattle.interval.specs.Boxes.{IsInside};
+ghost use Rattle.branching.specs.Tree.{SolutionsIn};
+ghost use Rattle.best_bound.specs.Lists.{Among};
+ghost use Rattle.best_bound.specs.Seats.{IsFoundSeatOf, found_parts, numbers_seen, numbers_posted};
+ghost use Rattle.search.specs.Premises.{IsRun, CanSearch};
+ghost use Rattle.search.specs.Ends.{search_of, IsFirstEnd, posts_of};
+
+use crate::closing::{counted, is_full};
+use crate::ends::{FirstEnd, Why};
+use crate::kind::Kind;
+use crate::node::Visit;
+use crate::run::Run;
+use crate::searcher::Searcher;
+use best_bound::{Found, FoundSeat, Numbers};
+use branching::{law_branches, law_every_list};
+use interval::{BoxOf, NoMemory, law_inside_order};
+use list_of::ListOf;
+use rounds::Gate;
+use std::alloc::Global;
+use std::thread::Threads;
+
+/// The least number of a subproblem with a solution that the seat then sees, if it is below `number`.
+fn lesser<N: Numbers>(found: &Found<N>, seat: &mut FoundSeat, number: u32) -> Option<u32>
+    requires seat { IsFoundSeatOf found.now seat.old }
+    ensures seat { IsFoundSeatOf found.now seat.new }
+    ensures parts { found_parts seat.new ≡ found_parts seat.old }
+    ensures posted { numbers_posted seat.new ≡ numbers_posted seat.old }
+    ensures seen { (n : ℕ) → Among (numbers_seen seat.old) n → Among (numbers_seen seat.new) n }
+    ensures below { IfSome result (λ n. n < number) }
+    ensures among { IfSome result (Among (numbers_seen seat.new)) }
+    ensures passes { IfSome result N.has_solution }
+{
+    match found.seen(seat) {
+        Some(n) if n < number => Some(n),
+        _ => None,
+    }
+}
+
+/// Searches a box for its first solution, as long as no lesser number is seen.
+fn search_first<R: Threads + Sync, L: Gate + Sync, N: Numbers>(
+    rt: &R,
+    alloc: Global,
+    run: &Run<'_, L>,
+    sub: &BoxOf,
+    number: u32,
+    found: &Found<N>,
+    seat: &mut FoundSeat,
+) -> Result<FirstEnd, NoMemory>
+    requires run { CanSearch run.now (length sub.now) }
+    requires seat { IsFoundSeatOf found.now seat.old }
+    ensures seat { IsFoundSeatOf found.now seat.new }
+    ensures parts { found_parts seat.new ≡ found_parts seat.old }
+    ensures posted { numbers_posted seat.new ≡ numbers_posted seat.old }
+    ensures seen { (n : ℕ) → Among (numbers_seen seat.old) n → Among (numbers_seen seat.new) n }
+    ensures end { IfOk result (IsFirstEnd (search_of run.now.model.now run.now.program.now run.now.node_limit run.now.round_limit Kind.First sub.now) number (numbers_seen seat.new)) }
+    ensures cut { IfOk result (λ end. (n : ℕ) → end ≡ FirstEnd.Cut n → N.has_solution n) }
+{
+    law_branches();
+    law_every_list();
+    law_inside_order();
+    // its contract says that the bounds are in range
+    let _length = sub.len();
+    let mut searcher = Searcher::new(alloc, run, sub)?;
+    let mut solutions = ListOf::new(alloc);
+    let mut nodes = 0u64;
+    'boxes: while searcher.has_next() {
+        if !solutions.is_empty() {
+            break;
+        }
+        if let Some(n) = lesser(found, seat, number) {
+            return Ok(FirstEnd::Cut(n));
+        }
+        if is_full(run.node_limit, nodes) {
+            return Ok(FirstEnd::Spent {
+                nodes,
+                why: Why::Nodes,
+            });
+        }
+        nodes = counted(nodes);
+        match searcher.node(rt, alloc, run, None, &mut solutions)? {
+            Visit::Done => {}
+            Visit::GivenUp => {
+                return Ok(FirstEnd::Spent {
+                    nodes,
+                    why: Why::Rounds,
+                });
+            }
+        }
+    }
+    Ok(FirstEnd::Done(solutions.into_vec().pop()))
+}
+
+/// The end of a search for the first solution. Where there is one, `number` is posted.
+pub(crate) fn first_in<R: Threads + Sync, L: Gate + Sync, N: Numbers>(
+    rt: &R,
+    alloc: Global,
+    run: &Run<'_, L>,
+    sub: &BoxOf,
+    number: u32,
+    found: &Found<N>,
+    seat: &mut FoundSeat,
+) -> Result<FirstEnd, NoMemory>
+    requires run { CanSearch run.now (length sub.now) }
+    requires seat { IsFoundSeatOf found.now seat.old }
+    requires solution { (solutions : List (List ℤ)) → SolutionsIn run.now.model.now run.now.program.now.kernels sub.now solutions → solutions ≢ [] → N.has_solution number }
+    ensures seat { IsFoundSeatOf found.now seat.new }
+    ensures parts { found_parts seat.new ≡ found_parts seat.old }
+    ensures seen { (n : ℕ) → Among (numbers_seen seat.old) n → Among (numbers_seen seat.new) n }
+    ensures end { IfOk result (IsFirstEnd (search_of run.now.model.now run.now.program.now run.now.node_limit run.now.round_limit Kind.First sub.now) number (numbers_seen seat.new)) }
+    ensures cut { IfOk result (λ end. (n : ℕ) → end ≡ FirstEnd.Cut n → N.has_solution n) }
+    ensures posts { IfOk result (λ end. numbers_posted seat.new ≡ posts_of number (numbers_posted seat.old) end) }
+    ensures err { OnErr result (numbers_posted seat.new ≡ numbers_posted seat.old) }
+{
+    let end = search_first(rt, alloc, run, sub, number, found, seat)?;
+    if let FirstEnd::Done(Some(_)) = &end {
+        found.post(seat, number);
+    }
+    Ok(end)
+}
+
+/// Searches a box, the subproblem `number`, for its first solution in the order of the search tree. It looks at `found`
+/// before each node, and is cut where a lesser number is there. Where it has a solution it posts its number.
+pub fn run_first<R: Threads + Sync, L: Gate + Sync, N: Numbers>(
+    rt: &R,
+    alloc: Global,
+    run: &Run<'_, L>,
+    sub: &BoxOf,
+    number: u32,
+    found: &Found<N>,
+    seat: &mut FoundSeat,
+) -> Result<FirstEnd, NoMemory>
+    requires run { IsRun run.now }
+    requires inside { IsInside sub.now run.now.program.now.start }
+    requires seat { IsFoundSeatOf found.now seat.old }
+    requires solution { (solutions : List (List ℤ)) → SolutionsIn run.now.model.now run.now.program.now.kernels sub.now solutions → solutions ≢ [] → N.has_solution number }
+    ensures seat { IsFoundSeatOf found.now seat.new }
+    ensures parts { found_parts seat.new ≡ found_parts seat.old }
+    ensures seen { (n : ℕ) → Among (numbers_seen seat.old) n → Among (numbers_seen seat.new) n }
+    ensures end { IfOk result (IsFirstEnd (search_of run.now.model.now run.now.program.now run.now.node_limit run.now.round_limit Kind.First sub.now) number (numbers_seen seat.new)) }
+    ensures cut { IfOk result (λ end. (n : ℕ) → end ≡ FirstEnd.Cut n → N.has_solution n) }
+    ensures posts { IfOk result (λ end. numbers_posted seat.new ≡ posts_of number (numbers_posted seat.old) end) }
+    ensures err { OnErr result (numbers_posted seat.new ≡ numbers_posted seat.old) }
+{
+    first_in(rt, alloc, run, sub, number, found, seat)
+}

@@ -1,0 +1,159 @@
+//! The run for the least cost: branch and bound, with the best cost shared.
+
+ghost use Rattle.std.specs.Prelude.{◌≡◌, ◌≢◌, ◌≤◌, ◌++◌, ◌↔◌, ℤ, length, All, IfOk, OnOk};
+ghost use Rattle.interval.specs.Limits.{IsNumber};
+ghost use Rattle.interval.specs.Boxes.{IsInside};
+ghost use Rattle.constraint_model.specs.declared.model.Goal.TheVariants.{Satisfy};
+ghost use Rattle.constraint_model.specs.Relations.{cost_of};
+ghost use Rattle.best_bound.specs.Lists.{Among};
+ghost use Rattle.best_bound.specs.Seats.{IsBestSeatOf, best_parts, costs_seen, costs_posted};
+ghost use Rattle.search.specs.Costs.{IsObjectiveIn};
+ghost use Rattle.search.specs.Premises.{IsRun};
+ghost use Rattle.search.specs.Closings.{IsClosing};
+ghost use Rattle.search.specs.LeastEnds.{least_of, IsCost, PostsCosts, SeesCosts, IsLeastEnd, CostAtLeast, OnDone};
+
+use crate::closing::{Closing, counted, is_full};
+use crate::costs::cost;
+use crate::ends::{LeastEnd, Why};
+use crate::laws::{law_finds_least, law_more_posted, law_records_solutions};
+use crate::node::Visit;
+use crate::run::Run;
+use crate::searcher::Searcher;
+use best_bound::{Best, BestSeat, Costs};
+use branching::law_branches;
+use constraint_model::Goal;
+use interval::{BoxOf, NoMemory, law_inside_order};
+use list_of::ListOf;
+use rounds::Gate;
+use std::alloc::{AllocError, Global};
+use std::thread::Threads;
+
+/// Records what a node found, a solution or nothing, and posts its cost.
+#[tactic(auto, unfolding(interval::specs::Limits::largest_number))]
+fn record_fresh<C: Costs>(
+    goal: Goal,
+    mut fresh: Vec<ListOf<i64>>,
+    found: &mut ListOf<ListOf<i64>>,
+    best: &Best<C>,
+    seat: &mut BestSeat,
+) -> Result<(), AllocError>
+    requires seat { IsBestSeatOf best.now seat.old }
+    requires one { length fresh.items ≤ 1 }
+    requires objective { All (λ a. IsObjectiveIn (length a) goal) fresh.items }
+    requires costs { All (λ a. (cost : ℤ) → cost_of goal a ≡ Some cost → IsNumber cost × C.is_cost cost) fresh.items }
+    ensures seat { IsBestSeatOf best.now seat.new }
+    ensures parts { best_parts seat.new ≡ best_parts seat.old }
+    ensures kept { (cost : ℤ) → Among (costs_seen seat.old) cost → Among (costs_seen seat.new) cost }
+    ensures recorded { OnOk result (found.new ≡ found.old ++ fresh.items) }
+    ensures posted { OnOk result (PostsCosts goal fresh.items (costs_posted seat.old) (costs_posted seat.new)) }
+    ensures seen { OnOk result (SeesCosts goal fresh.items (costs_seen seat.old) (costs_seen seat.new)) }
+{
+    match fresh.pop() {
+        None => Ok(()),
+        Some(values) => {
+            let cost = cost(goal, values.as_slice());
+            found.push(values)?;
+            best.post(seat, cost);
+            Ok(())
+        }
+    }
+}
+
+/// Searches a box for the least cost.
+fn search_least<R: Threads + Sync, L: Gate + Sync, C: Costs>(
+    rt: &R,
+    alloc: Global,
+    run: &Run<'_, L>,
+    sub: &BoxOf,
+    best: &Best<C>,
+    seat: &mut BestSeat,
+) -> Result<Closing, NoMemory>
+    requires run { IsRun run.now }
+    requires objective { run.now.model.now.goal ≢ Satisfy }
+    requires inside { IsInside sub.now run.now.program.now.start }
+    requires seat { IsBestSeatOf best.now seat.old }
+    requires costs { (cost : ℤ) → C.is_cost cost ↔ IsCost run.now.model.now cost }
+    ensures seat { IsBestSeatOf best.now seat.new }
+    ensures parts { best_parts seat.new ≡ best_parts seat.old }
+    ensures kept { (cost : ℤ) → Among (costs_seen seat.old) cost → Among (costs_seen seat.new) cost }
+    ensures closing { IfOk result (λ closing. IsClosing (least_of run.now.model.now run.now.program.now run.now.node_limit run.now.round_limit (costs_seen seat.new) sub.now) closing) }
+    ensures posted { IfOk result (λ closing. PostsCosts run.now.model.now.goal closing.found (costs_posted seat.old) (costs_posted seat.new)) }
+    ensures least { IfOk result (λ closing. closing.stopped ≡ None → CostAtLeast run.now.model.now sub.now (costs_seen seat.new)) }
+{
+    law_branches();
+    law_inside_order();
+    law_more_posted();
+    law_records_solutions();
+    law_finds_least();
+    // its contract says that the bounds are in range
+    let _length = sub.len();
+    let mut searcher = Searcher::new(alloc, run, sub)?;
+    let mut found = ListOf::new(alloc);
+    let mut nodes = 0u64;
+    'boxes: while searcher.has_next() {
+        if is_full(run.node_limit, nodes) {
+            return Ok(Closing {
+                found,
+                nodes,
+                stopped: Some(Why::Nodes),
+            });
+        }
+        nodes = counted(nodes);
+        let lowest = best.seen(seat);
+        let mut fresh = ListOf::new(alloc);
+        match searcher.node(rt, alloc, run, lowest, &mut fresh)? {
+            Visit::Done => record_fresh(run.model.goal, fresh.into_vec(), &mut found, best, seat)?,
+            Visit::GivenUp => {
+                return Ok(Closing {
+                    found,
+                    nodes,
+                    stopped: Some(Why::Rounds),
+                });
+            }
+        }
+    }
+    Ok(Closing {
+        found,
+        nodes,
+        stopped: None,
+    })
+}
+
+/// Searches a box for a solution of least cost. Costs that other seats post are used as the best, and each that is found is
+/// posted.
+pub fn run_least<R: Threads + Sync, L: Gate + Sync, C: Costs>(
+    rt: &R,
+    alloc: Global,
+    run: &Run<'_, L>,
+    sub: &BoxOf,
+    best: &Best<C>,
+    seat: &mut BestSeat,
+) -> Result<LeastEnd, NoMemory>
+    requires run { IsRun run.now }
+    requires objective { run.now.model.now.goal ≢ Satisfy }
+    requires inside { IsInside sub.now run.now.program.now.start }
+    requires seat { IsBestSeatOf best.now seat.old }
+    requires costs { (cost : ℤ) → C.is_cost cost ↔ IsCost run.now.model.now cost }
+    ensures seat { IsBestSeatOf best.now seat.new }
+    ensures parts { best_parts seat.new ≡ best_parts seat.old }
+    ensures kept { (cost : ℤ) → Among (costs_seen seat.old) cost → Among (costs_seen seat.new) cost }
+    ensures end { IfOk result (λ end. IsLeastEnd (least_of run.now.model.now run.now.program.now run.now.node_limit run.now.round_limit (costs_seen seat.new) sub.now) (costs_posted seat.old) (costs_posted seat.new) end) }
+    ensures least { IfOk result (λ end. OnDone end (CostAtLeast run.now.model.now sub.now (costs_seen seat.new))) }
+{
+    let closing = search_least(rt, alloc, run, sub, best, seat)?;
+    let Closing {
+        found,
+        nodes,
+        stopped,
+    } = closing;
+    let mut solutions = found.into_vec();
+    let last = solutions.pop();
+    match stopped {
+        Some(why) => Ok(LeastEnd::Spent {
+            nodes,
+            why,
+            so_far: last,
+        }),
+        None => Ok(LeastEnd::Done(last)),
+    }
+}

@@ -1,0 +1,5 @@
+use Rattle.crew.specs.Slots.{HoldEnds}
+use Rattle.crew.proofs.ends.fill.Given as goal
+
+abbrev pub invariant-loop-number : goal.invariant-loop-number
+invariant-loop-number g l = HoldEnds l.count l.yielded l.slots.items

@@ -1,0 +1,11 @@
+-- What contracts say of a crew.
+use Rattle.std.specs.Prelude.{ℕ, List, length}
+use Rattle.crew.specs.declared.workers.Workers.{Workers}
+
+-- how many workers there are
+abbrev pub workers_of : Workers → ℕ
+workers_of crew = length crew.turns.items
+
+-- how many numbers each worker has asked for so far
+abbrev pub turns_of : Workers → List ℕ
+turns_of crew = crew.turns.items

@@ -1,0 +1,20 @@
+-- The runs that some workers made, and their ends in order.
+use Rattle.std.specs.Prelude.{ℕ, ◌≡◌, ◌↔◌, List, map, length, slice_get, Option, Some}
+use Rattle.std.specs.List.{Contains}
+use Rattle.tickets.specs.Counting.{IsEachOnce}
+
+-- the numbers of some runs, in the order in which they were made
+abbrev pub numbers_of : {E : Type 0} → List (ℕ × E) → List ℕ
+numbers_of runs = map (λ run. run.0) runs
+
+-- Each number below the count was run once and no other was run, and the end of number k stands at place k
+pub record AreInOrder {E : Type 0} (count : ℕ) (runs : List (ℕ × E)) (ends : List E) : Type 0 where
+  pub length_is : length ends ≡ count
+  pub each_once : IsEachOnce count (numbers_of runs)
+  pub places : (k : ℕ) (end : E) → Contains runs (k , end) ↔ (slice_get ends k ≡ Some end)
+
+-- the ends, in order, of some runs of which this stands
+pub record AreEndsOf {E : Type 0} (count : ℕ) (stands : List (ℕ × E) → Type 0) (ends : List E) : Type 0 where
+  pub runs : List (ℕ × E)
+  pub stand : stands runs
+  pub in_order : AreInOrder count runs ends

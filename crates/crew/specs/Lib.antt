@@ -1,0 +1,4 @@
+pub mod Ends
+pub mod Slots
+pub mod Crews
+pub mod AtWork

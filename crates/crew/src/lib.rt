@@ -1,0 +1,17 @@
+//! Numbers that workers run side by side, each number once. Which worker runs which number is open; the ends of the runs
+//! stand in the order of the numbers.
+#![tactic(auto)]
+
+mod ends;
+mod hiring;
+mod job;
+mod numbers;
+#[cfg(test)]
+mod tests;
+mod worker;
+mod workers;
+
+pub use gate::{Gate, NoGate};
+pub use job::Job;
+pub use numbers::run_numbers;
+pub use workers::Workers;

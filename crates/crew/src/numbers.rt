@@ -1,0 +1,104 @@
+//! All numbers of a job, run by a crew.
+
+ghost use Rattle.std.specs.Prelude.{◌≡◌, ◌≤◌, ◌+◌, [], length, IfOk, OnOk};
+ghost use Rattle.std.specs.List.{All};
+ghost use Rattle.tickets.specs.Seats.{count_of, ticket_parts};
+ghost use Rattle.crew.specs.Ends.{AreEndsOf};
+ghost use Rattle.crew.specs.Crews.{workers_of};
+ghost use Rattle.crew.specs.AtWork.{HaveRun, AreSeats, IsBack};
+
+use crate::ends::in_order;
+use crate::hiring::{hire_all, take_all, work_all};
+use crate::job::Job;
+use crate::worker::Worker;
+use crate::workers::Workers;
+use gate::Gate;
+use interval::NoMemory;
+use list_of::ListOf;
+use std::alloc::Global;
+use std::thread::Threads;
+use tickets::{TicketSeat, Tickets};
+
+// Hires the crew and has it run all numbers. Where memory is refused, some workers are hired.
+fn hire_and_work<
+    R: Threads + Sync,
+    C: Gate + Sync,
+    S: Send + Drop,
+    W: Send + Drop,
+    E: Send + Drop,
+    J: Job<S, W, E> + Sync,
+>(
+    rt: &R,
+    alloc: Global,
+    crew: &mut Workers,
+    tickets: &Tickets,
+    first: &mut TicketSeat,
+    job: &J,
+    gate: &C,
+    seat: &mut S,
+    workers: &mut Vec<Worker<S, W, E>>,
+) -> Result<(), NoMemory>
+    requires count { count_of tickets.now ≡ J.count job.now }
+    requires seats { AreSeats tickets.now (J.fits job.now) J.has_parts first.old seat.old }
+    requires parts { ticket_parts first.old ≡ 1024 }
+    requires none { HaveRun (J.stands job.now) first.old seat.old [] }
+    requires empty { workers.old.items ≡ [] }
+    ensures seats { AreSeats tickets.now (J.fits job.now) J.has_parts first.new seat.new }
+    ensures parts { ticket_parts first.new + length workers.new.items ≡ 1024 }
+    ensures none { OnOk result (HaveRun (J.stands job.now) first.new seat.new []) }
+    ensures back { All (IsBack tickets.now (J.fits job.now) J.has_parts (J.stands job.now)) workers.new.items }
+    ensures some { OnOk result (1 ≤ length workers.new.items) }
+    ensures crew { workers_of crew.new ≡ workers_of crew.old }
+{
+    hire_all(alloc, tickets, first, job, seat, crew.turns(), workers)?;
+    work_all(rt, alloc, tickets, job, gate, workers);
+    crew.note_turns(workers);
+    Ok(())
+}
+
+/// Has a crew run all numbers of a job, each once, and gives the ends of the runs in the order of the numbers. Each
+/// worker passes the gate, with how many times it has asked for a number before, and asks for the next, until none is
+/// left. One worker is run by the calling thread. Where memory was refused, to a run or here, all workers are taken in
+/// before that is answered.
+pub fn run_numbers<
+    R: Threads + Sync,
+    C: Gate + Sync,
+    S: Send + Drop,
+    W: Send + Drop,
+    E: Send + Drop,
+    J: Job<S, W, E> + Sync,
+>(
+    rt: &R,
+    alloc: Global,
+    crew: &mut Workers,
+    job: &J,
+    count: u32,
+    gate: &C,
+    seat: &mut S,
+) -> Result<ListOf<E>, NoMemory>
+    requires count { count ≡ J.count job.now }
+    requires fits { J.fits job.now seat.old }
+    requires parts { J.has_parts seat.old 1024 }
+    requires none { J.stands job.now seat.old [] }
+    ensures ends { IfOk result (AreEndsOf count (J.stands job.now seat.new)) }
+    ensures fits { J.fits job.now seat.new }
+    ensures parts { J.has_parts seat.new 1024 }
+    ensures crew { workers_of crew.new ≡ workers_of crew.old }
+{
+    let (tickets, mut first) = Tickets::new(alloc, count)?;
+    let mut workers = Vec::new(alloc);
+    let worked = hire_and_work(
+        rt,
+        alloc,
+        crew,
+        &tickets,
+        &mut first,
+        job,
+        gate,
+        seat,
+        &mut workers,
+    );
+    let taken = take_all(alloc, &tickets, &mut first, job, seat, workers);
+    worked?;
+    in_order(alloc, count, taken?)
+}

@@ -1,0 +1,275 @@
+//! Numbers run by one worker and by many, and two workers that wait for each other.
+
+ghost use Rattle.std.specs.Prelude.{◌≡◌, ◌≤◌};
+
+use crate::{Gate, Job, NoGate, Workers, run_numbers};
+use interval::NoMemory;
+use list_of::ListOf;
+use std::alloc::Global;
+use std::sync::atomic::{AtomicBool, AtomicU64, Ordering};
+use std::test::Fail;
+use std::thread::Threads;
+
+/// Doubles numbers, and is refused memory at one of them.
+#[derive(Drop)]
+struct Doubles {
+    count: u32,
+    refused: Option<u32>,
+    made: AtomicU64,
+}
+
+impl Doubles {
+    fn new(count: u32) -> Doubles
+        ensures { result.count ≡ count }
+    {
+        Doubles {
+            count,
+            refused: None,
+            made: AtomicU64::new(0),
+        }
+    }
+
+    fn refused_at(count: u32, number: u32) -> Doubles
+        ensures { result.count ≡ count }
+    {
+        Doubles {
+            count,
+            refused: Some(number),
+            made: AtomicU64::new(0),
+        }
+    }
+}
+
+/// How many runs were made. It stays at its greatest value.
+#[derive(Drop)]
+struct Counter {
+    runs: u64,
+}
+
+impl Job<Counter, u64, u64> for Doubles {
+    ghost use Rattle.std.specs.Prelude.{◌≡◌, ◌*◌, ◌-◌, ◌^◌, min, length, ⊤};
+    ghost use Rattle.std.specs.List.{All};
+
+    ghost count = { λ job. job.count };
+
+    ghost fits = { λ _ _. ⊤ };
+
+    ghost has_parts = { λ _ _. ⊤ };
+
+    ghost owns = { λ _ _. ⊤ };
+
+    ghost stands = { λ _ seat runs. All (λ run. run.1 ≡ 2 * run.0) runs × (seat.runs ≡ min (length runs) (2 ^ 64 - 1)) };
+
+    fn own(&self, _alloc: Global) -> Result<u64, NoMemory> {
+        Ok(0)
+    }
+
+    fn split(&self, _seat: &mut Counter) -> Counter {
+        Counter { runs: 0 }
+    }
+
+    fn join_back(&self, seat: &mut Counter, other: Counter) {
+        seat.runs = seat.runs.saturating_add(other.runs);
+    }
+
+    fn run<R: Threads + Sync>(
+        &self,
+        _rt: &R,
+        _alloc: Global,
+        own: &mut u64,
+        seat: &mut Counter,
+        number: u32,
+    ) -> Result<u64, NoMemory> {
+        if self.refused == Some(number) {
+            return Err(NoMemory);
+        }
+        self.made.fetch_add(1, Ordering::SeqCst);
+        *own = own.saturating_add(1);
+        seat.runs = seat.runs.saturating_add(1);
+        Ok(2 * u64::from(number))
+    }
+}
+
+/// Whether the ends are the doubled numbers, in order.
+fn are_doubled(ends: &ListOf<u64>, count: u32) -> bool {
+    ends.len() == count as usize && ends.as_slice().iter().enumerate().all(|(i, end)| i as u64 * 2 == *end)
+}
+
+#[test]
+fn every_crew_gives_the_ends_in_order(rt: HostRuntime) -> Result<(), Fail> {
+    for workers in [1, 2, 3, 64] {
+        for count in [0, 1, 2, 64] {
+            let job = Doubles::new(count);
+            let mut crew = Workers::new(rt.alloc(), workers)?;
+            let mut seat = Counter { runs: 0 };
+            let ends = run_numbers(&rt, rt.alloc(), &mut crew, &job, count, &NoGate, &mut seat)?;
+            assert!(rt; are_doubled(&ends, count));
+            assert_eq!(rt; seat.runs, u64::from(count));
+        }
+    }
+    Ok(())
+}
+
+#[test]
+fn where_memory_is_refused_all_workers_are_taken_in(rt: HostRuntime) -> Result<(), Fail> {
+    for workers in [1, 2, 3] {
+        let job = Doubles::refused_at(64, 5);
+        let mut crew = Workers::new(rt.alloc(), workers)?;
+        let mut seat = Counter { runs: 0 };
+        let ends = run_numbers(&rt, rt.alloc(), &mut crew, &job, 64, &NoGate, &mut seat);
+        assert!(rt; ends.is_err());
+        assert_eq!(rt; seat.runs, job.made.load(Ordering::SeqCst));
+    }
+    Ok(())
+}
+
+/// Asks that the turns of worker 0 follow one another.
+#[derive(Drop)]
+struct Rising {
+    next: AtomicU64,
+    was_wrong: AtomicBool,
+}
+
+impl Gate for Rising {
+    fn pass(&self, worker: u32, turn: u64) {
+        if worker != 0 || turn != self.next.load(Ordering::SeqCst) {
+            self.was_wrong.store(true, Ordering::SeqCst);
+        }
+        self.next.fetch_add(1, Ordering::SeqCst);
+    }
+}
+
+#[test]
+fn turns_go_on_over_two_calls(rt: HostRuntime) -> Result<(), Fail> {
+    let gate = Rising {
+        next: AtomicU64::new(0),
+        was_wrong: AtomicBool::new(false),
+    };
+    let mut crew = Workers::new(rt.alloc(), 1)?;
+    for count in [2, 1] {
+        let job = Doubles::new(count);
+        let mut seat = Counter { runs: 0 };
+        let ends = run_numbers(&rt, rt.alloc(), &mut crew, &job, count, &gate, &mut seat)?;
+        assert!(rt; are_doubled(&ends, count));
+    }
+    assert!(rt; !gate.was_wrong.load(Ordering::SeqCst));
+    assert_eq!(rt; gate.next.load(Ordering::SeqCst), 5);
+    Ok(())
+}
+
+/// Lets worker 1's turn 0 end only after worker 0's turn 0 was called, and that one only after worker 1's turn 1 was
+/// called.
+#[derive(Drop)]
+struct Meet {
+    first: AtomicBool,
+    second: AtomicBool,
+    third: AtomicBool,
+    gave_up: AtomicBool,
+}
+
+impl Meet {
+    fn new() -> Meet {
+        Meet {
+            first: AtomicBool::new(false),
+            second: AtomicBool::new(false),
+            third: AtomicBool::new(false),
+            gave_up: AtomicBool::new(false),
+        }
+    }
+
+    // Whether all three passes were called, and no wait gave up.
+    fn was_passed(&self) -> bool {
+        let first = self.first.load(Ordering::SeqCst);
+        let second = self.second.load(Ordering::SeqCst);
+        let third = self.third.load(Ordering::SeqCst);
+        first && second && third && !self.gave_up.load(Ordering::SeqCst)
+    }
+}
+
+// Waits for the other worker, for so many turns.
+fn wait_for(flag: &AtomicBool, gave_up: &AtomicBool) {
+    for _ in 0..200_000_000u32 {
+        if flag.load(Ordering::SeqCst) {
+            return;
+        }
+    }
+    gave_up.store(true, Ordering::SeqCst);
+}
+
+impl Gate for Meet {
+    fn pass(&self, worker: u32, turn: u64) {
+        match (worker, turn) {
+            (0, 0) => {
+                self.first.store(true, Ordering::SeqCst);
+                wait_for(&self.third, &self.gave_up);
+            }
+            (1, 0) => {
+                self.second.store(true, Ordering::SeqCst);
+                wait_for(&self.first, &self.gave_up);
+            }
+            (1, 1) => self.third.store(true, Ordering::SeqCst),
+            _ => {}
+        }
+    }
+}
+
+#[test]
+fn two_workers_meet(rt: HostRuntime) -> Result<(), Fail> {
+    let job = Doubles::new(4);
+    let mut crew = Workers::new(rt.alloc(), 2)?;
+    let mut seat = Counter { runs: 0 };
+    let gate = Meet::new();
+    let ends = run_numbers(&rt, rt.alloc(), &mut crew, &job, 4, &gate, &mut seat)?;
+    assert!(rt; are_doubled(&ends, 4));
+    assert!(rt; gate.was_passed());
+    Ok(())
+}
+
+/// Numbers for which the workers share nothing.
+#[derive(Drop)]
+struct Halves {
+    count: u32,
+}
+
+impl Job<(), (), u32> for Halves {
+    ghost use Rattle.std.specs.Prelude.{◌≡◌, ◌/◌, ⊤};
+    ghost use Rattle.std.specs.List.{All};
+
+    ghost count = { λ job. job.count };
+
+    ghost fits = { λ _ _. ⊤ };
+
+    ghost has_parts = { λ _ _. ⊤ };
+
+    ghost owns = { λ _ _. ⊤ };
+
+    ghost stands = { λ _ _ runs. All (λ run. run.1 ≡ run.0 / 2) runs };
+
+    fn own(&self, _alloc: Global) -> Result<(), NoMemory> {
+        Ok(())
+    }
+
+    fn split(&self, _seat: &mut ()) {}
+
+    fn join_back(&self, _seat: &mut (), _other: ()) {}
+
+    fn run<R: Threads + Sync>(
+        &self,
+        _rt: &R,
+        _alloc: Global,
+        _own: &mut (),
+        _seat: &mut (),
+        number: u32,
+    ) -> Result<u32, NoMemory> {
+        Ok(number / 2)
+    }
+}
+
+#[test]
+fn workers_may_share_nothing(rt: HostRuntime) -> Result<(), Fail> {
+    let mut crew = Workers::new(rt.alloc(), 2)?;
+    let job = Halves { count: 5 };
+    let ends = run_numbers(&rt, rt.alloc(), &mut crew, &job, 5, &NoGate, &mut ())?;
+    assert_eq!(rt; ends.as_slice(), [0, 0, 1, 1, 2].as_slice());
+    Ok(())
+}

@@ -1,4 +1,5 @@
 pub mod PickLaws
+pub mod FrontLaws
 pub mod PartLaws
 pub mod Examples
 pub mod TreeLaws

@@ -1,9 +1,9 @@
 -- What is picked as one more variable is looked at, and where every phase was passed over.
-use Rattle.std.proofs.Common.{◌≡◌, ℕ, ℤ, ◌+◌, ◌<◌, ◌≤◌, ◌≤ℤ◌, ◌<ℤ◌, List, [], ◌∷◌, ◌++◌, length, get_or, take, drop, refl, sym, ap, subst, ◌∙◌, Option, Some, None, IfSome, arith}
+use Rattle.std.proofs.Common.{◌≡◌, ℕ, ℤ, ◌+◌, ◌<◌, ◌≤ℤ◌, ◌<ℤ◌, List, [], ◌∷◌, ◌++◌, length, get_or, take, drop, refl, sym, ap, subst, ◌∙◌, Option, Some, None, IfSome, arith}
 use Rattle.std.specs.List.{All, range_with_len}
 use Rattle.std.proofs.lemmas.Int.{ints}
-use Rattle.std.proofs.lemmas.List.{take-append-drop, drop_more, take_all}
-use Rattle.std.proofs.lemmas.List.Elements.{All-nil, All-head, All-tail, All-push, All-append, All-same, All-weaker, All-cons, All-get_or, All-more}
+use Rattle.std.proofs.lemmas.List.{take-append-drop, drop_more}
+use Rattle.std.proofs.lemmas.List.Elements.{All-nil, All-head, All-tail, All-push, All-append, All-same, All-weaker, All-cons, All-get_or}
 use Rattle.std.proofs.lemmas.List.FromFn.{length-range_with_len, get_or-range_with_len}
 use Rattle.interval.specs.Boxes.{Bounds}
 use Rattle.constraint_model.specs.declared.model.VarSel.{VarSel}
@@ -27,7 +27,7 @@ pub all_mid : {X : Type 0} (P : X → Type 0) (before after : List X) (x : X) �
 all_mid P [] after x h = All-head P x after h
 all_mid P (z ∷ before) after x h = all_mid P before after x (All-tail P z (before ++ x ∷ after) h)
 
-split_at : {X : Type 0} (xs : List X) (i : ℕ) (d : X) → i < length xs → xs ≡ take i xs ++ get_or xs i d ∷ drop (i + 1) xs
+pub split_at : {X : Type 0} (xs : List X) (i : ℕ) (d : X) → i < length xs → xs ≡ take i xs ++ get_or xs i d ∷ drop (i + 1) xs
 split_at xs i d h = sym (take-append-drop i xs) ∙ ap (λ ys. take i xs ++ ys) (drop_more xs i d h)
 
 -- ---- one more variable
@@ -135,23 +135,3 @@ module _ (model : FznModel) (b : Bounds) where
   -- not every phase is passed over
   pub not_all_passed : IsSearchOf model → HasUnfixed model b → Passed b model.search → ⊥
   not_all_passed rule some passed = never_both b some.var (fixed_where_passed rule passed some.var some.declared) some.unfixed
-
-module _ (model : FznModel) (b : Bounds) (items : List Phase) (same : items ≡ model.search) (i : ℕ) (h : i < length items) (phase : Phase) (e : phase ≡ get_or items i phase)
-    (passed : Passed b (take i model.search)) (vars : List ℕ) (f : vars ≡ phase.vars) (best : Option ℕ) (pick : IsPick phase.var_sel b vars best) where
-  in_search : i < length model.search
-  in_search = subst (λ (xs : List Phase). i < length xs) same h
-
-  is_read : phase ≡ get_or model.search i phase
-  is_read = e ∙ ap (λ (xs : List Phase). get_or xs i phase) same
-
-  pub choice_here : IsSearchOf model → (v : ℕ) → best ≡ Some v → IsChoiceBy model b phase.val_sel v
-  choice_here rule v g = choice_at model b i phase v rule in_search is_read passed
-      (subst (λ (xs : List ℕ). IsChosen phase.var_sel b xs v) f (subst (IsPick phase.var_sel b vars) g pick))
-
-  pub passed_here : best ≡ None → Passed b (take (i + 1) model.search)
-  passed_here g = All-more (λ (p : Phase). All (IsFixed b) p.vars) model.search i phase in_search passed
-      (subst (λ (p : Phase). All (IsFixed b) p.vars) is_read (subst (All (IsFixed b)) f (subst (IsPick phase.var_sel b vars) g pick)))
-
-pub all_passed : (model : FznModel) (b : Bounds) (items : List Phase) → items ≡ model.search → (i : ℕ) → length items ≤ i → Passed b (take i model.search) → Passed b model.search
-all_passed model b items same i l passed =
-    subst (Passed b) (take_all i model.search (subst (λ (xs : List Phase). length xs ≤ i) same l)) passed

@@ -2,11 +2,13 @@
 #![tactic(auto)]
 
 mod branch;
+mod fronts;
 mod laws;
 mod select;
 #[cfg(test)]
 mod tests;
 
-pub use branch::choose;
+pub use branch::{Branching, branch_from, choose};
+pub use fronts::{Front, law_fronts};
 pub use laws::{law_branches, law_each_once, law_every_list, law_one_list, law_points};
 pub use select::are_fixed;

@@ -1,15 +1,17 @@
 //! Which variable is taken.
 
-ghost use Rattle.std.specs.Prelude.{◌≡◌, ◌+◌, ◌<◌, ℕ, List, ◌∷◌, [], ◌++◌, length, All, IfSome};
+ghost use Rattle.std.specs.Prelude.{◌≡◌, ◌+◌, ◌<◌, ℕ, List, ◌∷◌, [], ◌++◌, length, take, All, IfSome, IfNone};
 ghost use Rattle.std.specs.Bool.{OnTrue, OnFalse};
 ghost use Rattle.interval.specs.Limits.{IsBound};
 ghost use Rattle.interval.specs.Boxes.{IsProper};
-ghost use Rattle.branching.specs.Selection.{IsFixed, IsUnfixed, rank_of, rank_in, HasUnfixed};
+ghost use Rattle.branching.specs.Selection.{IsFixed, IsUnfixed, rank_of, rank_in, IsChosen, HasUnfixed};
 ghost use Rattle.constraint_model.specs.Searches.{IsSearchOf};
 ghost use Rattle.branching.specs.Tree.{AreFixed};
 ghost use Rattle.branching.specs.Picks.{IsPick, IsChoiceBy};
+ghost use Rattle.branching.specs.Fronts.{IsFrontOf, IsFirstUnfixed, IsFarthestFront};
 
-use constraint_model::{FznModel, ValSel, VarSel};
+use crate::fronts::Front;
+use constraint_model::{FznModel, Phase, ValSel, VarSel};
 use interval::BoxOf;
 
 /// A variable to part at, and how.
@@ -90,40 +92,83 @@ fn better(selection: VarSel, b: &BoxOf, best: Option<u32>, var: u32) -> Option<u
     }
 }
 
-/// The variable that is taken of these, or none where all are fixed.
-fn pick(vars: &[u32], selection: VarSel, b: &BoxOf) -> Option<u32>
+/// The place of the first unfixed of these variables, where those before `from` are fixed; none where all are.
+fn first_unfixed(vars: &[u32], from: usize, b: &BoxOf) -> Option<usize>
     requires vars { All (λ v. v + 1 < length b.now) vars.now }
     requires proper { IsProper b.now }
+    requires behind { All (IsFixed b.now) (take from vars.now) }
+    ensures none { IfNone result (All (IsFixed b.now) vars.now) }
+    ensures first { IfSome result (IsFirstUnfixed b.now vars.now) }
+{
+    for place in from..vars.len() {
+        if !is_fixed(b, vars[place]) {
+            return Some(place);
+        }
+    }
+    None
+}
+
+/// The variable that is taken of these, where those before `from` are fixed; none where all are.
+fn pick(vars: &[u32], from: usize, selection: VarSel, b: &BoxOf) -> Option<u32>
+    requires vars { All (λ v. v + 1 < length b.now) vars.now }
+    requires proper { IsProper b.now }
+    requires behind { All (IsFixed b.now) (take from vars.now) }
     ensures { IsPick selection b.now vars.now result }
 {
     let mut best = None;
-    for var in vars {
-        best = better(selection, b, best, *var);
+    for place in from..vars.len() {
+        best = better(selection, b, best, vars[place]);
     }
     best
 }
 
-/// The variable at which the model's search parts the box, and how.
-pub(crate) fn choice(model: &FznModel, b: &BoxOf) -> Chosen
+/// The variable that the phase takes, and the place of its first unfixed one, where those before `from` are fixed; none
+/// where all are.
+fn taken(phase: &Phase, from: usize, b: &BoxOf) -> Option<(u32, usize)>
+    requires vars { All (λ v. v + 1 < length b.now) phase.now.vars }
+    requires proper { IsProper b.now }
+    requires behind { All (IsFixed b.now) (take from phase.now.vars) }
+    ensures none { IfNone result (All (IsFixed b.now) phase.now.vars) }
+    ensures chosen { IfSome result (λ r. IsChosen phase.now.var_sel b.now phase.now.vars r.0) }
+    ensures first { IfSome result (λ r. IsFirstUnfixed b.now phase.now.vars r.1) }
+{
+    let vars = phase.vars.as_slice();
+    let place = first_unfixed(vars, from, b)?;
+    match phase.var_sel {
+        VarSel::InputOrder => Some((vars[place], place)),
+        selection => Some((pick(vars, place, selection, b)?, place)),
+    }
+}
+
+/// The variable at which the model's search parts the box, and how, looked for from the front on; with it how far the
+/// search has come. None where each declared variable is fixed.
+pub(crate) fn choice(model: &FznModel, b: &BoxOf, front: Front) -> Option<(Chosen, Front)>
     requires phases { IsSearchOf model.now }
     requires length { length model.now.vars < length b.now }
     requires proper { IsProper b.now }
-    requires unfixed { HasUnfixed model.now b.now }
-    ensures { IsChoiceBy model.now b.now result.val_sel result.var }
+    requires front { IsFrontOf model.now b.now front }
+    ensures none { IfNone result (AreFixed model.now b.now) }
+    ensures choice { IfSome result (λ r. IsChoiceBy model.now b.now r.0.val_sel r.0.var) }
+    ensures front { IfSome result (λ r. IsFarthestFront model.now b.now r.1) }
 {
-    for phase in model.search.as_slice() {
-        if let Some(var) = pick(phase.vars.as_slice(), phase.var_sel, b) {
-            return Chosen {
+    let phases = model.search.as_slice();
+    let mut from = front.vars;
+    for number in front.phases..phases.len() {
+        let phase = &phases[number];
+        if let Some((var, place)) = taken(phase, from, b) {
+            let chosen = Chosen {
                 var,
                 val_sel: phase.val_sel,
             };
+            let reached = Front {
+                phases: number,
+                vars: place,
+            };
+            return Some((chosen, reached));
         }
+        from = 0;
     }
-    // not reached: the last phase has the variable that isn't fixed
-    Chosen {
-        var: 0,
-        val_sel: ValSel::Min,
-    }
+    None
 }
 
 /// Whether each declared variable is fixed, so that there is none to part at.

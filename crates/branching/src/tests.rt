@@ -2,10 +2,11 @@
 
 ghost use Rattle.std.specs.Prelude.{◌≡◌, ◌<◌, length, All, IfOk};
 ghost use Rattle.std.specs.Bool.{OnTrue};
-ghost use Rattle.constraint_model.specs.Searches.{last_phase};
-ghost use Rattle.constraint_model.specs.Searches.{IsSearchOf};
+ghost use Rattle.interval.specs.Boxes.{IsProper};
+ghost use Rattle.constraint_model.specs.Searches.{last_phase, IsSearchOf};
+ghost use Rattle.branching.specs.Fronts.{FitsBox, left_by};
 
-use crate::{are_fixed, choose};
+use crate::{Branching, Front, are_fixed, branch_from, choose, law_fronts};
 use constraint_model::{FznModel, Goal, Phase, ValSel, VarDecl, VarSel};
 use interval::{BoxOf, NoMemory, clamp_bound, is_crossed};
 use list_of::ListOf;
@@ -154,6 +155,87 @@ fn parted(
     let model = searched_by(alloc, vars, var_sel, val_sel)?;
     let b = box_of(alloc, bounds)?;
     parts_of(alloc, &model, &b)
+}
+
+/// A step of a dive: the pair, and how many phases and how many variables of the next phase are behind the front.
+type Step = (u32, usize, usize);
+
+/// Takes the part that comes first.
+fn take_first(b: &mut BoxOf, branching: Branching)
+    requires { FitsBox b.old branching }
+    ensures { b.new ≡ left_by b.old branching }
+{
+    b.put(branching.pair, branching.left_low, branching.left_high);
+}
+
+/// The steps of a dive into the parts that come first. Each looks on from the front that the one before it reached.
+fn steps(alloc: Global, model: &FznModel, b: &mut BoxOf) -> Result<Vec<Step>, NoMemory>
+    requires vars { length model.now.vars ≡ 3 }
+    requires phases { IsSearchOf model.now }
+    requires pairs { length b.old ≡ 4 }
+    requires proper { IsProper b.old }
+{
+    law_fronts();
+    let mut steps = Vec::new(alloc);
+    let mut front = Front::first();
+    for _ in 0..16 {
+        match branch_from(model, b, front) {
+            None => return Ok(steps),
+            Some((branching, reached)) => {
+                take_first(b, branching);
+                front = reached;
+                let step = (branching.pair, reached.phases, reached.vars);
+                if steps.push(step).is_err() {
+                    return Err(NoMemory);
+                }
+            }
+        }
+    }
+    Ok(steps)
+}
+
+/// The steps of a dive where a phase is searched before all variables in order; none where the box is crossed.
+fn dive(
+    alloc: Global,
+    vars: &[u32],
+    var_sel: VarSel,
+    bounds: [(i64, i64); 3],
+) -> Result<Vec<Step>, NoMemory> {
+    let mut b = box_of(alloc, bounds)?;
+    if !are_declared(vars) || is_crossed(&b) {
+        return Ok(Vec::new(alloc));
+    }
+    let model = searched_by(alloc, vars, var_sel, ValSel::Min)?;
+    steps(alloc, &model, &mut b)
+}
+
+#[test]
+fn a_front_passes_over_what_is_fixed(rt: HostRuntime) -> Result<(), Fail> {
+    let bounds = [(0, 2), (5, 5), (1, 2)];
+    let found = dive(rt.alloc(), &[2, 1, 0], VarSel::InputOrder, bounds)?;
+    assert_eq!(rt; found.as_slice(), [(3, 0, 0), (1, 0, 2)].as_slice());
+    let found = dive(rt.alloc(), &[1], VarSel::InputOrder, bounds)?;
+    assert_eq!(rt; found.as_slice(), [(1, 1, 0), (3, 1, 2)].as_slice());
+    let bounds = [(0, 1), (0, 4), (0, 3)];
+    let found = dive(rt.alloc(), &[0, 1, 2], VarSel::FirstFail, bounds)?;
+    assert_eq!(rt;
+        found.as_slice(),
+        [(1, 0, 0), (3, 0, 1), (2, 0, 1)].as_slice()
+    );
+    let found = dive(rt.alloc(), &[1, 0, 2], VarSel::FirstFail, bounds)?;
+    assert_eq!(rt;
+        found.as_slice(),
+        [(1, 0, 0), (3, 0, 0), (2, 0, 0)].as_slice()
+    );
+    let found = dive(rt.alloc(), &[2], VarSel::Largest, bounds)?;
+    assert_eq!(rt;
+        found.as_slice(),
+        [(3, 0, 0), (1, 1, 0), (2, 1, 1)].as_slice()
+    );
+    let fixed = [(0, 0), (5, 5), (1, 1)];
+    let found = dive(rt.alloc(), &[0], VarSel::InputOrder, fixed)?;
+    assert_eq!(rt; found.as_slice(), [].as_slice());
+    Ok(())
 }
 
 #[test]

@@ -1,6 +1,6 @@
 -- What the constraints hold of an assignment, and which assignments are solutions.
 -- (MiniZinc Handbook: FlatZinc builtins.) One line for each constraint.
-use Rattle.std.specs.Prelude.{◌≡◌, ◌≢◌, ◌⊎◌, ◌↔◌, ℕ, ◌+◌, ◌<◌, ℤ, pos, neg_ℤ, unsigned_abs, ◌+ℤ◌, ◌*ℤ◌, ◌≤ℤ◌, ◌<ℤ◌, List, [], ◌∷◌, length, map, All, Any, Contains, slice_index_or, Option, Some, None}
+use Rattle.std.specs.Prelude.{◌≡◌, ◌≢◌, ◌⊎◌, ◌↔◌, ℕ, ◌+◌, ◌<◌, ℤ, pos, neg_ℤ, unsigned_abs, int_div, ◌+ℤ◌, ◌-ℤ◌, ◌*ℤ◌, ◌≤ℤ◌, ◌<ℤ◌, List, [], ◌∷◌, length, map, All, Any, Contains, slice_index_or, Option, Some, None}
 use Rattle.std.specs.Int.{int_min, int_max}
 use Rattle.constraint_model.specs.declared.model.Term.{Term}
 use Rattle.constraint_model.specs.declared.model.Operand.{Operand}
@@ -70,6 +70,17 @@ dot _ _ = pos 0
 abbrev pub Linear : (ℤ → ℤ → Type 0) → List ℤ → List Operand → Type 0
 Linear R a operands = Row2One (λ cs xs c. R (dot cs xs) c) a operands
 
+-- x divided by y, rounded toward zero
+unfoldable pub quotient : ℤ → ℤ → ℤ
+quotient x y = int_div x y
+
+-- z is that quotient, or what y times it leaves of x; there is neither where y is 0
+abbrev pub IsQuotient : ℤ → ℤ → ℤ → Type 0
+IsQuotient x y z = (y ≢ pos 0) × (quotient x y ≡ z)
+
+abbrev pub IsRemainder : ℤ → ℤ → ℤ → Type 0
+IsRemainder x y z = (y ≢ pos 0) × (x -ℤ (y *ℤ quotient x y) ≡ z)
+
 -- the entry at place x, counted from 1, is c
 pub record IsEntry (x : ℤ) (entries : List ℤ) (c : ℤ) : Type 0 where
   pub place : ℕ
@@ -119,6 +130,8 @@ HoldsOn ConstraintName.IntLinNeReif a = Reified (Linear (λ s c. s ≢ c) a) a
 HoldsOn ConstraintName.IntLinLeReif a = Reified (Linear (λ s c. s ≤ℤ c) a) a
 HoldsOn ConstraintName.IntPlus a = One3 (λ x y z. x +ℤ y ≡ z) a
 HoldsOn ConstraintName.IntTimes a = One3 (λ x y z. x *ℤ y ≡ z) a
+HoldsOn ConstraintName.IntDiv a = One3 IsQuotient a
+HoldsOn ConstraintName.IntMod a = One3 IsRemainder a
 HoldsOn ConstraintName.IntAbs a = One2 (λ x y. pos (unsigned_abs x) ≡ y) a
 HoldsOn ConstraintName.IntMax a = One3 (λ x y z. int_max x y ≡ z) a
 HoldsOn ConstraintName.IntMin a = One3 (λ x y z. int_min x y ≡ z) a

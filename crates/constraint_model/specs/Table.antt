@@ -11,6 +11,7 @@ names =
     ∷ ConstraintName.IntLinEq ∷ ConstraintName.IntLinNe ∷ ConstraintName.IntLinLe ∷ ConstraintName.IntEqReif
     ∷ ConstraintName.IntNeReif ∷ ConstraintName.IntLeReif ∷ ConstraintName.IntLtReif ∷ ConstraintName.IntLinEqReif
     ∷ ConstraintName.IntLinNeReif ∷ ConstraintName.IntLinLeReif ∷ ConstraintName.IntPlus ∷ ConstraintName.IntTimes
+    ∷ ConstraintName.IntDiv ∷ ConstraintName.IntMod
     ∷ ConstraintName.IntAbs ∷ ConstraintName.IntMax ∷ ConstraintName.IntMin ∷ ConstraintName.ArrayIntMaximum
     ∷ ConstraintName.ArrayIntMinimum ∷ ConstraintName.ArrayIntElement ∷ ConstraintName.ArrayVarIntElement ∷ ConstraintName.ArrayBoolElement
     ∷ ConstraintName.ArrayVarBoolElement ∷ ConstraintName.SetIn ∷ ConstraintName.SetInReif ∷ ConstraintName.BoolToInt
@@ -37,6 +38,8 @@ spelled ConstraintName.IntLinNeReif = codes "int_lin_ne_reif"
 spelled ConstraintName.IntLinLeReif = codes "int_lin_le_reif"
 spelled ConstraintName.IntPlus = codes "int_plus"
 spelled ConstraintName.IntTimes = codes "int_times"
+spelled ConstraintName.IntDiv = codes "int_div"
+spelled ConstraintName.IntMod = codes "int_mod"
 spelled ConstraintName.IntAbs = codes "int_abs"
 spelled ConstraintName.IntMax = codes "int_max"
 spelled ConstraintName.IntMin = codes "int_min"
@@ -84,6 +87,8 @@ signatures ConstraintName.IntLinNeReif = (Letter.Coefficients ∷ Letter.Integer
 signatures ConstraintName.IntLinLeReif = (Letter.Coefficients ∷ Letter.Integers ∷ Letter.Constant ∷ Letter.Boolean ∷ []) ∷ []
 signatures ConstraintName.IntPlus = (Letter.Integer ∷ Letter.Integer ∷ Letter.Integer ∷ []) ∷ []
 signatures ConstraintName.IntTimes = (Letter.Integer ∷ Letter.Integer ∷ Letter.Integer ∷ []) ∷ []
+signatures ConstraintName.IntDiv = (Letter.Integer ∷ Letter.Integer ∷ Letter.Integer ∷ []) ∷ []
+signatures ConstraintName.IntMod = (Letter.Integer ∷ Letter.Integer ∷ Letter.Integer ∷ []) ∷ []
 signatures ConstraintName.IntAbs = (Letter.Integer ∷ Letter.Integer ∷ []) ∷ []
 signatures ConstraintName.IntMax = (Letter.Integer ∷ Letter.Integer ∷ Letter.Integer ∷ []) ∷ []
 signatures ConstraintName.IntMin = (Letter.Integer ∷ Letter.Integer ∷ Letter.Integer ∷ []) ∷ []

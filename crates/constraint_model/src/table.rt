@@ -43,6 +43,10 @@ pub enum ConstraintName {
     IntPlus,
     /// `int_times`
     IntTimes,
+    /// `int_div`
+    IntDiv,
+    /// `int_mod`
+    IntMod,
     /// `int_abs`
     IntAbs,
     /// `int_max`
@@ -125,7 +129,7 @@ pub enum Letter {
 }
 
 /// Every name, in the order of the table.
-pub(crate) const NAMES: [ConstraintName; 44] = [
+pub(crate) const NAMES: [ConstraintName; 46] = [
     ConstraintName::IntEq,
     ConstraintName::IntNe,
     ConstraintName::IntLe,
@@ -142,6 +146,8 @@ pub(crate) const NAMES: [ConstraintName; 44] = [
     ConstraintName::IntLinLeReif,
     ConstraintName::IntPlus,
     ConstraintName::IntTimes,
+    ConstraintName::IntDiv,
+    ConstraintName::IntMod,
     ConstraintName::IntAbs,
     ConstraintName::IntMax,
     ConstraintName::IntMin,
@@ -207,6 +213,8 @@ impl ConstraintName {
             Self::IntLinLeReif => "int_lin_le_reif",
             Self::IntPlus => "int_plus",
             Self::IntTimes => "int_times",
+            Self::IntDiv => "int_div",
+            Self::IntMod => "int_mod",
             Self::IntAbs => "int_abs",
             Self::IntMax => "int_max",
             Self::IntMin => "int_min",
@@ -271,11 +279,12 @@ impl ConstraintName {
                 Letter::Constant,
                 Letter::Boolean,
             ]],
-            Self::IntPlus | Self::IntTimes | Self::IntMax | Self::IntMin => &[&[
-                Letter::Integer,
-                Letter::Integer,
-                Letter::Integer,
-            ]],
+            Self::IntPlus
+            | Self::IntTimes
+            | Self::IntDiv
+            | Self::IntMod
+            | Self::IntMax
+            | Self::IntMin => &[&[Letter::Integer, Letter::Integer, Letter::Integer]],
             Self::ArrayIntMaximum | Self::ArrayIntMinimum => &[&[
                 Letter::Integer,
                 Letter::Integers,

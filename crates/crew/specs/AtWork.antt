@@ -1,6 +1,6 @@
 -- A worker before, between and after its runs, and who hired it. Each definition takes what the job says of seats (`fits`,
 -- `has_parts`), of what a worker keeps (`owns`) and of runs (`stands`).
-use Rattle.std.specs.Prelude.{ℕ, ◌≡◌, ◌+◌, List, [], Bool, true, false}
+use Rattle.std.specs.Prelude.{ℕ, ◌≡◌, List, true, false}
 use Rattle.tickets.specs.declared.tickets.Tickets.{Tickets}
 use Rattle.tickets.specs.declared.seat.TicketSeat.{TicketSeat}
 use Rattle.tickets.specs.Seats.{IsTicketSeatOf, ticket_parts, next_of, count_of, numbers_drawn}

@@ -1,5 +1,5 @@
 -- The runs that some workers made, and their ends in order.
-use Rattle.std.specs.Prelude.{ℕ, ◌≡◌, ◌↔◌, List, map, length, slice_get, Option, Some}
+use Rattle.std.specs.Prelude.{ℕ, ◌≡◌, ◌↔◌, List, map, length, slice_get, Some}
 use Rattle.std.specs.List.{Contains}
 use Rattle.tickets.specs.Counting.{IsEachOnce}
 
@@ -11,7 +11,7 @@ numbers_of runs = map (λ run. run.0) runs
 pub record AreInOrder {E : Type 0} (count : ℕ) (runs : List (ℕ × E)) (ends : List E) : Type 0 where
   pub length_is : length ends ≡ count
   pub each_once : IsEachOnce count (numbers_of runs)
-  pub places : (k : ℕ) (end : E) → Contains runs (k , end) ↔ (slice_get ends k ≡ Some end)
+  pub places : (k : ℕ) (end : E) → Contains runs (k, end) ↔ (slice_get ends k ≡ Some end)
 
 -- the ends, in order, of some runs of which this stands
 pub record AreEndsOf {E : Type 0} (count : ℕ) (stands : List (ℕ × E) → Type 0) (ends : List E) : Type 0 where

@@ -1,5 +1,5 @@
 -- Slots of ends, one for each number.
-use Rattle.std.specs.Prelude.{ℕ, ◌≡◌, ◌<◌, List, map, length, slice_get, slice_index_or, Option, None, Some}
+use Rattle.std.specs.Prelude.{ℕ, ◌≡◌, ◌<◌, List, map, length, slice_index_or, Option, None, Some}
 use Rattle.std.specs.List.{All, Contains}
 use Rattle.tickets.specs.Counting.{times}
 use Rattle.crew.specs.Ends.{numbers_of}
@@ -13,7 +13,7 @@ pub record AreEmpty {E : Type 0} (count : ℕ) (slots : List (Option E)) : Type 
 pub record HoldEnds {E : Type 0} (count : ℕ) (runs : List (ℕ × E)) (slots : List (Option E)) : Type 0 where
   pub length_is : length slots ≡ count
   pub missing : (k : ℕ) → k < count → slice_index_or slots k None ≡ None → times k (numbers_of runs) ≡ 0
-  pub of_run : (k : ℕ) (end : E) → slice_index_or slots k None ≡ Some end → Contains runs (k , end)
+  pub of_run : (k : ℕ) (end : E) → slice_index_or slots k None ≡ Some end → Contains runs (k, end)
 
 -- the slots hold these ends
 abbrev pub AreFilledWith : {E : Type 0} → List (Option E) → List E → Type 0

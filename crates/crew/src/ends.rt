@@ -57,11 +57,16 @@ fn ends_of<E: Drop>(alloc: Global, slots: Vec<Option<E>>) -> Result<ListOf<E>, N
 }
 
 /// The ends of runs in the order of their numbers.
-pub(crate) fn in_order<E: Drop>(alloc: Global, count: u32, runs: Vec<(u32, E)>) -> Result<ListOf<E>, NoMemory>
+pub(crate) fn in_order<E: Drop>(
+    alloc: Global,
+    count: u32,
+    runs: Vec<(u32, E)>,
+) -> Result<ListOf<E>, NoMemory>
     requires { IsEachOnce count (numbers_of runs.items) }
     ensures { IfOk result (AreInOrder count runs.items) }
 {
     let mut slots = empty_slots(alloc, count)?;
     fill(&mut slots, count, runs);
-    ends_of(alloc, slots)
+    let ends = ends_of(alloc, slots)?;
+    Ok(ends)
 }

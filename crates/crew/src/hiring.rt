@@ -165,14 +165,7 @@ pub(crate) fn work_all<
     W: Send,
     E: Send + Drop,
     J: Job<S, W, E> + Sync,
->(
-    rt: &R,
-    alloc: Global,
-    tickets: &Tickets,
-    job: &J,
-    gate: &C,
-    workers: &mut [Worker<S, W, E>],
-)
+>(rt: &R, alloc: Global, tickets: &Tickets, job: &J, gate: &C, workers: &mut [Worker<S, W, E>])
     requires some { 0 < length workers.old }
     requires count { count_of tickets.now ≡ J.count job.now }
     requires hired { All (IsHired tickets.now (J.fits job.now) J.has_parts (J.owns job.now) (J.stands job.now)) workers.old }

@@ -63,5 +63,5 @@ pub trait Job<S, W, E> {
         ensures owns { IfOk result (λ _. owns self.now own.new) }
         ensures fits { fits self.now seat.new }
         ensures parts { (n : ℕ) → has_parts seat.old n → has_parts seat.new n }
-        ensures stands { (runs : List (ℕ × E)) → stands self.now seat.old runs → IfOk result (λ end. stands self.now seat.new (runs ++ (number , end) ∷ [])) };
+        ensures stands { (runs : List (ℕ × E)) → stands self.now seat.old runs → IfOk result (λ end. stands self.now seat.new (runs ++ (number, end) ∷ [])) };
 }

@@ -92,7 +92,12 @@ impl Job<Counter, u64, u64> for Doubles {
 
 /// Whether the ends are the doubled numbers, in order.
 fn are_doubled(ends: &ListOf<u64>, count: u32) -> bool {
-    ends.len() == count as usize && ends.as_slice().iter().enumerate().all(|(i, end)| i as u64 * 2 == *end)
+    ends.len() == count as usize
+        && ends
+            .as_slice()
+            .iter()
+            .enumerate()
+            .all(|(i, end)| i as u64 * 2 == *end)
 }
 
 #[test]
@@ -154,6 +159,32 @@ fn turns_go_on_over_two_calls(rt: HostRuntime) -> Result<(), Fail> {
     }
     assert!(rt; !gate.was_wrong.load(Ordering::SeqCst));
     assert_eq!(rt; gate.next.load(Ordering::SeqCst), 5);
+    Ok(())
+}
+
+/// Counts the passes of all workers.
+#[derive(Drop)]
+struct Passes {
+    count: AtomicU64,
+}
+
+impl Gate for Passes {
+    fn pass(&self, _worker: u32, _turn: u64) {
+        self.count.fetch_add(1, Ordering::SeqCst);
+    }
+}
+
+#[test]
+fn each_worker_passes_before_each_number_and_once_more(rt: HostRuntime) -> Result<(), Fail> {
+    let gate = Passes {
+        count: AtomicU64::new(0),
+    };
+    let mut crew = Workers::new(rt.alloc(), 3)?;
+    let job = Doubles::new(7);
+    let mut seat = Counter { runs: 0 };
+    let ends = run_numbers(&rt, rt.alloc(), &mut crew, &job, 7, &gate, &mut seat)?;
+    assert!(rt; are_doubled(&ends, 7));
+    assert_eq!(rt; gate.count.load(Ordering::SeqCst), 10);
     Ok(())
 }
 
@@ -225,17 +256,17 @@ fn two_workers_meet(rt: HostRuntime) -> Result<(), Fail> {
     Ok(())
 }
 
-/// Numbers for which the workers share nothing.
+/// Halves the numbers of a list, for which the workers share nothing.
 #[derive(Drop)]
-struct Halves {
-    count: u32,
+struct Halves<'a> {
+    numbers: &'a [u32],
 }
 
-impl Job<(), (), u32> for Halves {
-    ghost use Rattle.std.specs.Prelude.{◌≡◌, ◌/◌, ⊤};
+impl<'a> Job<(), (), u32> for Halves<'a> {
+    ghost use Rattle.std.specs.Prelude.{◌≡◌, ◌/◌, length, slice_index, ⊤};
     ghost use Rattle.std.specs.List.{All};
 
-    ghost count = { λ job. job.count };
+    ghost count = { λ job. length job.numbers.now };
 
     ghost fits = { λ _ _. ⊤ };
 
@@ -243,7 +274,7 @@ impl Job<(), (), u32> for Halves {
 
     ghost owns = { λ _ _. ⊤ };
 
-    ghost stands = { λ _ _ runs. All (λ run. run.1 ≡ run.0 / 2) runs };
+    ghost stands = { λ job _ runs. All (λ run. run.1 ≡ slice_index job.numbers.now run.0 / 2) runs };
 
     fn own(&self, _alloc: Global) -> Result<(), NoMemory> {
         Ok(())
@@ -261,15 +292,16 @@ impl Job<(), (), u32> for Halves {
         _seat: &mut (),
         number: u32,
     ) -> Result<u32, NoMemory> {
-        Ok(number / 2)
+        Ok(self.numbers[number as usize] / 2)
     }
 }
 
 #[test]
 fn workers_may_share_nothing(rt: HostRuntime) -> Result<(), Fail> {
     let mut crew = Workers::new(rt.alloc(), 2)?;
-    let job = Halves { count: 5 };
+    let numbers = [9, 8, 1, 0, 7];
+    let job = Halves { numbers: &numbers };
     let ends = run_numbers(&rt, rt.alloc(), &mut crew, &job, 5, &NoGate, &mut ())?;
-    assert_eq!(rt; ends.as_slice(), [0, 0, 1, 1, 2].as_slice());
+    assert_eq!(rt; ends.as_slice(), [4, 4, 0, 0, 3].as_slice());
     Ok(())
 }

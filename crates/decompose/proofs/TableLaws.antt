@@ -15,7 +15,7 @@ use Rattle.decompose.specs.Kernels.{kernels_on}
 use Rattle.decompose.proofs.Means.{HasConstants, IsGiven, Means, RowMeans}
 use Rattle.decompose.proofs.Served.{AreThere, are_served, some_found, found_is, row_served, equal_lengths, Law}
 use Rattle.decompose.proofs.SumRows.{int_eq, int_ne, int_le, int_lt, int_lin_eq, int_lin_ne, int_lin_le, int_eq_reif, int_ne_reif, int_le_reif, int_lt_reif, int_lin_eq_reif, int_lin_ne_reif, int_lin_le_reif, int_plus, bool_to_int, bool_eq, bool_le, bool_lt, bool_eq_reif, bool_le_reif, bool_lt_reif, bool_not, bool_xor, bool_xor_reif, bool_lin_le, bool_lin_eq}
-use Rattle.decompose.proofs.ArithmeticRows.{int_times, int_abs}
+use Rattle.decompose.proofs.ArithmeticRows.{int_times, int_div, int_mod, int_abs}
 use Rattle.decompose.proofs.ExtremeRows.{int_max, int_min, array_int_maximum, array_int_minimum}
 use Rattle.decompose.proofs.ElementRows.{array_int_element, array_var_int_element, array_bool_element, array_var_bool_element}
 use Rattle.decompose.proofs.SetRows.{set_in, set_in_reif}
@@ -72,6 +72,8 @@ row_law letters vars constants given ConstraintName.IntLinNeReif ms = by_law let
 row_law letters vars constants given ConstraintName.IntLinLeReif ms = by_law letters vars constants ms ConstraintName.IntLinLeReif _ refl (int_lin_le_reif vars constants given)
 row_law letters vars constants given ConstraintName.IntPlus ms = by_law letters vars constants ms ConstraintName.IntPlus _ refl (int_plus vars constants given)
 row_law letters vars constants given ConstraintName.IntTimes ms = by_law letters vars constants ms ConstraintName.IntTimes _ refl (int_times vars constants)
+row_law letters vars constants given ConstraintName.IntDiv ms = by_law letters vars constants ms ConstraintName.IntDiv _ refl (int_div vars constants)
+row_law letters vars constants given ConstraintName.IntMod ms = by_law letters vars constants ms ConstraintName.IntMod _ refl (int_mod vars constants)
 row_law letters vars constants given ConstraintName.IntAbs ms = by_law letters vars constants ms ConstraintName.IntAbs _ refl (int_abs vars constants)
 row_law letters vars constants given ConstraintName.IntMax ms = by_law letters vars constants ms ConstraintName.IntMax _ refl (int_max vars constants)
 row_law letters vars constants given ConstraintName.IntMin ms = by_law letters vars constants ms ConstraintName.IntMin _ refl (int_min vars constants)

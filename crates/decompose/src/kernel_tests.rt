@@ -290,6 +290,12 @@ fn products_and_extremes(rt: HostRuntime) -> Result<(), Fail> {
     let three = vec![in alloc; Operand::One(X), Operand::One(Y), Operand::One(NINE)]?;
     let found = kernels(alloc, Name::IntTimes, three)?;
     assert!(rt; matches!(found.as_slice(), [Kernel::Times { x: 1, y: 2, z: 8 }]));
+    let three = vec![in alloc; Operand::One(X), Operand::One(NINE), Operand::One(Y)]?;
+    let found = kernels(alloc, Name::IntDiv, three)?;
+    assert!(rt; matches!(found.as_slice(), [Kernel::Div { x: 1, y: 8, z: 2 }]));
+    let three = vec![in alloc; Operand::One(X), Operand::One(X), Operand::One(Y)]?;
+    let found = kernels(alloc, Name::IntMod, three)?;
+    assert!(rt; matches!(found.as_slice(), [Kernel::Mod { x: 1, y: 1, z: 2 }]));
     let two = vec![in alloc; Operand::One(X), Operand::One(FOUR)]?;
     let found = kernels(alloc, Name::IntAbs, two)?;
     assert!(rt; matches!(found.as_slice(), [Kernel::Abs { x: 1, y: 7 }]));

@@ -9,7 +9,8 @@ use crate::comparisons::{AT_MOST, EQUAL, LESS, OPPOSITE, exclusive_or, two, two_
 use crate::places::{ALWAYS, NEVER, Places};
 use crate::sums::{Relation, plus, sum, sum_equal, sum_reified};
 use crate::terms::{
-    Extreme, absolute, element, extreme_of_row, extreme_of_two, member, member_reified, times,
+    Extreme, Operation, absolute, element, extreme_of_row, extreme_of_two, member, member_reified,
+    operation_of_two,
 };
 use constraint_model::{Constraint, ConstraintName as Name};
 use guarded_tell::Kernel;
@@ -58,7 +59,9 @@ fn add_kernels(
         Name::IntLinLeReif => sum_reified(alloc, places, Relation::AtMost, true, operands, kernels),
         Name::BoolLinEq => sum_equal(alloc, places, operands, kernels),
         Name::IntPlus => plus(alloc, places, operands, kernels),
-        Name::IntTimes => times(places, operands, kernels),
+        Name::IntTimes => operation_of_two(places, Operation::Product, operands, kernels),
+        Name::IntDiv => operation_of_two(places, Operation::Quotient, operands, kernels),
+        Name::IntMod => operation_of_two(places, Operation::Remainder, operands, kernels),
         Name::IntAbs => absolute(places, operands, kernels),
         Name::IntMax => extreme_of_two(alloc, places, Extreme::Greatest, operands, kernels),
         Name::IntMin => extreme_of_two(alloc, places, Extreme::Least, operands, kernels),

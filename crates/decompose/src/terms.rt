@@ -1,10 +1,10 @@
-//! The kernels of products, absolute values, extremes, entries and sets.
+//! The kernels of products, quotients, remainders, absolute values, extremes, entries and sets.
 
 ghost use Rattle.std.specs.Prelude.{◌≡◌, ◌++◌, [], ◌∷◌, All, OnOk};
 ghost use Rattle.constraint_model.specs.declared.table.ConstraintName.{ConstraintName};
 ghost use Rattle.decompose.specs.Kernels.{row_of, on_three, on_one_of_row, on_entry, variable_of, variables_of};
 ghost use Rattle.decompose.specs.Places.{AreFew, IsDeclared, HasDeclared};
-ghost use Rattle.decompose.specs.Rows.{extreme_kernel};
+ghost use Rattle.decompose.specs.Rows.{operation_on, operation_kernel, extreme_kernel};
 
 use crate::places::{ALWAYS, Places};
 use constraint_model::{Operand, Term};
@@ -21,24 +21,47 @@ pub(crate) enum Extreme {
     Least,
 }
 
-/// Adds the kernel of a product.
-#[tactic(auto, unfolding(crate::specs::Kernels::row_of))]
-pub(crate) fn times(
+/// What is formed of two numbers.
+#[derive(Clone, Copy)]
+pub(crate) enum Operation {
+    /// The product.
+    Product,
+    /// The quotient, rounded toward zero.
+    Quotient,
+    /// What the division by that quotient leaves.
+    Remainder,
+}
+
+/// The kernel of a variable that is formed of two others.
+fn operation_on(operation: Operation, x: u32, y: u32, z: u32) -> Kernel
+    ensures { result ≡ operation_on operation x y z }
+{
+    match operation {
+        Operation::Product => Kernel::Times { x, y, z },
+        Operation::Quotient => Kernel::Div { x, y, z },
+        Operation::Remainder => Kernel::Mod { x, y, z },
+    }
+}
+
+/// Adds the kernel of a term that is formed of two others.
+pub(crate) fn operation_of_two(
     places: &Places,
+    operation: Operation,
     operands: &[Operand],
     kernels: &mut ListOf<Kernel>,
 ) -> Result<(), AllocError>
     requires few { AreFew places.now.count places.now.constants.keys }
     requires declared { All (HasDeclared places.now.count) operands.now }
-    ensures { OnOk result (kernels.new ≡ kernels.old ++ row_of places.now.count places.now.constants.keys ConstraintName.IntTimes operands.now) }
+    ensures { OnOk result (kernels.new ≡ kernels.old ++ on_three (λ x y z. operation_kernel operation places.now.count places.now.constants.keys x y z) operands.now) }
 {
     match operands {
         [Operand::One(x), Operand::One(y), Operand::One(z)] => {
-            kernels.push(Kernel::Times {
-                x: places.variable(*x),
-                y: places.variable(*y),
-                z: places.variable(*z),
-            })?;
+            kernels.push(operation_on(
+                operation,
+                places.variable(*x),
+                places.variable(*y),
+                places.variable(*z),
+            ))?;
             Ok(())
         }
         _ => Ok(()),

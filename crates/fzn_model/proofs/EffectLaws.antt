@@ -1,9 +1,9 @@
 -- What an item without a fault adds is well-formed.
 use Rattle.std.proofs.Common.{◌≡◌, ℕ, List, [], ◌∷◌, ◌++◌, length, Bool, true, false, cond, ◌&&◌, not, is_some, Option, Some, None, refl, ap, sym, subst, arith}
-use Rattle.std.specs.Prelude.{option_map, option_to_list}
+use Rattle.std.specs.Prelude.{option_map, option_to_list, unwrap_or, pos}
 use Rattle.std.specs.List.{AllByRecursion as Each, list_any, cons_option}
 use Rattle.std.specs.Option.{IfSome}
-use Rattle.std.proofs.lemmas.Bool.{and_parts, or_parts, not-false, true≢false, false≢true}
+use Rattle.std.proofs.lemmas.Bool.{and_parts, or_parts, not-true, not-false, true≢false, false≢true}
 use Rattle.std.proofs.lemmas.List.{append-nil, get_or_push, length_push}
 use Rattle.std.proofs.lemmas.List.Elements.{All-from_recursion}
 use Rattle.fzn_lexer.specs.declared.Token.{Token}
@@ -18,15 +18,16 @@ use Rattle.constraint_model.specs.declared.model.VarDecl.{VarDecl}
 use Rattle.constraint_model.specs.declared.model.Phase.{Phase}
 use Rattle.constraint_model.specs.declared.meanings.Meaning.{Meaning}
 use Rattle.constraint_model.specs.declared.table.ConstraintName.{ConstraintName}
+use Rattle.constraint_model.specs.declared.table.Letter.{Letter}
 use Rattle.fzn_model.specs.declared.fault_kinds.FaultKind.{FaultKind}
 use Rattle.fzn_model.specs.declared.effect.Effect.{Effect}
 use Rattle.constraint_model.specs.Searches.{last_phase}
 use Rattle.fzn_model.specs.Searches.{phases_of}
 use Rattle.fzn_model.specs.Scopes.{Scope, expr_meaning}
-use Rattle.constraint_model.specs.Fits.{named, row_for, constraint_on}
-use Rattle.fzn_model.specs.Effects.{Reading, joined, effect_of, no_effect, variable, variable_effect, parameter_effect, scalar_effect, array_effect, constraint_alone, constraint_effect, solve_effect, meanings_of, value_of, declares_variable, is_bool_shape, domain_constraints, value_constraints}
-use Rattle.fzn_model.specs.Faults.{if_some, all_mean, arguments_fit, fits_scalar_type, fits_array_type, value_fits, has_index_set, is_wrong_value, is_wrong_row, has_wrong_argument, is_unsupported, is_taken, expr_is_long, shape_is_long, type_is_long, has_long_list, expressions, is_too_large, passes_limit, first_kind, own_tests, place_tests, fault_of}
-use Rattle.constraint_model.specs.WellFormed.{IsDeclaration, IsVariable, IsMeaningOf, IsConstraintOf, IsGoalOf, IsOutputOf}
+use Rattle.constraint_model.specs.Fits.{named, fits, row_for, constraint_on}
+use Rattle.fzn_model.specs.Effects.{Reading, joined, effect_of, no_effect, variable, variable_effect, parameter_effect, scalar_effect, array_effect, constraint_alone, constraint_effect, solve_effect, meanings_of, term_in, objective, goal_of, value_of, declares_variable, is_bool_shape, domain_constraints, value_constraints}
+use Rattle.fzn_model.specs.Faults.{if_some, all_mean, arguments_fit, fits_scalar_type, fits_array_type, value_fits, has_index_set, is_wrong_value, is_wrong_row, has_wrong_argument, is_unsupported, aim_fits, aim_expressions, expr_is_long, shape_is_long, type_is_long, has_long_list, expressions, is_too_large, passes_limit, first_kind, own_tests, place_tests, fault_of}
+use Rattle.constraint_model.specs.WellFormed.{IsDeclaration, IsVariable, IsTermOf, IsMeaningOf, IsConstraintOf, IsGoalOf, IsOutputOf}
 use Rattle.fzn_model.proofs.MeaningLaws.{SetLaws, each_append, each_false, meaning_stays, constraint_stays, AreNames, meaning}
 use Rattle.fzn_model.proofs.OutputLaws.{scalar_outputs, value_outputs, array_outputs}
 use Rattle.fzn_model.proofs.PhaseLaws.{IsSearch, search_declared}
@@ -155,11 +156,34 @@ adds_array laws vars text scope h shape word notes value f s l =
 search_stays : (vars : List VarDecl) (phases : List Phase) → IsSearch (length vars) phases → IsSearch (length (vars ++ [])) phases
 search_stays vars phases h = subst (λ (xs : List VarDecl). IsSearch (length xs) phases) (sym (append-nil vars)) h
 
-adds_goal : (vars : List VarDecl) (text : List ℕ) (scope : Scope) → AreNames vars scope → (notes : List AnnTree) (aim : Aim) → not (is_taken aim) ≡ false → Adds vars (solve_effect text scope (length vars) notes aim)
-adds_goal vars text scope h notes Aim.Satisfy t =
-    record { declared = tt; var = tt; constraints = tt; output = tt; solved = tt; search = search_stays vars (phases_of text scope notes ++ last_phase (length vars) ∷ []) (search_declared vars text scope h notes) }
-adds_goal vars text scope h notes (Aim.Minimize e) t = absurd (true≢false t)
-adds_goal vars text scope h notes (Aim.Maximize e) t = absurd (true≢false t)
+-- an objective that fits is an integer
+objective_is : (vars : List VarDecl) (o : Option Meaning) → IfSome o (IsMeaningOf vars) → if_some (fits Letter.Integer) o ≡ true → IsTermOf vars false (unwrap_or (term_in o) (Term.Number (pos 0)))
+objective_is vars None k e = absurd (false≢true e)
+objective_is vars (Some (Meaning.One s)) k e = subst (λ b. IsTermOf vars b s.term) (not-true s.is_bool e) k
+objective_is vars (Some (Meaning.Row entries)) k e = absurd (false≢true e)
+objective_is vars (Some (Meaning.Set ranges)) k e = absurd (false≢true e)
+
+goal_fits : (laws : SetLaws) (vars : List VarDecl) (text : List ℕ) (scope : Scope) → AreNames vars scope → (e : Expr) → not (value_fits text scope (fits Letter.Integer) e) ≡ false → list_any expr_is_long (e ∷ []) ≡ false
+    → IsTermOf (vars ++ []) false (objective text scope e)
+goal_fits laws vars text scope h e w l =
+    let known : IfSome (expr_meaning text scope e) (IsMeaningOf vars) = meaning laws vars text scope h e (each_false expr_is_long (e ∷ []) l).0 in
+    objective_is (vars ++ []) (expr_meaning text scope e) (value_stays vars [] (expr_meaning text scope e) known) (not-false (value_fits text scope (fits Letter.Integer) e) w)
+
+adds_goal : (laws : SetLaws) (vars : List VarDecl) (text : List ℕ) (scope : Scope) → AreNames vars scope → (notes : List AnnTree) (aim : Aim) → not (aim_fits text scope aim) ≡ false → list_any expr_is_long (aim_expressions aim) ≡ false
+    → Adds vars (solve_effect text scope (length vars) notes aim)
+adds_goal laws vars text scope h notes aim w l = record {
+  declared = tt;
+  var = tt;
+  constraints = tt;
+  output = tt;
+  solved = by aim w l;
+  search = search_stays vars (phases_of text scope notes ++ last_phase (length vars) ∷ []) (search_declared vars text scope h notes);
+}
+  where
+    by : (a : Aim) → not (aim_fits text scope a) ≡ false → list_any expr_is_long (aim_expressions a) ≡ false → IsGoalOf (vars ++ []) (goal_of text scope a)
+    by Aim.Satisfy w l = tt
+    by (Aim.Minimize e) w l = goal_fits laws vars text scope h e w l
+    by (Aim.Maximize e) w l = goal_fits laws vars text scope h e w l
 
 -- ---- any item
 
@@ -201,4 +225,4 @@ adds laws text before what h p = by what (supported (is_unsupported what) (has_w
     by (scalar_item shape name notes value) w t s l = adds_scalar laws before.vars text before.scope h shape (spelling text name) notes value w s l
     by (array_item low high shape name notes value) w t s l = adds_array laws before.vars text before.scope h shape (spelling text name) notes value (row_typed text before.scope low high shape value w) s l
     by (constraint_item name args notes) w t s l = adds_constraint laws before.vars text before.scope h (spelling text name) args w l
-    by (solve_item notes aim) w t s l = adds_goal before.vars text before.scope h notes aim t
+    by (solve_item notes aim) w t s l = adds_goal laws before.vars text before.scope h notes aim w l

@@ -156,17 +156,10 @@ is_unsupported_type Shape.VarSet = true
 is_unsupported_type (Shape.VarSetIn s) = true
 is_unsupported_type _ = false
 
--- Goals that this solver takes so far. This one definition is a cut that the search for a best solution takes away.
-abbrev pub is_taken : Aim → Bool
-is_taken Aim.Satisfy = true
-is_taken (Aim.Minimize e) = false
-is_taken (Aim.Maximize e) = false
-
--- the declared type or the goal isn't taken
+-- the declared type isn't taken
 abbrev pub is_unsupported : WhatTree → Bool
 is_unsupported (scalar_item shape name notes value) = is_unsupported_type shape
 is_unsupported (array_item low high shape name notes value) = is_unsupported_type shape || is_set_type shape
-is_unsupported (solve_item notes aim) = not (is_taken aim)
 is_unsupported _ = false
 
 -- ---- literals

@@ -1,10 +1,11 @@
 //! What a constraint item and the solve item add.
 
-ghost use Rattle.std.specs.Prelude.{◌≡◌, ◌++◌, ◌∷◌, [], ℕ, true, false, length, map, take, is_some, MatchOption, IfOk, IfErr, OnOk};
+ghost use Rattle.std.specs.Prelude.{◌≡◌, ◌++◌, ◌∷◌, [], ℕ, pos, true, false, length, map, take, is_some, unwrap_or, Some, None, MatchOption, IfOk, IfErr, OnOk};
 ghost use Rattle.std.specs.List.{list_all};
 ghost use Rattle.fzn_parser.specs.Notes.{ann_tree};
+ghost use Rattle.constraint_model.specs.declared.model.Term.{Term as Objective};
+ghost use Rattle.constraint_model.specs.declared.table.Letter.{Letter};
 ghost use Rattle.fzn_model.specs.declared.fault_kinds.FaultKind.{FaultKind as Kind};
-ghost use Rattle.fzn_model.specs.declared.stop.Stop.{Stop as Reason};
 ghost use Rattle.fzn_model.specs.Effects as effects;
 ghost use Rattle.fzn_model.specs.Faults as faults;
 ghost use Rattle.constraint_model.specs.Fits as fitting;
@@ -18,7 +19,9 @@ use crate::fault_kinds::FaultKind;
 use crate::scope::Scope;
 use crate::searches::all_phases;
 use crate::stop::Stop;
-use constraint_model::{Constraint, ConstraintName, Goal, Meaning, Operand, fits_some_row};
+use constraint_model::{
+    Constraint, ConstraintName, Goal, Meaning, Operand, Phase, Term, fits_some_row,
+};
 use fzn_parser::tree::{Aim, Ann, Expr};
 use list_of::ListOf;
 use std::alloc::{AllocError, Global};
@@ -115,7 +118,68 @@ pub(crate) fn read_constraint(
     }
 }
 
-/// What the solve item adds. Its goal is taken.
+/// The term of an objective, where that is an integer.
+fn objective_term(meaning: &Option<Meaning>) -> Option<Term>
+    ensures { MatchOption result (faults.if_some (fitting.fits Letter.Integer) meaning.now ≡ false)
+        (λ t. (faults.if_some (fitting.fits Letter.Integer) meaning.now ≡ true) × (t ≡ unwrap_or (effects.term_in meaning.now) (Objective.Number (pos 0)))) }
+{
+    match meaning {
+        Some(Meaning::One(scalar)) => {
+            if scalar.is_bool {
+                None
+            } else {
+                Some(scalar.term)
+            }
+        }
+        Some(Meaning::Row(_)) | Some(Meaning::Set(_)) | None => None,
+    }
+}
+
+/// The objective, where it is an integer, constant or variable.
+fn read_objective(alloc: Global, text: &[u8], scope: &Scope, expr: &Expr) -> Result<Term, Stop>
+    ensures value { IfOk result (λ t. t ≡ effects.objective text.now scope.now expr.now) }
+    ensures fits { OnOk result (faults.value_fits text.now scope.now (fitting.fits Letter.Integer) expr.now ≡ true) }
+    ensures wrong { IfErr result (faults.OnlyFault Kind.WrongArgument (faults.value_fits text.now scope.now (fitting.fits Letter.Integer) expr.now ≡ false)) }
+{
+    let meaning = expr_meaning(alloc, text, scope, expr)?;
+    match objective_term(&meaning) {
+        Some(term) => Ok(term),
+        None => Err(Stop::Fault(FaultKind::WrongArgument)),
+    }
+}
+
+/// What is asked for, where its objective fits.
+fn read_goal(alloc: Global, text: &[u8], scope: &Scope, aim: &Aim) -> Result<Goal, Stop>
+    ensures value { IfOk result (λ g. g ≡ effects.goal_of text.now scope.now aim.now) }
+    ensures fits { OnOk result (faults.aim_fits text.now scope.now aim.now ≡ true) }
+    ensures wrong { IfErr result (faults.OnlyFault Kind.WrongArgument (faults.aim_fits text.now scope.now aim.now ≡ false)) }
+{
+    match aim {
+        Aim::Satisfy => Ok(Goal::Satisfy),
+        Aim::Minimize(expr) => match read_objective(alloc, text, scope, expr) {
+            Ok(term) => Ok(Goal::Minimize(term)),
+            Err(stop) => Err(stop),
+        },
+        Aim::Maximize(expr) => match read_objective(alloc, text, scope, expr) {
+            Ok(term) => Ok(Goal::Maximize(term)),
+            Err(stop) => Err(stop),
+        },
+    }
+}
+
+fn solve_effect(alloc: Global, phases: ListOf<Phase>, goal: Goal) -> Effect
+    ensures { result ≡ record { declared = None; var = None; constraints = []; output = None; solved = Some (phases, goal) } }
+{
+    Effect {
+        declared: None,
+        var: None,
+        constraints: ListOf::new(alloc),
+        output: None,
+        solved: Some((phases, goal)),
+    }
+}
+
+/// What the solve item adds, where its objective fits.
 pub(crate) fn read_solve(
     alloc: Global,
     text: &[u8],
@@ -124,16 +188,17 @@ pub(crate) fn read_solve(
     anns: &[Ann],
     aim: &Aim,
 ) -> Result<Effect, Stop>
-    requires { faults.is_taken aim.now ≡ true }
     ensures effect { IfOk result (λ e. e ≡ effects.solve_effect text.now scope.now count (map ann_tree anns.now) aim.now) }
-    ensures wrong { IfErr result (λ s. s ≡ Reason.NoMemory) }
+    ensures fits { OnOk result (faults.aim_fits text.now scope.now aim.now ≡ true) }
+    ensures wrong { IfErr result (faults.OnlyFault Kind.WrongArgument (faults.aim_fits text.now scope.now aim.now ≡ false)) }
 {
-    let phases = all_phases(alloc, text, scope, anns, count)?;
-    Ok(Effect {
-        declared: None,
-        var: None,
-        constraints: ListOf::new(alloc),
-        output: None,
-        solved: Some((phases, Goal::Satisfy)),
-    })
+    let goal = match read_goal(alloc, text, scope, aim) {
+        Ok(goal) => goal,
+        Err(stop) => return Err(stop),
+    };
+    let phases = match all_phases(alloc, text, scope, anns, count) {
+        Ok(phases) => phases,
+        Err(_) => return Err(Stop::NoMemory),
+    };
+    Ok(solve_effect(alloc, phases, goal))
 }

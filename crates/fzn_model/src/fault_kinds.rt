@@ -19,7 +19,7 @@ pub enum FaultKind {
     UnknownConstraint = 5,
     /// Arguments, a value, an index set or an objective don't fit.
     WrongArgument = 6,
-    /// The declared type or the goal isn't taken.
+    /// The declared type isn't taken.
     Unsupported = 7,
     /// An integer literal isn't in the range of numbers.
     OutOfRange = 8,

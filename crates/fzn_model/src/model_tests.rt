@@ -243,3 +243,13 @@ fn the_search_ends_with_a_phase_of_all_variables(rt: HostRuntime) -> Result<(), 
     assert!(rt; matches!(&model.goal, Goal::Satisfy));
     Ok(())
 }
+
+#[test]
+fn an_objective_is_a_variable_or_a_number(rt: HostRuntime) -> Result<(), Fail> {
+    let alloc = rt.alloc();
+    let least = model_of(alloc, "var bool: b; var 1..2: x; solve minimize x;")?;
+    assert!(rt; matches!(&least.goal, Goal::Minimize(Term::Var(1))));
+    let greatest = model_of(alloc, "int: c = -7; solve maximize c;")?;
+    assert!(rt; matches!(&greatest.goal, Goal::Maximize(Term::Number(-7))));
+    Ok(())
+}

@@ -43,7 +43,6 @@ fn read_effect(
     count: u32,
     what: &What,
 ) -> Result<Effect, Stop>
-    requires supported { faults.is_unsupported (what_tree what.now) ≡ false }
     ensures effect { IfOk result (λ e. e ≡ effects.effect_of text.now scope.now count (what_tree what.now)) }
     ensures fits { OnOk result (faults.has_wrong_argument text.now scope.now (what_tree what.now) ≡ false) }
     ensures wrong { IfErr result (faults.OnlyFault Kind.WrongArgument (faults.has_wrong_argument text.now scope.now (what_tree what.now) ≡ true)) }

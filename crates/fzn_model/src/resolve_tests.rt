@@ -45,8 +45,8 @@ fn names_and_constraints_have_their_faults(rt: HostRuntime) -> Result<(), Fail> 
         (4, "predicate q(int: q); ", "solve minimize q;"),
         (4, "", "var {1}: x = q; solve satisfy;"),
         (5, "", "constraint no_such(1); solve satisfy;"),
-        (5, "", "constraint int_div(4, 2, 2); solve satisfy;"),
-        (5, "", "constraint int_mod(4, 2, 0); solve satisfy;"),
+        (5, "", "constraint int_pow(4, 2, 16); solve satisfy;"),
+        (5, "", "constraint int_negate(4, -4); solve satisfy;"),
         (5, "", "constraint INT_EQ(1, 1); solve satisfy;"),
         (
             5,
@@ -91,8 +91,15 @@ fn arguments_and_types_have_their_faults(rt: HostRuntime) -> Result<(), Fail> {
             "",
             "array [1..1] of set of int: a = [{1}]; solve satisfy;",
         ),
-        (7, "var 1..2: x; ", "solve minimize x;"),
-        (7, "", "solve maximize 1;"),
+        (6, "", "solve minimize true;"),
+        (6, "var bool: b; ", "solve maximize b;"),
+        (6, "bool: b = false; ", "solve minimize b;"),
+        (6, "var 1..2: x; ", "solve minimize [x];"),
+        (6, "array [1..1] of int: a = [1]; ", "solve maximize a;"),
+        (6, "", "solve minimize {1};"),
+        (6, "", "solve maximize 1.5;"),
+        (6, "", "solve minimize [];"),
+        (8, "", "solve minimize 140737488355328;"),
     ] {
         let fault = fault_of(rt.alloc(), front, rest)?;
         assert_eq!(rt; fault, Some((kind, front.len())), "at {front}{rest}");
@@ -188,9 +195,9 @@ fn of_two_greater_faults_in_an_item_the_least_counts(rt: HostRuntime) -> Result<
         (6, "solve satisfy; ", "constraint int_le(1);"),
         (7, "", "float: f = true; solve satisfy;"),
         (7, "", "array [0..0] of float: a = [true]; solve satisfy;"),
-        (7, "", "solve minimize true;"),
         (7, "", "var set of 1..140737488355328: s; solve satisfy;"),
-        (7, "solve satisfy; ", "solve minimize 1;"),
+        (6, "solve satisfy; ", "solve minimize true;"),
+        (11, "solve satisfy; ", "solve minimize 1;"),
         (8, "solve satisfy; ", "int: a = 140737488355328;"),
         (8, "solve satisfy; ", "var {140737488355328}: x;"),
         (11, "solve satisfy; ", "var {1}: x = 2;"),
@@ -205,6 +212,9 @@ fn of_two_greater_faults_in_an_item_the_least_counts(rt: HostRuntime) -> Result<
 fn lawful_texts_have_a_model(rt: HostRuntime) -> Result<(), Fail> {
     for text in [
         "solve satisfy;",
+        "solve maximize 1;",
+        "var 1..2: x; solve minimize x;",
+        "int: c = 3; solve :: q maximize c;",
         "predicate p(140737488355328: x); predicate p(); var bool: p; solve satisfy;",
         "var 5..3: x; var -140737488355327..140737488355327: y; solve satisfy;",
         "var 0..140737488355327: x; constraint int_le(x, -0x7fffffffffff); solve satisfy;",
@@ -268,7 +278,7 @@ fn lists_have_65536_entries_and_no_more(rt: HostRuntime) -> Result<(), Fail> {
         ),
         (3, "int: s = 1; ", "set of int: s = {1", "}; solve satisfy;"),
         (4, "", "constraint int_le(q, {1", "}); solve satisfy;"),
-        (5, "", "constraint int_div(1, {1", "}); solve satisfy;"),
+        (5, "", "constraint int_pow(1, {1", "}); solve satisfy;"),
         (6, "", "constraint int_le(1, {1", "}); solve satisfy;"),
         (7, "", "var set of {1", "}: s; solve satisfy;"),
         (

@@ -9,7 +9,7 @@ ghost use Rattle.constraint_model.specs.Fits as fitting;
 
 use crate::exprs::spelling;
 use constraint_model::{ConstraintName, Meaning, Scalar, Term};
-use fzn_parser::tree::{Aim, Shape, What};
+use fzn_parser::tree::{Shape, What};
 
 /// Whether it is a boolean's type.
 pub(crate) fn is_bool_shape(shape: &Shape) -> bool
@@ -42,15 +42,14 @@ fn is_set_type(shape: &Shape) -> bool
     matches!(shape, Shape::SetOfInt)
 }
 
-/// Whether the declared type or the goal isn't taken.
+/// Whether the declared type isn't taken.
 pub(crate) fn is_unsupported(what: &What) -> bool
     ensures { result ≡ faults.is_unsupported (what_tree what.now) }
 {
     match what {
         What::Scalar { shape, .. } => is_unsupported_type(shape),
         What::Array { shape, .. } => is_unsupported_type(shape) || is_set_type(shape),
-        What::Solve { aim, .. } => !matches!(aim, Aim::Satisfy),
-        What::Predicate(_) | What::Constraint { .. } => false,
+        What::Predicate(_) | What::Constraint { .. } | What::Solve { .. } => false,
     }
 }
 

@@ -55,7 +55,7 @@ least_rises l l' h' h p q r = by_lt_z l (pos 0)
     (λ ge. let f = least_from_zero l' h' ge in omega (arith, ints))))
     (λ ge. let e = least_from_zero l h ge in let f = least_from_zero l' h' (omega (arith, ints)) in omega (arith, ints))
 
-greatest_falls : (l l' h' h : ℤ) → l ≤ℤ l' → h' ≤ℤ h → greatest_absolute l' h' ≤ℤ greatest_absolute l h
+pub greatest_falls : (l l' h' h : ℤ) → l ≤ℤ l' → h' ≤ℤ h → greatest_absolute l' h' ≤ℤ greatest_absolute l h
 unfolding greatest_absolute
 greatest_falls l l' h' h p r = omega (arith, ints, clamps)
 
@@ -65,7 +65,7 @@ least_of_one z = by_lt_z z (pos 0)
     (λ lt. let e = least_to_zero z z lt (omega (arith, ints)) in omega (arith, ints))
     (λ ge. let e = least_from_zero z z ge in omega (arith, ints))
 
-greatest_of_one : (z : ℤ) → greatest_absolute z z ≡ pos (unsigned_abs z)
+pub greatest_of_one : (z : ℤ) → greatest_absolute z z ≡ pos (unsigned_abs z)
 unfolding greatest_absolute
 greatest_of_one z = omega (arith, ints, clamps)
 

@@ -9,7 +9,7 @@ use Rattle.std.specs.Prelude.{slice_index, slice_index_or}
 use Rattle.guarded_tell.specs.declared.tell.Lit.{Lit}
 use Rattle.guarded_tell.specs.declared.tell.Tell.{Tell}
 use Rattle.guarded_tell.specs.declared.kernel.Kernel.{Kernel}
-use Rattle.guarded_tell.specs.declared.kernel.Kernel.TheVariants.{Le, Eq, Times, Abs, Max, Min, Clause, Element, InSet}
+use Rattle.guarded_tell.specs.declared.kernel.Kernel.TheVariants.{Le, Eq, Times, Div, Mod, Abs, Max, Min, Clause, Element, InSet}
 use Rattle.interval.specs.Limits.{IsBound, IsNumber, largest_number, box_limit}
 use Rattle.interval.specs.Boxes.{Bounds, IsInRange, IsProper, low_of, high_of}
 use Rattle.guarded_tell.specs.Words.{IsProperIn, AreVariables}
@@ -126,6 +126,20 @@ no_terms_made l coeffs vars limit number z e f g n = record {
 pub product_kernel : IsKernel 4 (Times 0 1 2)
 unfolding vars_of HasNumbers
 product_kernel = record { variables = below_four (0 ∷ 1 ∷ 2 ∷ []) refl; numbers = tt }
+
+three_variables : (x y z : ℕ) → x < 4 → y < 4 → z < 4 → (i : ℕ) → i < 3 → slice_index (x ∷ y ∷ z ∷ []) i < 4
+three_variables x y z p q r zero h = p
+three_variables x y z p q r (suc zero) h = q
+three_variables x y z p q r (suc (suc zero)) h = r
+three_variables x y z p q r (suc (suc (suc i))) h = absurd (omega arith)
+
+pub quotient_kernel : (x y z : ℕ) → x < 4 → y < 4 → z < 4 → IsKernel 4 (Div x y z)
+unfolding vars_of HasNumbers
+quotient_kernel x y z p q r = record { variables = record { each = λ i h. three_variables x y z p q r i (omega arith) }; numbers = tt }
+
+pub remainder_kernel : (x y z : ℕ) → x < 4 → y < 4 → z < 4 → IsKernel 4 (Mod x y z)
+unfolding vars_of HasNumbers
+remainder_kernel x y z p q r = record { variables = record { each = λ i h. three_variables x y z p q r i (omega arith) }; numbers = tt }
 
 pub absolute_kernel : IsKernel 4 (Abs 0 1)
 unfolding vars_of HasNumbers

@@ -16,6 +16,11 @@ pub mod EqualityPoint
 pub mod EqualityPlace
 pub mod TimesLaws
 pub mod AbsoluteLaws
+pub mod DivisionCode
+pub mod TruncationLaws
+pub mod DivisorLaws
+pub mod DivisionLaws
+pub mod RemainderLaws
 pub mod Examples
 pub mod CommonLaws
 pub mod ExtremeLaws

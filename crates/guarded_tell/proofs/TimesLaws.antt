@@ -19,26 +19,26 @@ use Rattle.guarded_tell.proofs.EqualityLaws.{or_true}
 use Rattle.guarded_tell.proofs.PlaceLaws.{IsPlaced, low_placed, high_placed}
 
 -- what is at most four numbers is at most the least of them, and the mirror
-under_four : (z p q r s : ℤ) → z ≤ℤ p → z ≤ℤ q → z ≤ℤ r → z ≤ℤ s → z ≤ℤ least_of_four p q r s
+pub under_four : (z p q r s : ℤ) → z ≤ℤ p → z ≤ℤ q → z ≤ℤ r → z ≤ℤ s → z ≤ℤ least_of_four p q r s
 under_four z p q r s e f g h = omega (arith, ints, clamps)
 
-over_four : (z p q r s : ℤ) → p ≤ℤ z → q ≤ℤ z → r ≤ℤ z → s ≤ℤ z → greatest_of_four p q r s ≤ℤ z
+pub over_four : (z p q r s : ℤ) → p ≤ℤ z → q ≤ℤ z → r ≤ℤ z → s ≤ℤ z → greatest_of_four p q r s ≤ℤ z
 over_four z p q r s e f g h = omega (arith, ints, clamps)
 
 -- both bounds of the inner range are in the outer
-record IsWithin (inner outer : Range) : Type 0 where
-  low : IsIn outer inner.0
-  high : IsIn outer inner.1
+pub record IsWithin (inner outer : Range) : Type 0 where
+  pub low : IsIn outer inner.0
+  pub high : IsIn outer inner.1
 
 module _ (corners : CornerOrder) (x y x' y' : Range) (h : IsWithin x' x) (k : IsWithin y' y) where
-  least_product_rises : least_product x y ≤ℤ least_product x' y'
+  pub least_product_rises : least_product x y ≤ℤ least_product x' y'
   unfolding least_product
   least_product_rises =
       under_four (least_product x y) (x'.0 *ℤ y'.0) (x'.0 *ℤ y'.1) (x'.1 *ℤ y'.0) (x'.1 *ℤ y'.1)
       (corners.products_from x y x'.0 y'.0 h.low k.low) (corners.products_from x y x'.0 y'.1 h.low k.high)
       (corners.products_from x y x'.1 y'.0 h.high k.low) (corners.products_from x y x'.1 y'.1 h.high k.high)
 
-  greatest_product_falls : greatest_product x' y' ≤ℤ greatest_product x y
+  pub greatest_product_falls : greatest_product x' y' ≤ℤ greatest_product x y
   unfolding greatest_product
   greatest_product_falls =
       over_four (greatest_product x y) (x'.0 *ℤ y'.0) (x'.0 *ℤ y'.1) (x'.1 *ℤ y'.0) (x'.1 *ℤ y'.1)
@@ -63,16 +63,16 @@ module _ (corners : CornerOrder) (x y x' y' : Range) (h : IsWithin x' x) (k : Is
 pub one_sided : (r : Range) → excludes_zero r ≡ true → IsOneSided r
 one_sided r e = ⊎_elim (λ p. inl (omega (arith, ints))) (λ q. inr (omega (arith, ints))) (or_cases (int_lt (pos 0) r.0) (int_lt r.1 (pos 0)) e)
 
-excluded : (r : Range) → IsOneSided r → excludes_zero r ≡ true
+pub excluded : (r : Range) → IsOneSided r → excludes_zero r ≡ true
 excluded r s = or_true (int_lt (pos 0) r.0) (int_lt r.1 (pos 0)) (⊎_elim (λ p. inl (omega (arith, ints))) (λ q. inr (omega (arith, ints))) s)
 
-within_one_sided : (r' r : Range) → IsWithin r' r → IsOneSided r → IsOneSided r'
+pub within_one_sided : (r' r : Range) → IsWithin r' r → IsOneSided r → IsOneSided r'
 within_one_sided r' r h s =
     let low = h.low.from in
     let high = h.high.to in
     ⊎_elim (λ p. inl (omega (arith, ints))) (λ q. inr (omega (arith, ints))) s
 
-within : (inner outer : Bounds) (v : ℕ) → low_of outer v ≤ℤ low_of inner v → low_of inner v ≤ℤ high_of inner v → high_of inner v ≤ℤ high_of outer v → IsWithin (range_of inner v) (range_of outer v)
+pub within : (inner outer : Bounds) (v : ℕ) → low_of outer v ≤ℤ low_of inner v → low_of inner v ≤ℤ high_of inner v → high_of inner v ≤ℤ high_of outer v → IsWithin (range_of inner v) (range_of outer v)
 within inner outer v p q r = record {
   low = record { from = p; to = omega (arith, ints) };
   high = record { from = omega (arith, ints); to = r };
@@ -118,19 +118,19 @@ module _ (inner outer : Bounds) (quotients : QuotientOrder) (clamped : ClampOrde
 
 -- ---- at a point
 
-least_of_same : (p : ℤ) → least_of_four p p p p ≡ p
+pub least_of_same : (p : ℤ) → least_of_four p p p p ≡ p
 least_of_same p = omega (arith, ints, clamps)
 
-greatest_of_same : (p : ℤ) → greatest_of_four p p p p ≡ p
+pub greatest_of_same : (p : ℤ) → greatest_of_four p p p p ≡ p
 greatest_of_same p = omega (arith, ints, clamps)
 
 module _ (b : Bounds) (x y : ℕ) (fx : low_of b x ≡ high_of b x) (fy : low_of b y ≡ high_of b y) where
-  least_product_point : least_product (range_of b x) (range_of b y) ≡ low_of b x *ℤ low_of b y
+  pub least_product_point : least_product (range_of b x) (range_of b y) ≡ low_of b x *ℤ low_of b y
   unfolding least_product
   least_product_point =
       (λ i. least_product (low_of b x, sym fx i) (low_of b y, sym fy i)) ∙ least_of_same (low_of b x *ℤ low_of b y)
 
-  greatest_product_point : greatest_product (range_of b x) (range_of b y) ≡ low_of b x *ℤ low_of b y
+  pub greatest_product_point : greatest_product (range_of b x) (range_of b y) ≡ low_of b x *ℤ low_of b y
   unfolding greatest_product
   greatest_product_point =
       (λ i. greatest_product (low_of b x, sym fx i) (low_of b y, sym fy i)) ∙ greatest_of_same (low_of b x *ℤ low_of b y)
@@ -150,7 +150,7 @@ pub record IsFixed (b : Bounds) (v : ℕ) : Type 0 where
   pub fixed : low_of b v ≡ high_of b v
   pub low : IsNumber (low_of b v)
 
-high_number : (b : Bounds) (v : ℕ) → IsFixed b v → IsNumber (high_of b v)
+pub high_number : (b : Bounds) (v : ℕ) → IsFixed b v → IsNumber (high_of b v)
 high_number b v f = let N : ℤ → Type 0 = λ z. IsNumber z in subst N f.fixed f.low
 
 module _ (quotients : QuotientOrder) (clamped : ClampOrder) (b : Bounds) where

@@ -4,11 +4,13 @@ use Rattle.std.specs.List.{All}
 use Rattle.interval.specs.Boxes.{Bounds}
 use Rattle.guarded_tell.specs.declared.tell.Tell.{Tell}
 use Rattle.guarded_tell.specs.declared.kernel.Kernel.{Kernel}
-use Rattle.guarded_tell.specs.declared.kernel.Kernel.TheVariants.{Le, Eq, Times, Abs, Max, Min, Clause, Element, InSet}
+use Rattle.guarded_tell.specs.declared.kernel.Kernel.TheVariants.{Le, Eq, Times, Div, Mod, Abs, Max, Min, Clause, Element, InSet}
 use Rattle.guarded_tell.specs.Words.{Keeps, IsProperIn, AreVariables}
 use Rattle.guarded_tell.specs.Linear.{at_most_tells, IsAtMost, IsLinear}
 use Rattle.guarded_tell.specs.Equality.{eq_tells, IsEquation}
 use Rattle.guarded_tell.specs.Times.{times_tells, IsProduct}
+use Rattle.guarded_tell.specs.Division.{div_tells, IsQuotient}
+use Rattle.guarded_tell.specs.Remainder.{mod_tells, IsRemainder}
 use Rattle.guarded_tell.specs.Absolute.{abs_tells, IsAbsolute}
 use Rattle.guarded_tell.specs.Extremes.{member_limit}
 use Rattle.guarded_tell.specs.Maximum.{max_tells, IsGreatestOf}
@@ -22,6 +24,8 @@ unfoldable pub vars_of : Kernel → List ℕ
 vars_of (Le l coeffs vars limit) = l.var ∷ vars
 vars_of (Eq l coeffs vars limit) = l.var ∷ vars
 vars_of (Times x y z) = x ∷ y ∷ z ∷ []
+vars_of (Div x y z) = x ∷ y ∷ z ∷ []
+vars_of (Mod x y z) = x ∷ y ∷ z ∷ []
 vars_of (Abs x y) = x ∷ y ∷ []
 vars_of (Max m xs) = m ∷ xs
 vars_of (Min m xs) = m ∷ xs
@@ -34,6 +38,8 @@ unfoldable pub tells : Kernel → Bounds → List Tell
 tells (Le l coeffs vars limit) b = at_most_tells l coeffs vars limit b
 tells (Eq l coeffs vars limit) b = eq_tells l coeffs vars limit b
 tells (Times x y z) b = times_tells x y z b
+tells (Div x y z) b = div_tells x y z b
+tells (Mod x y z) b = mod_tells x y z b
 tells (Abs x y) b = abs_tells x y b
 tells (Max m xs) b = max_tells m xs b
 tells (Min m xs) b = min_tells m xs b
@@ -46,6 +52,8 @@ unfoldable pub Holds : Kernel → List ℤ → Type 0
 Holds (Le l coeffs vars limit) numbers = IsAtMost l coeffs vars limit numbers
 Holds (Eq l coeffs vars limit) numbers = IsEquation l coeffs vars limit numbers
 Holds (Times x y z) numbers = IsProduct x y z numbers
+Holds (Div x y z) numbers = IsQuotient x y z numbers
+Holds (Mod x y z) numbers = IsRemainder x y z numbers
 Holds (Abs x y) numbers = IsAbsolute x y numbers
 Holds (Max m xs) numbers = IsGreatestOf m xs numbers
 Holds (Min m xs) numbers = IsLeastOf m xs numbers
@@ -58,6 +66,8 @@ unfoldable pub HasNumbers : Kernel → Type 0
 HasNumbers (Le l coeffs vars limit) = IsLinear coeffs vars limit
 HasNumbers (Eq l coeffs vars limit) = IsLinear coeffs vars limit
 HasNumbers (Times x y z) = Unit {0}
+HasNumbers (Div x y z) = Unit {0}
+HasNumbers (Mod x y z) = Unit {0}
 HasNumbers (Abs x y) = Unit {0}
 HasNumbers (Max m xs) = length xs ≤ member_limit
 HasNumbers (Min m xs) = length xs ≤ member_limit

@@ -4,6 +4,8 @@ pub mod Linear
 pub mod Equality
 pub mod Times
 pub mod Absolute
+pub mod Division
+pub mod Remainder
 pub mod Clause
 pub mod Extremes
 pub mod Maximum

@@ -111,7 +111,7 @@ fn least_absolute(low: i64, high: i64) -> i128
 
 /// The greatest absolute value of the numbers from `low` to `high`.
 #[tactic(auto, unfolding(crate::specs::Absolute::greatest_absolute, interval::specs::Limits::bound_limit, interval::specs::Limits::largest_number))]
-fn greatest_absolute(low: i64, high: i64) -> i128
+pub fn greatest_absolute(low: i64, high: i64) -> i128
     requires low { IsBound low }
     requires high { IsBound high }
     ensures { result ≡ absolute.greatest_absolute low high }

@@ -40,6 +40,24 @@ pub enum Kernel {
         /// The product.
         z: u32,
     },
+    /// `z` is `x` divided by `y`, which isn't 0, rounded toward zero.
+    Div {
+        /// The dividend.
+        x: u32,
+        /// The divisor.
+        y: u32,
+        /// The quotient.
+        z: u32,
+    },
+    /// `z` is what the division of `x` by `y` leaves, where `y` isn't 0 and the quotient is rounded toward zero.
+    Mod {
+        /// The dividend.
+        x: u32,
+        /// The divisor.
+        y: u32,
+        /// The remainder.
+        z: u32,
+    },
     /// `y` is the absolute value of `x`.
     Abs {
         /// The variable whose absolute value it is.
@@ -97,7 +115,7 @@ impl Kernel {
     {
         match self {
             Kernel::Le { vars, .. } | Kernel::Eq { vars, .. } => vars.len() + 1,
-            Kernel::Times { .. } => 3,
+            Kernel::Times { .. } | Kernel::Div { .. } | Kernel::Mod { .. } => 3,
             Kernel::Abs { .. } => 2,
             Kernel::Max { xs, .. } | Kernel::Min { xs, .. } => xs.len() + 1,
             Kernel::Clause { lits } => clause_var_count(lits.as_slice()),
@@ -120,11 +138,12 @@ impl Kernel {
                     vars.as_slice()[place - 1]
                 }
             }
-            Kernel::Times { x, y, z } => match place {
-                0 => *x,
-                1 => *y,
-                _ => *z,
-            },
+            Kernel::Times { x, y, z } | Kernel::Div { x, y, z } | Kernel::Mod { x, y, z } =>
+                match place {
+                    0 => *x,
+                    1 => *y,
+                    _ => *z,
+                },
             Kernel::Abs { x, y } => { if place == 0 { *x } else { *y } }
             Kernel::Max { m, xs } | Kernel::Min { m, xs } => {
                 if place == 0 {

@@ -5,6 +5,9 @@ mod absolute;
 #[cfg(test)]
 mod arithmetic_tests;
 mod clause;
+mod division;
+#[cfg(test)]
+mod division_tests;
 mod element;
 mod equality;
 mod hear;
@@ -19,6 +22,7 @@ mod list_tests;
 mod literals;
 mod maximum;
 mod minimum;
+mod remainder;
 mod tell;
 mod terms;
 #[cfg(test)]

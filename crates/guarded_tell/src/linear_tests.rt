@@ -4,8 +4,8 @@ ghost use Rattle.std.specs.Prelude.{◌≡◌, ◌≤◌, IfOk, unsigned_abs};
 ghost use Rattle.interval.specs.Limits.{IsNumber, largest_number};
 ghost use Rattle.guarded_tell.specs.Kernels.{IsKernel};
 
-use crate::test_support::{LARGEST, PAST, after, expect, high, low, number};
-use crate::{Kernel, Lit};
+use crate::test_support::{LARGEST, PAST, Pairs, after, expect, high, low, number};
+use crate::{Kernel, Lit, Tell};
 use list_of::ListOf;
 use std::alloc::{AllocError, Global};
 use std::test::Fail;
@@ -78,78 +78,62 @@ fn equation(
 #[test]
 fn the_inequality_gives_its_tells_in_order(rt: HostRuntime) -> Result<(), Fail> {
     let alloc = rt.alloc();
-    let sure = inequality(
-        alloc,
-        true,
-        number(&rt, 2),
-        number(&rt, -3),
-        number(&rt, -13),
-    )?;
-    expect(
-        &rt,
-        alloc,
-        &sure,
-        [(1, 1), (-5, 5), (0, 2), (0, 0)],
-        &[high(1, -4), low(2, 1)],
-    )?;
-    let loose = inequality(alloc, true, number(&rt, 2), number(&rt, -3), number(&rt, 1))?;
-    expect(
-        &rt,
-        alloc,
-        &loose,
-        [(1, 1), (-5, 5), (0, 2), (0, 0)],
-        &[high(1, 3), low(2, -3)],
-    )?;
-    let out = inequality(alloc, true, number(&rt, 2), number(&rt, -3), number(&rt, 4))?;
-    expect(
-        &rt,
-        alloc,
-        &out,
-        [(0, 0), (-5, 5), (0, 2), (0, 0)],
-        &[low(1, 3), high(2, 1)],
-    )?;
-    let met = inequality(alloc, true, number(&rt, 2), number(&rt, 0), number(&rt, 10))?;
-    expect(
-        &rt,
-        alloc,
-        &met,
-        [(1, 1), (-5, 5), (0, 2), (0, 0)],
-        &[low(0, 1), high(1, 5)],
-    )?;
-    Ok(())
-}
-
-#[test]
-fn the_inequality_reaches_the_ends_of_the_range(rt: HostRuntime) -> Result<(), Fail> {
-    let alloc = rt.alloc();
-    let wide = inequality(
-        alloc,
-        true,
-        number(&rt, LARGEST),
-        number(&rt, -LARGEST),
-        number(&rt, -LARGEST),
-    )?;
-    expect(
-        &rt,
-        alloc,
-        &wide,
-        [(1, 1), (-PAST, PAST), (-PAST, PAST), (0, 0)],
-        &[high(1, LARGEST), low(2, -LARGEST)],
-    )?;
-    let clamped = inequality(
-        alloc,
-        true,
-        number(&rt, 1),
-        number(&rt, 1),
-        number(&rt, LARGEST),
-    )?;
-    expect(
-        &rt,
-        alloc,
-        &clamped,
-        [(1, 1), (-PAST, -PAST), (-PAST, -PAST), (0, 0)],
-        &[low(0, 1), high(1, PAST), high(2, PAST)],
-    )?;
+    // The coefficients and the limit; the bounds of the literal's variable and of the terms'; the tells.
+    let table: [(i64, i64, i64, Pairs, &[Tell]); 6] = [
+        (
+            2,
+            -3,
+            -13,
+            [(1, 1), (-5, 5), (0, 2), (0, 0)],
+            &[high(1, -4), low(2, 1)],
+        ),
+        (
+            2,
+            -3,
+            1,
+            [(1, 1), (-5, 5), (0, 2), (0, 0)],
+            &[high(1, 3), low(2, -3)],
+        ),
+        (
+            2,
+            -3,
+            4,
+            [(0, 0), (-5, 5), (0, 2), (0, 0)],
+            &[low(1, 3), high(2, 1)],
+        ),
+        (
+            2,
+            0,
+            10,
+            [(1, 1), (-5, 5), (0, 2), (0, 0)],
+            &[low(0, 1), high(1, 5)],
+        ),
+        // At both ends of the range.
+        (
+            LARGEST,
+            -LARGEST,
+            -LARGEST,
+            [(1, 1), (-PAST, PAST), (-PAST, PAST), (0, 0)],
+            &[high(1, LARGEST), low(2, -LARGEST)],
+        ),
+        (
+            1,
+            1,
+            LARGEST,
+            [(1, 1), (-PAST, -PAST), (-PAST, -PAST), (0, 0)],
+            &[low(0, 1), high(1, PAST), high(2, PAST)],
+        ),
+    ];
+    for (first, second, limit, pairs, tells) in table {
+        let kernel = inequality(
+            alloc,
+            true,
+            number(&rt, first),
+            number(&rt, second),
+            number(&rt, limit),
+        )?;
+        expect(&rt, alloc, &kernel, pairs, tells)?;
+    }
     Ok(())
 }
 
@@ -191,63 +175,49 @@ fn the_inequality_tells_what_is_worked_out_by_hand(rt: HostRuntime) -> Result<()
 #[test]
 fn the_equation_gives_its_tells_in_order(rt: HostRuntime) -> Result<(), Fail> {
     let alloc = rt.alloc();
-    let sure = equation(alloc, true, number(&rt, 2), number(&rt, -3), number(&rt, 1))?;
-    expect(
-        &rt,
-        alloc,
-        &sure,
-        [(1, 1), (-5, 5), (0, 2), (0, 0)],
-        &[high(1, 3), low(1, 1), low(2, -3), high(2, 3)],
-    )?;
-    let out = equation(alloc, true, number(&rt, 1), number(&rt, -1), number(&rt, 0))?;
-    expect(
-        &rt,
-        alloc,
-        &out,
-        [(0, 0), (1, 3), (1, 1), (0, 0)],
-        &[low(1, 2)],
-    )?;
-    expect(
-        &rt,
-        alloc,
-        &out,
-        [(1, 1), (3, 3), (1, 1), (0, 0)],
-        &[high(0, 0), high(1, 1), low(1, 1), low(2, 3), high(2, 3)],
-    )?;
-    Ok(())
-}
-
-#[test]
-fn the_equation_reaches_the_ends_of_the_range(rt: HostRuntime) -> Result<(), Fail> {
-    let alloc = rt.alloc();
-    let wide = equation(
-        alloc,
-        true,
-        number(&rt, LARGEST),
-        number(&rt, -LARGEST),
-        number(&rt, 0),
-    )?;
-    expect(
-        &rt,
-        alloc,
-        &wide,
-        [(1, 1), (PAST, PAST), (-PAST, PAST), (0, 0)],
-        &[high(1, PAST), low(1, -PAST), low(2, PAST), high(2, PAST)],
-    )?;
-    let last = equation(
-        alloc,
-        true,
-        number(&rt, 1),
-        number(&rt, 0),
-        number(&rt, LARGEST),
-    )?;
-    expect(
-        &rt,
-        alloc,
-        &last,
-        [(0, 0), (LARGEST, LARGEST), (-PAST, PAST), (0, 0)],
-        &[low(0, 1), low(1, PAST), high(1, LARGEST - 1)],
-    )?;
+    // The coefficients and the limit; the bounds of the literal's variable and of the terms'; the tells.
+    let table: [(i64, i64, i64, Pairs, &[Tell]); 5] = [
+        (
+            2,
+            -3,
+            1,
+            [(1, 1), (-5, 5), (0, 2), (0, 0)],
+            &[high(1, 3), low(1, 1), low(2, -3), high(2, 3)],
+        ),
+        (1, -1, 0, [(0, 0), (1, 3), (1, 1), (0, 0)], &[low(1, 2)]),
+        (
+            1,
+            -1,
+            0,
+            [(1, 1), (3, 3), (1, 1), (0, 0)],
+            &[high(0, 0), high(1, 1), low(1, 1), low(2, 3), high(2, 3)],
+        ),
+        // At both ends of the range.
+        (
+            LARGEST,
+            -LARGEST,
+            0,
+            [(1, 1), (PAST, PAST), (-PAST, PAST), (0, 0)],
+            &[high(1, PAST), low(1, -PAST), low(2, PAST), high(2, PAST)],
+        ),
+        (
+            1,
+            0,
+            LARGEST,
+            [(0, 0), (LARGEST, LARGEST), (-PAST, PAST), (0, 0)],
+            &[low(0, 1), low(1, PAST), high(1, LARGEST - 1)],
+        ),
+    ];
+    for (first, second, limit, pairs, tells) in table {
+        let kernel = equation(
+            alloc,
+            true,
+            number(&rt, first),
+            number(&rt, second),
+            number(&rt, limit),
+        )?;
+        expect(&rt, alloc, &kernel, pairs, tells)?;
+    }
     Ok(())
 }
 
@@ -316,16 +286,6 @@ fn the_equation_tells_what_is_worked_out_by_hand(rt: HostRuntime) -> Result<(), 
             (1, 3),
             (1, 3),
             [(0, 0), (1, 3), (1, 3), (0, 0)],
-        ),
-        (
-            true,
-            2,
-            -3,
-            1,
-            (1, 1),
-            (-5, 5),
-            (0, 2),
-            [(1, 1), (1, 3), (0, 2), (0, 0)],
         ),
         (
             true,

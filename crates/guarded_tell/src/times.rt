@@ -78,7 +78,7 @@ fn tell_quotient<H: Hear>(x: u32, z: (i64, i64), y: (i64, i64), h: &mut H)
 }
 
 /// Tells that `var` is between these two.
-fn tell_between<H: Hear>(var: u32, bounds: (i128, i128), h: &mut H)
+pub fn tell_between<H: Hear>(var: u32, bounds: (i128, i128), h: &mut H)
     requires hearer { MayHearAll H.can_hear H.hears h.old (words.low_tell var bounds.0 ∷ words.high_tell var bounds.1 ∷ []) }
     ensures { HearsAll H.hears h.old (words.low_tell var bounds.0 ∷ words.high_tell var bounds.1 ∷ []) h.new }
 {
@@ -87,7 +87,7 @@ fn tell_between<H: Hear>(var: u32, bounds: (i128, i128), h: &mut H)
 }
 
 /// The least and the greatest corner product of two variables.
-fn corners_of(x: u32, y: u32, b: &BoxOf) -> (i128, i128)
+pub fn corners_of(x: u32, y: u32, b: &BoxOf) -> (i128, i128)
     requires x { x < length b.now }
     requires y { y < length b.now }
     ensures least { result.0 ≡ least_product (times.range_of b.now x) (times.range_of b.now y) }
@@ -97,7 +97,7 @@ fn corners_of(x: u32, y: u32, b: &BoxOf) -> (i128, i128)
 }
 
 /// The bounds of a variable.
-fn range_of(b: &BoxOf, v: u32) -> (i64, i64)
+pub fn range_of(b: &BoxOf, v: u32) -> (i64, i64)
     requires { v < length b.now }
     ensures value { result ≡ times.range_of b.now v }
     ensures low { IsBound result.0 }
@@ -107,7 +107,7 @@ fn range_of(b: &BoxOf, v: u32) -> (i64, i64)
 }
 
 /// Whether 0 isn't in the range.
-fn excludes_zero(range: (i64, i64)) -> bool
+pub fn excludes_zero(range: (i64, i64)) -> bool
     ensures { result ≡ times.excludes_zero range }
 {
     range.0 > 0 || range.1 < 0

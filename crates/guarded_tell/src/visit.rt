@@ -7,12 +7,14 @@ ghost use Rattle.guarded_tell.specs.Kernels.{vars_of, tells, IsKernel};
 
 use crate::absolute::visit_abs;
 use crate::clause::visit_clause;
+use crate::division::visit_div;
 use crate::element::visit_element;
 use crate::equality::visit_eq;
 use crate::in_set::visit_in_set;
 use crate::linear::visit_le;
 use crate::maximum::visit_max;
 use crate::minimum::visit_min;
+use crate::remainder::visit_mod;
 use crate::times::visit_times;
 use crate::{Hear, Kernel};
 use interval::BoxOf;
@@ -39,6 +41,8 @@ pub fn visit_tells<H: Hear>(k: &Kernel, b: &BoxOf, h: &mut H)
             limit,
         } => visit_eq(*lit, coeffs.as_slice(), vars.as_slice(), *limit, b, h),
         Kernel::Times { x, y, z } => visit_times(*x, *y, *z, b, h),
+        Kernel::Div { x, y, z } => visit_div(*x, *y, *z, b, h),
+        Kernel::Mod { x, y, z } => visit_mod(*x, *y, *z, b, h),
         Kernel::Abs { x, y } => visit_abs(*x, *y, b, h),
         Kernel::Max { m, xs } => visit_max(*m, xs.as_slice(), b, h),
         Kernel::Min { m, xs } => visit_min(*m, xs.as_slice(), b, h),

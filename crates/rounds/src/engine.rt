@@ -8,10 +8,10 @@ ghost use Rattle.lattice_store.specs.Seats.{seen_of, floor_of, seat_epoch, IsFir
 ghost use Rattle.rounds.specs.Lanes.{AreLanes};
 ghost use Rattle.rounds.specs.Flat.{IsFlat};
 
-use crate::gate::Gate;
 use crate::lanes::{Lane, make_lanes, reset_turns};
 use crate::settling::{copy_seen, settle_first};
 use fixpoint_laws::{Limited, law_greatest_is_computed};
+use gate::Gate;
 use guarded_tell::Kernel;
 use interval::{BoxOf, NoMemory, is_crossed, law_inside_order};
 use lattice_store::{Full, Seat, Store};

@@ -6,8 +6,8 @@ ghost use Rattle.rounds.specs.Shares.{share_at};
 ghost use Rattle.rounds.specs.Lanes.{HasSeat, AreLanes, HaveMadeNoPass, CanRun, Ran, IsLaneSeat, IsBackIn, SameCaches, AreJoined};
 ghost use Rattle.rounds.specs.declared.lanes.Lane.{Lane};
 
-use crate::gate::Gate;
 use crate::share::run_share;
+use gate::Gate;
 use guarded_tell::Kernel;
 use interval::{BoxOf, NoMemory};
 use lattice_store::{Seat, Store};

@@ -5,7 +5,6 @@
 
 mod cuts;
 mod engine;
-mod gate;
 mod lanes;
 mod once;
 mod settling;

@@ -7,8 +7,8 @@ ghost use Rattle.rounds.specs.Shares.{IsCut};
 ghost use Rattle.rounds.specs.Propagations.{HasPropagated};
 
 use crate::engine::Engine;
-use crate::gate::Gate;
 use fixpoint_laws::Limited;
+use gate::Gate;
 use guarded_tell::Kernel;
 use interval::{BoxOf, NoMemory};
 use std::alloc::Global;

@@ -10,10 +10,10 @@ ghost use Rattle.rounds.specs.Shares.{IsCut};
 ghost use Rattle.rounds.specs.Lanes.{AreLanes};
 ghost use Rattle.rounds.specs.Ends.{IsRound, HasEnded};
 
-use crate::gate::Gate;
 use crate::lanes::{Lane, run_lanes, seat_lanes, unseat_lanes};
 use crate::share::run_share;
 use fixpoint_laws::{Limited, law_greatest_is_computed, law_rounds_lead};
+use gate::Gate;
 use guarded_tell::{Kernel, law_tell_place};
 use interval::{BoxOf, NoMemory, law_inside_order};
 use lattice_store::{Seat, Store};

@@ -3,7 +3,7 @@ use Rattle.std.proofs.Common.{◌≡◌, ℕ, zero, suc, ℤ, pos, negsuc, ◌+�
 use Rattle.std.specs.Prelude.{int_le, int_lt}
 use Rattle.std.specs.Int.{int_min, int_max}
 use Rattle.std.proofs.lemmas.Int.{ints}
-use Rattle.std.proofs.lemmas.List.{get_or_append_left}
+use Rattle.std.proofs.lemmas.List.{get_or_append_left, set-get_or}
 use Rattle.interval.specs.Boxes.{Bounds, low_of, high_of, put_of, IsInside, InsideOrder}
 use Rattle.guarded_tell.specs.Words.{value_of}
 use Rattle.constraint_model.specs.declared.model.Term.{Term}
@@ -205,3 +205,39 @@ module _ (model : FznModel) (a : List ℤ) (fits : length a ≡ length model.var
       down x cost most l y c q u = let k = greatest_le_right l (neg_ℤ most) in omega (arith, ints)
   costs_at_most (Goal.Maximize (Term.Number n)) most cost b g k i e =
       subst (λ (z : ℤ). z ≤ℤ most) (same_some (neg_ℤ n) cost (Some (neg_ℤ n)) refl e) (where_false (neg_ℤ n) most b (omega arith) (int_le (neg_ℤ n) most) refl i)
+
+-- ---- the bounds of a cut
+
+put_same : (b : Bounds) (p : ℕ) → put_of b p (low_of b p) (high_of b p) ≡ b
+put_same b p = set-get_or b p (pos 0, pos 0)
+
+pub same_up_to : (b : Bounds) (p : ℕ) (z : ℤ) → high_of b p ≤ℤ z → up_to b p z ≡ b
+same_up_to b p z h = case (int_lt z (high_of b p)) refl
+  where
+    case : (t : Bool) → int_lt z (high_of b p) ≡ t → put_of b p (low_of b p) (cond t z (high_of b p)) ≡ b
+    case true e = absurd (omega (arith, ints))
+    case false e = put_same b p
+
+pub less_up_to : (b : Bounds) (p : ℕ) (z : ℤ) → z <ℤ high_of b p → up_to b p z ≡ put_of b p (low_of b p) z
+less_up_to b p z h = case (int_lt z (high_of b p)) refl
+  where
+    case : (t : Bool) → int_lt z (high_of b p) ≡ t → put_of b p (low_of b p) (cond t z (high_of b p)) ≡ put_of b p (low_of b p) z
+    case true e = refl
+    case false e = absurd (omega (arith, ints))
+
+not_less : (x y : ℤ) → x ≤ℤ y → int_lt x y ≡ false → x ≡ y
+not_less x y h e = omega (arith, ints)
+
+pub same_from_on : (b : Bounds) (p : ℕ) (z : ℤ) → z ≤ℤ low_of b p → from_on b p z ≡ b
+same_from_on b p z h = case (int_lt z (low_of b p)) refl
+  where
+    case : (t : Bool) → int_lt z (low_of b p) ≡ t → put_of b p (cond t (low_of b p) z) (high_of b p) ≡ b
+    case true e = put_same b p
+    case false e = ap (λ (x : ℤ). put_of b p x (high_of b p)) (not_less z (low_of b p) h e) ∙ put_same b p
+
+pub less_from_on : (b : Bounds) (p : ℕ) (z : ℤ) → low_of b p <ℤ z → from_on b p z ≡ put_of b p z (high_of b p)
+less_from_on b p z h = case (int_lt z (low_of b p)) refl
+  where
+    case : (t : Bool) → int_lt z (low_of b p) ≡ t → put_of b p (cond t (low_of b p) z) (high_of b p) ≡ put_of b p z (high_of b p)
+    case true e = absurd (omega (arith, ints))
+    case false e = refl

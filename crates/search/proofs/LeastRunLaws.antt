@@ -24,7 +24,8 @@ use Rattle.best_bound.specs.Lists.{Among, with_seen, IsLeastCost}
 use Rattle.search.specs.declared.kind.Kind.{Kind}
 use Rattle.search.specs.declared.ends.Why.{Why}
 use Rattle.search.specs.Costs.{IsAtMost, IsTermIn, IsObjectiveIn}
-use Rattle.search.specs.Machine.{Search, State, Node, is_dropped, is_solved, is_parted, MayFall, cut_by, best_after, Takes, GoesOn, Reached, stepped, MayGiveUp}
+use Rattle.narrowing.specs.Narrowing.{MayGiveUp}
+use Rattle.search.specs.Machine.{Search, State, Node, is_dropped, is_solved, is_parted, MayFall, cut_by, best_after, Takes, GoesOn, Reached, stepped}
 use Rattle.search.specs.Nodes.{IsNode}
 use Rattle.search.specs.Ends.{EndsDone, EndsOutOfNodes, EndsOutOfRounds, EndsSpent}
 use Rattle.search.specs.declared.closing.Closing.{Closing}

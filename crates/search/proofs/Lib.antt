@@ -14,3 +14,4 @@ pub mod PostedLaws
 pub mod CostLaws
 pub mod LeastRunLaws
 pub mod LeastExamples
+pub mod SearcherLaws

@@ -1,12 +1,15 @@
 -- What a node does to the stack, by what became of its settled box.
-use Rattle.std.proofs.Common.{ℤ, inl, inr, List, [], ◌∷◌, sym, ◌∙◌, refl, append-nil}
+use Rattle.std.proofs.Common.{◌≡◌, ℕ, ℤ, inl, inr, List, [], ◌∷◌, ◌++◌, Option, sym, subst, ◌∙◌, refl, append-nil}
 use Rattle.interval.specs.Boxes.{Bounds}
 use Rattle.guarded_tell.specs.declared.kernel.Kernel.{Kernel}
 use Rattle.fixpoint_laws.specs.Fixpoints.{IsGreatest, Fails}
 use Rattle.constraint_model.specs.declared.model.FznModel.{FznModel}
 use Rattle.branching.specs.Tree.{values_of}
-use Rattle.search.specs.Machine.{is_dropped, is_solved, is_parted}
-use Rattle.search.specs.Nodes.{IsSettled, IsNode}
+use Rattle.narrowing.specs.Narrowing.{MayGiveUp}
+use Rattle.search.specs.declared.kind.Kind.{Kind}
+use Rattle.search.specs.declared.node.Visit.{Visit}
+use Rattle.search.specs.Machine.{is_dropped, is_solved, is_parted, cut_by}
+use Rattle.search.specs.Nodes.{IsSettled, IsNode, IsTopVisit}
 
 module _ (model : FznModel) (kernels : List Kernel) (top : Bounds) (before : List Bounds) (found : List (List ℤ)) where
   pub node_dropped : Fails top kernels → IsNode model kernels top before before found found
@@ -33,4 +36,34 @@ module _ (model : FznModel) (kernels : List Kernel) (top : Bounds) (before : Lis
     node = is_parted model kernels top (p.right ∷ p.left ∷ []) [] g p.left p.right gr p.branch (refl {a = p.right ∷ p.left ∷ []}) refl;
     stack = p.stack;
     solutions = k ∙ sym (append-nil found);
+  }
+
+-- ---- the next box of a stack
+
+module _ (model : FznModel) (kernels : List Kernel) (round_limit : ℕ) (best : Option ℤ) (before rest after : List Bounds) (top cut : Bounds) (found more : List (List ℤ))
+    (taken : before ≡ rest ++ top ∷ []) (is_cut : cut ≡ cut_by Kind.Least model.goal best top) where
+  pub top_dropped : Fails cut kernels → after ≡ rest → more ≡ found → IsTopVisit model kernels round_limit best before after found more Visit.Done
+  top_dropped fails e f = record {
+    rest = rest;
+    top = top;
+    taken = taken;
+    visit = subst (λ (b : Bounds). IsNode model kernels b rest after found more) is_cut
+        (subst (λ (bs : List Bounds). IsNode model kernels cut rest bs found more) (sym e)
+        (subst (λ (xs : List (List ℤ)). IsNode model kernels cut rest rest found xs) (sym f) (node_dropped model kernels cut rest found fails)));
+  }
+
+  pub top_settled : (g : Bounds) → IsGreatest g cut kernels → IsSettled model g rest after found more → IsTopVisit model kernels round_limit best before after found more Visit.Done
+  top_settled g gr h = record {
+    rest = rest;
+    top = top;
+    taken = taken;
+    visit = subst (λ (b : Bounds). IsNode model kernels b rest after found more) is_cut (node_settled model kernels cut rest found g after more gr h);
+  }
+
+  pub top_given_up : MayGiveUp kernels round_limit cut → more ≡ found → IsTopVisit model kernels round_limit best before after found more Visit.GivenUp
+  top_given_up up f = record {
+    rest = rest;
+    top = top;
+    taken = taken;
+    visit = (subst (MayGiveUp kernels round_limit) is_cut up, f);
   }

@@ -9,7 +9,8 @@ use Rattle.constraint_model.specs.declared.model.FznModel.{FznModel}
 use Rattle.constraint_model.specs.Searches.{IsSearchOf}
 use Rattle.branching.specs.Tree.{BranchLaws}
 use Rattle.search.specs.declared.kind.Kind.{Kind}
-use Rattle.search.specs.Machine.{Search, State, Node, cut_by, best_after, Takes, GoesOn, Reached, stepped, MayGiveUp}
+use Rattle.narrowing.specs.Narrowing.{MayGiveUp}
+use Rattle.search.specs.Machine.{Search, State, Node, cut_by, best_after, Takes, GoesOn, Reached, stepped}
 use Rattle.search.specs.declared.node.Visit.{Visit}
 use Rattle.search.specs.Nodes.{IsNode, IsVisit}
 use Rattle.search.specs.Ends.{EndsDone, EndsOutOfNodes, EndsOutOfRounds, told_count}

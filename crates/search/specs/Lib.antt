@@ -6,5 +6,6 @@ pub mod LeastEnds
 pub mod Closings
 pub mod Premises
 pub mod Stacks
+pub mod Cuts
 pub mod Laws
 pub mod Examples

@@ -11,6 +11,7 @@ use Rattle.constraint_model.specs.declared.model.Goal.{Goal}
 use Rattle.constraint_model.specs.declared.model.FznModel.{FznModel}
 use Rattle.constraint_model.specs.Relations.{cost_of}
 use Rattle.branching.specs.Parts.{IsBranch}
+use Rattle.narrowing.specs.Narrowing.{MayGiveUp}
 use Rattle.branching.specs.Tree.{AreFixed, values_of}
 use Rattle.search.specs.declared.kind.Kind.{Kind}
 use Rattle.search.specs.Costs.{IsBelow, at_most}
@@ -102,15 +103,6 @@ pub record IsOutOfNodes (s : Search) (state : State) : Type 0 where
   pub full : state.count ≡ s.node_limit
   pub left : state.stack ≢ []
   pub sought : s.kind ≡ Kind.First → state.found ≡ []
-
--- propagation of a box may be given up: as many rounds as the limit lead from it to a proper box that holds every closed box
--- inside it
-pub record MayGiveUp (kernels : List Kernel) (round_limit : ℕ) (b : Bounds) : Type 0 where
-  pub limited : round_limit ≢ 0
-  pub into : Bounds
-  pub leads : LeadsIn kernels round_limit b into
-  pub proper : IsProper into
-  pub holds : (c : Bounds) → IsClosed c kernels → IsInside c b → IsInside c into
 
 -- the limit on rounds has stopped the search: its last node was given up, and its box stays
 pub record IsOutOfRounds (s : Search) (state : State) : Type 0 where

@@ -6,16 +6,10 @@ use Rattle.fixpoint_laws.specs.Fixpoints.{IsGreatest, Fails}
 use Rattle.constraint_model.specs.declared.model.FznModel.{FznModel}
 use Rattle.branching.specs.Parts.{IsBranch}
 use Rattle.branching.specs.Tree.{AreFixed, values_of}
-use Rattle.search.specs.declared.narrow.Narrowed.{Narrowed}
 use Rattle.search.specs.declared.node.Visit.{Visit}
 use Rattle.search.specs.declared.kind.Kind.TheVariants.{Least}
-use Rattle.search.specs.Machine.{Node, MayGiveUp, cut_by}
-
--- the box after propagation: the greatest closed one, or there is none; or its propagation was given up
-abbrev pub IsNarrowed : List Kernel → ℕ → Bounds → Bounds → Narrowed → Type 0
-IsNarrowed kernels round_limit before after Narrowed.Fixed = IsGreatest after before kernels
-IsNarrowed kernels round_limit before after Narrowed.Failed = Fails before kernels
-IsNarrowed kernels round_limit before after Narrowed.GivenUp = MayGiveUp kernels round_limit before
+use Rattle.narrowing.specs.Narrowing.{MayGiveUp}
+use Rattle.search.specs.Machine.{Node, cut_by}
 
 -- the two parts of a box are put behind the stack, the left one last
 pub record IsParted (model : FznModel) (b : Bounds) (before after : List Bounds) : Type 0 where

@@ -1,17 +1,55 @@
--- The boxes of a searcher.
-use Rattle.std.specs.Prelude.{◌≡◌, ℕ, List, length, All}
-use Rattle.interval.specs.Boxes.{Bounds}
+-- The boxes of a searcher, and what it knows of them.
+use Rattle.std.specs.Prelude.{◌≡◌, ℕ, Bool, true, cond, List, [], ◌∷◌, ◌++◌, length, All}
+use Rattle.interval.specs.Boxes.{Bounds, IsInside}
+use Rattle.guarded_tell.specs.declared.kernel.Kernel.{Kernel}
+use Rattle.fixpoint_laws.specs.Fixpoints.{IsClosed}
+use Rattle.constraint_model.specs.declared.model.FznModel.{FznModel}
+use Rattle.trailed_box.specs.Trailed.{Left, box_of, boxes_of as left_boxes}
+use Rattle.branching.specs.declared.fronts.Front.{Front}
+use Rattle.branching.specs.Fronts.{IsFrontOf}
+use Rattle.narrowing.specs.Narrowers.{Fits, AreQuietUnlessNoted}
 use Rattle.search.specs.declared.run.Run.{Run}
 use Rattle.search.specs.declared.searcher.Searcher.{Searcher}
 
--- the boxes that are still to be searched, the next one last
+-- the boxes that are still to be searched, the next one last: those that are left for later, and the current one; none where
+-- that one is done
 abbrev pub boxes_of : Searcher → List Bounds
-boxes_of s = s.stack.items
+boxes_of s = cond s.is_open (left_boxes s.boxes.stack ++ s.boxes.current ∷ []) []
 
 -- how many variables they have
 abbrev pub count_of : Searcher → ℕ
-count_of s = length s.spare
+count_of s = length s.boxes.current
 
--- each of them has so many
+-- what is left is a part of a closed box
+pub record IsLeft (kernels : List Kernel) (left : Left) : Type 0 where
+  pub closed : IsClosed left.base kernels
+  pub inside : IsInside (box_of left) left.base
+
+-- these are fronts of the boxes of which parts are left
+abbrev pub AreFronts : FznModel → List Left → List Front → Type 0
+AreFronts model [] [] = Unit {0}
+AreFronts model [] (front ∷ fronts) = ⊥
+AreFronts model (left ∷ lefts) [] = ⊥
+AreFronts model (left ∷ lefts) (front ∷ fronts) = IsFrontOf model left.base front × AreFronts model lefts fronts
+
+-- it is a front of a box in which the box lies
+pub record IsFrontNear (model : FznModel) (b : Bounds) (front : Front) : Type 0 where
+  pub outer : Bounds
+  pub inside : IsInside b outer
+  pub is_front : IsFrontOf model outer front
+
+-- what is left are parts of closed boxes, with fronts of these
+pub record AreSound (model : FznModel) (kernels : List Kernel) (stack : List Left) (kept : List Front) : Type 0 where
+  pub parts : All (IsLeft kernels) stack
+  pub fronts : AreFronts model stack kept
+
+-- what is left is sound, and the narrower serves the kernels
+pub record AreLeft {L : Type 0} (run : Run L) (s : Searcher) : Type 0 where
+  pub sound : AreSound run.model.now run.program.now.kernels s.boxes.stack s.fronts.items
+  pub fits : Fits s.narrower run.program.now.kernels (length s.boxes.current)
+
+-- so is the current box, if it is still to be searched: a kernel that narrows it names a variable that is noted
 pub record IsReady {L : Type 0} (run : Run L) (s : Searcher) : Type 0 where
-  pub same_length : All (λ b. length b ≡ length s.spare) s.stack.items
+  pub left : AreLeft run s
+  pub quiet : s.is_open ≡ true → AreQuietUnlessNoted s.narrower run.program.now.kernels s.boxes.current
+  pub front : s.is_open ≡ true → IsFrontNear run.model.now s.boxes.current s.front

@@ -9,6 +9,7 @@ ghost use Rattle.search.specs.Closings.{IsClosing};
 use crate::closing::{Closing, counted, is_full};
 use crate::ends::{AllEnd, Why};
 use crate::kind::Kind;
+use crate::laws::law_can_search;
 use crate::node::Visit;
 use crate::run::Run;
 use crate::searcher::Searcher;
@@ -100,5 +101,6 @@ pub fn run_all<R: Threads + Sync, L: Gate + Sync>(
     requires inside { IsInside sub.now run.now.program.now.start }
     ensures { IfOk result (IsAllEnd (search_of run.now.model.now run.now.program.now run.now.node_limit run.now.round_limit Kind.All sub.now)) }
 {
+    law_can_search(run, sub);
     all_in(rt, alloc, run, sub)
 }

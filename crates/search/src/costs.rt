@@ -1,14 +1,16 @@
-//! What solutions cost, and boxes cut to lesser costs.
+//! What solutions cost, and the bounds that cut a box to lesser costs.
 
 ghost use Rattle.std.specs.Prelude.{◌≡◌, ◌<◌, ◌+◌, ◌-◌, ℤ, neg_ℤ, length, IfSome};
 ghost use Rattle.interval.specs.Limits.{IsBound, IsNumber};
 ghost use Rattle.constraint_model.specs.Relations.{value, cost_of};
 ghost use Rattle.search.specs.declared.kind.Kind.TheVariants.{Least};
 ghost use Rattle.search.specs.Costs.{up_to, from_on, where_at_most, at_most, IsTermIn, IsObjectiveIn};
+ghost use Rattle.search.specs.Cuts.{IsCut};
 ghost use Rattle.search.specs.Machine.{cut_by};
 
 use constraint_model::{Goal, Term};
 use interval::BoxOf;
+use trailed_box::Part;
 
 /// The number of a term in an assignment.
 fn value(a: &[i64], term: Term) -> i64
@@ -44,40 +46,47 @@ pub(crate) fn cost(goal: Goal, a: &[i64]) -> i64
     }
 }
 
-/// Cuts a pair to the numbers up to `most`.
-fn keep_up_to(b: &mut BoxOf, pair: u32, most: i64)
-    requires pair { pair < length b.old }
+/// The bounds that cut a pair to the numbers up to `most`, or none where it has no others.
+fn up_to(b: &BoxOf, pair: u32, most: i64) -> Option<Part>
+    requires pair { pair < length b.now }
     requires most { IsBound most }
-    ensures cut { b.new ≡ up_to b.old pair most }
-    ensures same_length { length b.new ≡ length b.old }
+    ensures { IsCut b.now (up_to b.now pair most) result }
+{
+    let high = b.high(pair);
+    if most < high {
+        return Some(Part {
+            var: pair,
+            low: b.low(pair),
+            high: most,
+        });
+    }
+    None
+}
+
+/// The bounds that cut a pair to the numbers from `least` on, or none where it has no others.
+fn from_on(b: &BoxOf, pair: u32, least: i64) -> Option<Part>
+    requires pair { pair < length b.now }
+    requires least { IsBound least }
+    ensures { IsCut b.now (from_on b.now pair least) result }
 {
     let low = b.low(pair);
-    let high = b.high(pair).min(most);
-    b.put(pair, low, high);
-}
-
-/// Cuts a pair to the numbers from `least` on.
-fn keep_from(b: &mut BoxOf, pair: u32, least: i64)
-    requires pair { pair < length b.old }
-    requires least { IsBound least }
-    ensures cut { b.new ≡ from_on b.old pair least }
-    ensures same_length { length b.new ≡ length b.old }
-{
-    let low = b.low(pair).max(least);
-    let high = b.high(pair);
-    b.put(pair, low, high);
-}
-
-/// Leaves the box where a constant costs `most` at most; else no number is left for the constant 1.
-#[tactic(auto, unfolding(interval::specs::Limits::bound_limit))]
-fn keep_where(b: &mut BoxOf, cost: i64, most: i64)
-    requires { 0 < length b.old }
-    ensures cut { b.new ≡ where_at_most cost most b.old }
-    ensures same_length { length b.new ≡ length b.old }
-{
-    if cost > most {
-        keep_up_to(b, 0, 0);
+    if low < least {
+        return Some(Part {
+            var: pair,
+            low: least,
+            high: b.high(pair),
+        });
     }
+    None
+}
+
+/// None where a constant costs `most` at most; else the bounds that leave no number for the constant 1.
+#[tactic(auto, unfolding(interval::specs::Limits::bound_limit))]
+fn where_at_most(b: &BoxOf, cost: i64, most: i64) -> Option<Part>
+    requires { 0 < length b.now }
+    ensures { IsCut b.now (where_at_most cost most b.now) result }
+{
+    if cost > most { up_to(b, 0, 0) } else { None }
 }
 
 /// The pair of a declared variable.
@@ -91,39 +100,32 @@ fn pair_of(b: &BoxOf, var: u32) -> u32
     var + 1
 }
 
-/// Cuts the objective to costs up to `most`.
+/// The bounds that cut the objective to costs up to `most`.
 #[tactic(auto, unfolding(interval::specs::Limits::bound_limit, interval::specs::Limits::largest_number))]
-fn keep_at_most(goal: Goal, most: i64, b: &mut BoxOf)
-    requires some { 0 < length b.old }
-    requires objective { IsObjectiveIn (length b.old - 1) goal }
+fn at_most(goal: Goal, most: i64, b: &BoxOf) -> Option<Part>
+    requires some { 0 < length b.now }
+    requires objective { IsObjectiveIn (length b.now - 1) goal }
     requires most { IsBound most }
-    ensures cut { b.new ≡ at_most goal most b.old }
-    ensures same_length { length b.new ≡ length b.old }
+    ensures { IsCut b.now (at_most goal most b.now) result }
 {
     match goal {
-        Goal::Satisfy => {}
-        Goal::Minimize(Term::Number(n)) => keep_where(b, n, most),
-        Goal::Maximize(Term::Number(n)) => keep_where(b, -n, most),
-        Goal::Minimize(Term::Var(v)) => {
-            let pair = pair_of(b, v);
-            keep_up_to(b, pair, most);
-        }
-        Goal::Maximize(Term::Var(v)) => {
-            let pair = pair_of(b, v);
-            keep_from(b, pair, -most);
-        }
+        Goal::Satisfy => None,
+        Goal::Minimize(Term::Number(n)) => where_at_most(b, n, most),
+        Goal::Maximize(Term::Number(n)) => where_at_most(b, -n, most),
+        Goal::Minimize(Term::Var(v)) => up_to(b, pair_of(b, v), most),
+        Goal::Maximize(Term::Var(v)) => from_on(b, pair_of(b, v), -most),
     }
 }
 
-/// Cuts the objective to costs below the best one.
+/// The bounds that cut the objective to costs below the best one, or none where it has no others.
 #[tactic(auto, unfolding(interval::specs::Limits::bound_limit, interval::specs::Limits::largest_number))]
-pub(crate) fn cut_below(goal: Goal, best: Option<i64>, b: &mut BoxOf)
-    requires some { 0 < length b.old }
-    requires best { IfSome best (λ cost. IsNumber cost × IsObjectiveIn (length b.old - 1) goal) }
-    ensures cut { b.new ≡ cut_by Least goal best b.old }
-    ensures same_length { length b.new ≡ length b.old }
+pub(crate) fn cut_below(goal: Goal, best: Option<i64>, b: &BoxOf) -> Option<Part>
+    requires some { 0 < length b.now }
+    requires best { IfSome best (λ cost. IsNumber cost × IsObjectiveIn (length b.now - 1) goal) }
+    ensures { IsCut b.now (cut_by Least goal best b.now) result }
 {
-    if let Some(cost) = best {
-        keep_at_most(goal, cost - 1, b);
+    match best {
+        Some(cost) => at_most(goal, cost - 1, b),
+        None => None,
     }
 }

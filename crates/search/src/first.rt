@@ -1,6 +1,7 @@
 //! The run for the first solution.
 
 ghost use Rattle.std.specs.Prelude.{◌≡◌, ◌≢◌, ◌<◌, ℕ, ℤ, List, [], length, IfOk, OnErr, IfSome};
+ghost use Rattle.std.specs.Bool.{OnTrue, OnFalse};
 ghost use Rattle.interval.specs.Boxes.{IsInside};
 ghost use Rattle.branching.specs.Tree.{SolutionsIn};
 ghost use Rattle.best_bound.specs.Lists.{Among};
@@ -11,6 +12,7 @@ ghost use Rattle.search.specs.Ends.{search_of, IsFirstEnd, posts_of};
 use crate::closing::{counted, is_full};
 use crate::ends::{FirstEnd, Why};
 use crate::kind::Kind;
+use crate::laws::law_can_search;
 use crate::node::Visit;
 use crate::run::Run;
 use crate::searcher::Searcher;
@@ -37,6 +39,14 @@ fn lesser<N: Numbers>(found: &Found<N>, seat: &mut FoundSeat, number: u32) -> Op
         Some(n) if n < number => Some(n),
         _ => None,
     }
+}
+
+/// Whether a solution was found.
+fn is_found(solutions: &ListOf<ListOf<i64>>) -> bool
+    ensures some { OnTrue result (solutions.now ≢ []) }
+    ensures none { OnFalse result (solutions.now ≡ []) }
+{
+    !solutions.is_empty()
 }
 
 /// Searches a box for its first solution, as long as no lesser number is seen.
@@ -67,9 +77,6 @@ fn search_first<R: Threads + Sync, L: Gate + Sync, N: Numbers>(
     let mut solutions = ListOf::new(alloc);
     let mut nodes = 0u64;
     'boxes: while searcher.has_next() {
-        if !solutions.is_empty() {
-            break;
-        }
         if let Some(n) = lesser(found, seat, number) {
             return Ok(FirstEnd::Cut(n));
         }
@@ -89,8 +96,11 @@ fn search_first<R: Threads + Sync, L: Gate + Sync, N: Numbers>(
                 });
             }
         }
+        if is_found(&solutions) {
+            return Ok(FirstEnd::Done(solutions.into_vec().pop()));
+        }
     }
-    Ok(FirstEnd::Done(solutions.into_vec().pop()))
+    Ok(FirstEnd::Done(None))
 }
 
 /// The end of a search for the first solution. Where there is one, `number` is posted.
@@ -144,5 +154,6 @@ pub fn run_first<R: Threads + Sync, L: Gate + Sync, N: Numbers>(
     ensures posts { IfOk result (λ end. numbers_posted seat.new ≡ posts_of number (numbers_posted seat.old) end) }
     ensures err { OnErr result (numbers_posted seat.new ≡ numbers_posted seat.old) }
 {
+    law_can_search(run, sub);
     first_in(rt, alloc, run, sub, number, found, seat)
 }

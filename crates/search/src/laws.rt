@@ -1,10 +1,14 @@
 //! Laws of searches, as functions that do nothing.
 
+ghost use Rattle.std.specs.Prelude.{length};
+ghost use Rattle.interval.specs.Boxes.{IsInside};
+ghost use Rattle.search.specs.Premises.{IsRun, CanSearch};
 ghost use Rattle.search.specs.Laws.{RecordsSolutions, PrefixLaws, FindsLeast, CostsFall, MorePosted, EndLaws, LimitLaws};
 
+use crate::run::Run;
 use branching::{law_branches, law_every_list, law_points};
 use fixpoint_laws::{law_one_fixpoint, law_rounds_lead};
-use interval::law_inside_order;
+use interval::{BoxOf, law_inside_order};
 use solution_lists::{law_fixed_is_point, law_point_solves};
 
 /// What a search records are the model's solutions in its box.
@@ -69,3 +73,10 @@ pub fn law_limits()
     law_points();
     law_rounds_lead();
 }
+
+/// A run can search each box inside its program's start.
+pub(crate) fn law_can_search<L>(run: &Run<'_, L>, sub: &BoxOf)
+    requires run { IsRun run.now }
+    requires inside { IsInside sub.now run.now.program.now.start }
+    ensures { CanSearch run.now (length sub.now) }
+{}

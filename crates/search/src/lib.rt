@@ -11,7 +11,6 @@ mod laws;
 mod least;
 #[cfg(test)]
 mod least_tests;
-mod narrow;
 mod node;
 mod run;
 mod searcher;

@@ -1,36 +1,116 @@
 //! The boxes that are still to be searched, and what narrows them.
 
-ghost use Rattle.std.specs.Prelude.{◌≡◌, ◌≢◌, ◌-◌, [], ◌∷◌, length, IfOk, OnOk, IfSome};
+ghost use Rattle.std.specs.Prelude.{◌≡◌, ◌≢◌, ◌<◌, ◌-◌, ℕ, List, true, [], ◌∷◌, ◌++◌, length, All, IfOk, OnOk, IfSome};
 ghost use Rattle.std.specs.Bool.{OnTrue, OnFalse};
 ghost use Rattle.interval.specs.Limits.{IsNumber};
+ghost use Rattle.interval.specs.Boxes.{put_of};
+ghost use Rattle.guarded_tell.specs.declared.kernel.Kernel.{Kernel};
+ghost use Rattle.guarded_tell.specs.Kernels.{IsKernel};
+ghost use Rattle.fixpoint_laws.specs.Fixpoints.{IsClosed};
+ghost use Rattle.trailed_box.specs.Trailed.{IsPart, left_of, boxes_of as left_boxes};
+ghost use Rattle.branching.specs.Fronts.{IsFrontOf, FitsBox, left_by, right_by};
+ghost use Rattle.branching.specs.Parts.{AreParts};
+ghost use Rattle.narrowing.specs.Narrowing.{IsNarrowed};
+ghost use Rattle.narrowing.specs.Narrowers.{Fits, AreQuietUnlessNoted, len_of};
+ghost use Rattle.search.specs.declared.kind.Kind.TheVariants.{Least};
 ghost use Rattle.search.specs.Costs.{IsObjectiveIn};
+ghost use Rattle.search.specs.Machine.{cut_by};
 ghost use Rattle.search.specs.Premises.{CanSearch};
-ghost use Rattle.search.specs.Nodes.{IsTopVisit};
-ghost use Rattle.search.specs.Stacks.{boxes_of, count_of, IsReady};
+ghost use Rattle.search.specs.Nodes.{IsSettled, IsTopVisit};
+ghost use Rattle.search.specs.Stacks.{boxes_of, count_of, IsReady, IsFrontNear, AreLeft};
 
 use crate::costs::cut_below;
-use crate::node::{Visit, node};
+use crate::node::{Visit, record};
 use crate::run::Run;
-use interval::{BoxOf, NoMemory};
+use branching::{Branching, Front, branch_from, law_fronts};
+use guarded_tell::Kernel;
+use interval::{BoxOf, NoMemory, law_inside_order};
 use list_of::ListOf;
+use narrowing::{Narrowed, Narrower, Propagation, law_quiet_where_closed};
 use rounds::Gate;
 use std::alloc::{AllocError, Global};
 use std::thread::Threads;
+use trailed_box::{Part, TrailedBox};
 
-/// The boxes that are still to be searched, the next one last, and what narrows them.
+/// The boxes that are still to be searched, and what narrows them. One is the current box of a trailed box, and the others
+/// are left for later on its stack: so no box is copied.
 #[derive(Drop)]
 pub(crate) struct Searcher {
-    pub(crate) stack: Vec<BoxOf>,
-    pub(crate) spare: BoxOf,
+    pub(crate) boxes: TrailedBox,
+    // for each box that is left how far the search had come in its base
+    pub(crate) fronts: Vec<Front>,
+    // how far it has come in the current box
+    pub(crate) front: Front,
+    pub(crate) narrower: Narrower,
+    // whether the current box is still to be searched
+    pub(crate) is_open: bool,
 }
 
-/// The stack of one box.
-fn stack_of(alloc: Global, b: BoxOf) -> Result<Vec<BoxOf>, AllocError>
-    ensures { IfOk result (λ stack. stack.items ≡ b ∷ []) }
+/// Sets the bounds of a pair of the current box, and notes it.
+fn put(boxes: &mut TrailedBox, narrower: &mut Narrower, part: Part) -> Result<(), NoMemory>
+    requires part { IsPart (length boxes.old.current) part.var part.low part.high }
+    requires noted { part.var < len_of narrower.old }
+    ensures current { OnOk result (boxes.new.current ≡ put_of boxes.old.current part.var part.low part.high) }
+    ensures stack { OnOk result (boxes.new.stack ≡ boxes.old.stack) }
+    ensures fits { OnOk result ((kernels : List Kernel) (count : ℕ) → Fits narrower.old kernels count → Fits narrower.new kernels count) }
+    ensures quiet { OnOk result ((kernels : List Kernel) → All (IsKernel (length boxes.old.current)) kernels →
+        AreQuietUnlessNoted narrower.old kernels boxes.old.current → AreQuietUnlessNoted narrower.new kernels boxes.new.current) }
 {
-    let mut stack = Vec::new(alloc);
-    stack.push(b)?;
-    Ok(stack)
+    boxes.put(part.var, part.low, part.high)?;
+    narrower.note(part.var);
+    Ok(())
+}
+
+/// Leaves the other part of a box for later.
+fn leave(boxes: &mut TrailedBox, parts: Branching) -> Result<(), NoMemory>
+    requires { FitsBox boxes.old.current parts }
+    ensures current { OnOk result (boxes.new.current ≡ boxes.old.current) }
+    ensures stack { OnOk result (boxes.new.stack ≡ boxes.old.stack ++ left_of boxes.old.current parts.pair parts.right_low parts.right_high ∷ []) }
+{
+    boxes.push(parts.pair, parts.right_low, parts.right_high)
+}
+
+/// The bounds of the part that comes first.
+fn first_part(parts: Branching) -> Part
+    ensures { result ≡ record { var = parts.pair; low = parts.left_low; high = parts.left_high } }
+{
+    Part {
+        var: parts.pair,
+        low: parts.left_low,
+        high: parts.left_high,
+    }
+}
+
+/// A narrower for a box of which nothing is known.
+#[tactic(auto, unfolding(rounds::specs::Shares::share_limit))]
+fn narrower_for<L>(alloc: Global, run: &Run<'_, L>, b: &BoxOf) -> Result<Narrower, NoMemory>
+    requires { CanSearch run.now (length b.now) }
+    ensures fits { IfOk result (λ n. Fits n run.now.program.now.kernels (length b.now)) }
+    ensures quiet { IfOk result (λ n. AreQuietUnlessNoted n run.now.program.now.kernels b.now) }
+{
+    let kernels = run.program.kernels.as_slice();
+    let mut narrower = Narrower::new(alloc, kernels, b.len(), run.lanes)?;
+    narrower.note_all();
+    Ok(narrower)
+}
+
+/// Keeps a front.
+fn keep(fronts: &mut Vec<Front>, front: Front) -> Result<(), AllocError>
+    ensures { OnOk result (fronts.new.items ≡ fronts.old.items ++ front ∷ []) }
+{
+    fronts.push(front)?;
+    Ok(())
+}
+
+/// Takes the last front.
+fn last(fronts: &mut Vec<Front>) -> Front
+    requires { fronts.old.items ≢ [] }
+    ensures { fronts.old.items ≡ fronts.new.items ++ result ∷ [] }
+{
+    match fronts.pop() {
+        Some(front) => front,
+        None => unreachable!(),
+    }
 }
 
 impl Searcher {
@@ -41,9 +121,18 @@ impl Searcher {
         ensures count { IfOk result (λ s. count_of s ≡ length sub.now) }
         ensures ready { IfOk result (IsReady run.now) }
     {
-        let spare = sub.copy(alloc)?;
-        let stack = stack_of(alloc, sub.copy(alloc)?)?;
-        Ok(Searcher { stack, spare })
+        law_inside_order();
+        let boxes = TrailedBox::new(alloc, sub.copy(alloc)?)?;
+        let narrower = narrower_for(alloc, run, sub)?;
+        let fronts = Vec::new(alloc);
+        let front = Front::first();
+        Ok(Searcher {
+            boxes,
+            fronts,
+            front,
+            narrower,
+            is_open: true,
+        })
     }
 
     /// Whether a box is left.
@@ -51,14 +140,138 @@ impl Searcher {
         ensures some { OnTrue result (boxes_of self.now ≢ []) }
         ensures none { OnFalse result (boxes_of self.now ≡ []) }
     {
-        !self.stack.is_empty()
+        self.is_open
+    }
+
+    /// Goes on with the box that was left last, if one is left.
+    fn back<L>(&mut self, run: &Run<'_, L>) -> Result<(), NoMemory>
+        requires run { CanSearch run.now (count_of self.old) }
+        requires left { AreLeft run.now self.old }
+        requires open { self.old.is_open ≡ true }
+        ensures ready { OnOk result (IsReady run.now self.new) }
+        ensures count { OnOk result (count_of self.new ≡ count_of self.old) }
+        ensures boxes { OnOk result (boxes_of self.new ≡ left_boxes self.old.boxes.stack) }
+    {
+        law_quiet_where_closed();
+        match self.boxes.pop() {
+            None => {
+                self.is_open = false;
+                Ok(())
+            }
+            Some(part) => {
+                let front = last(&mut self.fronts);
+                self.front = front;
+                put(&mut self.boxes, &mut self.narrower, part)?;
+                Ok(())
+            }
+        }
+    }
+
+    /// Leaves the other part of the current box for later, and goes on with the part that comes first.
+    fn part<L>(&mut self, run: &Run<'_, L>, parts: Branching, front: Front) -> Result<(), NoMemory>
+        requires run { CanSearch run.now (count_of self.old) }
+        requires left { AreLeft run.now self.old }
+        requires open { self.old.is_open ≡ true }
+        requires closed { IsClosed self.old.boxes.current run.now.program.now.kernels }
+        requires fits { FitsBox self.old.boxes.current parts }
+        requires front { IsFrontOf run.now.model.now self.old.boxes.current front }
+        requires parts { AreParts self.old.boxes.current (left_by self.old.boxes.current parts) (right_by self.old.boxes.current parts) }
+        ensures ready { OnOk result (IsReady run.now self.new) }
+        ensures count { OnOk result (count_of self.new ≡ count_of self.old) }
+        ensures boxes { OnOk result (boxes_of self.new ≡ left_boxes self.old.boxes.stack ++ right_by self.old.boxes.current parts ∷ left_by self.old.boxes.current parts ∷ []) }
+    {
+        law_quiet_where_closed();
+        leave(&mut self.boxes, parts)?;
+        keep(&mut self.fronts, front)?;
+        self.front = front;
+        put(&mut self.boxes, &mut self.narrower, first_part(parts))?;
+        Ok(())
+    }
+
+    /// Records the current box, which is closed, where it fixes each declared variable; parts another.
+    fn settle<L>(
+        &mut self,
+        alloc: Global,
+        run: &Run<'_, L>,
+        found: &mut ListOf<ListOf<i64>>,
+    ) -> Result<(), NoMemory>
+        requires run { CanSearch run.now (count_of self.old) }
+        requires left { AreLeft run.now self.old }
+        requires open { self.old.is_open ≡ true }
+        requires closed { IsClosed self.old.boxes.current run.now.program.now.kernels }
+        requires front { IsFrontNear run.now.model.now self.old.boxes.current self.old.front }
+        ensures ready { OnOk result (IsReady run.now self.new) }
+        ensures count { OnOk result (count_of self.new ≡ count_of self.old) }
+        ensures settled { OnOk result (IsSettled run.now.model.now self.old.boxes.current (left_boxes self.old.boxes.stack) (boxes_of self.new) found.old found.new) }
+    {
+        law_fronts();
+        match branch_from(run.model, self.boxes.current(), self.front) {
+            None => {
+                record(alloc, run.model, self.boxes.current(), found)?;
+                self.back(run)?;
+                Ok(())
+            }
+            Some((parts, front)) => {
+                self.part(run, parts, front)?;
+                Ok(())
+            }
+        }
+    }
+
+    /// Cuts the current box to what costs less than the best.
+    fn cut<L>(&mut self, run: &Run<'_, L>, best: Option<i64>) -> Result<(), NoMemory>
+        requires run { CanSearch run.now (count_of self.old) }
+        requires ready { IsReady run.now self.old }
+        requires open { self.old.is_open ≡ true }
+        requires best { IfSome best (λ cost. IsNumber cost × IsObjectiveIn (count_of self.old - 1) run.now.model.now.goal) }
+        ensures ready { OnOk result (IsReady run.now self.new) }
+        ensures open { OnOk result (self.new.is_open ≡ true) }
+        ensures count { OnOk result (count_of self.new ≡ count_of self.old) }
+        ensures current { OnOk result (self.new.boxes.current ≡ cut_by Least run.now.model.now.goal best self.old.boxes.current) }
+        ensures stack { OnOk result (self.new.boxes.stack ≡ self.old.boxes.stack) }
+    {
+        law_inside_order();
+        match cut_below(run.model.goal, best, self.boxes.current()) {
+            None => Ok(()),
+            Some(cut) => {
+                put(&mut self.boxes, &mut self.narrower, cut)?;
+                Ok(())
+            }
+        }
+    }
+
+    /// Narrows the current box.
+    fn narrow<R: Threads + Sync, L: Gate + Sync>(
+        &mut self,
+        rt: &R,
+        alloc: Global,
+        run: &Run<'_, L>,
+    ) -> Result<Narrowed, NoMemory>
+        requires run { CanSearch run.now (count_of self.old) }
+        requires ready { IsReady run.now self.old }
+        requires open { self.old.is_open ≡ true }
+        ensures left { IfOk result (λ _. AreLeft run.now self.new) }
+        ensures open { IfOk result (λ _. self.new.is_open ≡ true) }
+        ensures front { IfOk result (λ _. self.new.front ≡ self.old.front) }
+        ensures count { IfOk result (λ _. count_of self.new ≡ count_of self.old) }
+        ensures stack { IfOk result (λ _. self.new.boxes.stack ≡ self.old.boxes.stack) }
+        ensures narrowed { IfOk result (IsNarrowed run.now.program.now.kernels run.now.round_limit self.old.boxes.current self.new.boxes.current) }
+    {
+        let what = Propagation {
+            kernels: run.program.kernels.as_slice(),
+            masks: run.masks,
+            round_limit: run.round_limit,
+            gate: run.gate,
+        };
+        let narrowed = self.narrower.narrow(rt, alloc, &what, &mut self.boxes)?;
+        Ok(narrowed)
     }
 
     /// One node: the next box, cut to what costs less than the best, is dropped, recorded or parted, or given up where the
     /// limit on rounds is spent.
     pub(crate) fn node<R: Threads + Sync, L: Gate + Sync>(
         &mut self,
-        _rt: &R,
+        rt: &R,
         alloc: Global,
         run: &Run<'_, L>,
         best: Option<i64>,
@@ -69,15 +282,20 @@ impl Searcher {
         requires next { boxes_of self.old ≢ [] }
         requires best { IfSome best (λ cost. IsNumber cost × IsObjectiveIn (count_of self.old - 1) run.now.model.now.goal) }
         ensures ready { IfOk result (λ how. how ≡ Visit.Done → IsReady run.now self.new) }
-        ensures count { OnOk result (count_of self.new ≡ count_of self.old) }
+        ensures count { IfOk result (λ how. how ≡ Visit.Done → count_of self.new ≡ count_of self.old) }
         ensures visit { IfOk result (IsTopVisit run.now.model.now run.now.program.now.kernels run.now.round_limit best (boxes_of self.old) (boxes_of self.new) found.old found.new) }
     {
-        match self.stack.pop() {
-            None => unreachable!(),
-            Some(top) => {
-                let mut b = top;
-                cut_below(run.model.goal, best, &mut b);
-                node(alloc, run, b, &mut self.spare, &mut self.stack, found)
+        law_inside_order();
+        self.cut(run, best)?;
+        match self.narrow(rt, alloc, run)? {
+            Narrowed::GivenUp => Ok(Visit::GivenUp),
+            Narrowed::Failed => {
+                self.back(run)?;
+                Ok(Visit::Done)
+            }
+            Narrowed::Fixed => {
+                self.settle(alloc, run, found)?;
+                Ok(Visit::Done)
             }
         }
     }

@@ -18,8 +18,9 @@ use guarded_tell::{Kernel, Lit};
 use interval::{BoxOf, NoMemory, clamp_bound, law_inside_order};
 use list_of::ListOf;
 use moved_set::Masks;
-use rounds::NoGate;
+use rounds::{Gate, NoGate};
 use std::alloc::{AllocError, Global};
+use std::sync::atomic::{AtomicBool, Ordering};
 use std::test::Fail;
 use std::thread::Threads;
 
@@ -168,6 +169,17 @@ fn nodes(limit: u64) -> How
     }
 }
 
+/// With one lane, at most so many rounds of each propagation.
+fn rounds(limit: u64) -> How
+    ensures { result.lanes ≡ 1 }
+{
+    How {
+        nodes: 0,
+        rounds: limit,
+        lanes: 1,
+    }
+}
+
 /// Searches for the first solution as subproblem `number`.
 fn first_of<R: Threads + Sync>(
     rt: &R,
@@ -261,6 +273,17 @@ fn is_stopped(end: &FirstEnd, expected: u64) -> bool {
     }
 }
 
+/// Whether the limit on rounds stopped a search after so many nodes.
+fn is_given_up(end: &FirstEnd, expected: u64) -> bool {
+    match end {
+        FirstEnd::Spent {
+            nodes,
+            why: Why::Rounds,
+        } => *nodes == expected,
+        _ => false,
+    }
+}
+
 /// Whether a search was cut by this number.
 fn is_cut(end: &FirstEnd, expected: u32) -> bool {
     match end {
@@ -297,6 +320,18 @@ fn is_stopped_with(end: &AllEnd, expected: u64, found: &[[i64; 2]]) -> bool {
         AllEnd::Spent {
             nodes,
             why: Why::Nodes,
+            solutions,
+        } => *nodes == expected && are(solutions, found),
+        _ => false,
+    }
+}
+
+/// Whether the limit on rounds stopped a search after so many nodes, with these solutions.
+fn is_given_up_with(end: &AllEnd, expected: u64, found: &[[i64; 2]]) -> bool {
+    match end {
+        AllEnd::Spent {
+            nodes,
+            why: Why::Rounds,
             solutions,
         } => *nodes == expected && are(solutions, found),
         _ => false,
@@ -353,6 +388,71 @@ fn nothing_is_found_in_one_node(rt: HostRuntime) -> Result<(), Fail> {
     let crossed = program_of(alloc, [(2, 1), (0, 3)], ListOf::new(alloc))?;
     assert!(rt; is_all(&all(&rt, alloc, &crossed, nodes(1))?, &[]));
     assert!(rt; is_first(&first(&rt, alloc, &crossed, nodes(0))?, None));
+    Ok(())
+}
+
+#[test]
+fn a_propagation_is_given_up_after_its_rounds(rt: HostRuntime) -> Result<(), Fail> {
+    let alloc = rt.alloc();
+    let mut kernels = ListOf::new(alloc);
+    kernels.push(below(alloc, 1, 2)?)?;
+    // x is 0..2 and so is y: the first round moves both
+    let program = program_of(alloc, [(0, 2), (0, 2)], kernels)?;
+    assert!(rt; is_given_up(&first(&rt, alloc, &program, rounds(1))?, 1));
+    assert!(rt; is_given_up_with(&all(&rt, alloc, &program, rounds(1))?, 1, &[]));
+    assert!(rt;
+        is_all(
+            &all(&rt, alloc, &program, rounds(2))?,
+            &[[0, 1], [0, 2], [1, 2]]
+        )
+    );
+    let mut kernels = ListOf::new(alloc);
+    kernels.push(below(alloc, 1, 2)?)?;
+    // x is 0..1 and y is 1..2: no round moves before x is 1, at the fifth node
+    let program = program_of(alloc, [(0, 1), (1, 2)], kernels)?;
+    assert!(rt; is_first(&first(&rt, alloc, &program, rounds(1))?, Some([0, 1])));
+    assert!(rt; is_given_up_with(&all(&rt, alloc, &program, rounds(1))?, 5, &[[0, 1], [0, 2]]));
+    Ok(())
+}
+
+/// Tells whether a lane was ever about to run a kernel.
+#[derive(Drop)]
+struct Seen {
+    passed: AtomicBool,
+}
+
+impl Gate for Seen {
+    fn pass(&self, lane: u32, _turn: u64) {
+        if lane == 1 {
+            self.passed.store(true, Ordering::SeqCst);
+        }
+    }
+}
+
+#[test]
+fn two_lanes_find_what_one_finds(rt: HostRuntime) -> Result<(), Fail> {
+    let alloc = rt.alloc();
+    let mut kernels = ListOf::new(alloc);
+    kernels.push(below(alloc, 1, 2)?)?;
+    kernels.push(below(alloc, 1, 2)?)?;
+    let program = program_of(alloc, [(0, 2), (0, 2)], kernels)?;
+    let model = two_variables(alloc)?;
+    let masks = Masks::new(alloc, program.kernels.as_slice(), 3)?;
+    let gate = Seen {
+        passed: AtomicBool::new(false),
+    };
+    let run = Run {
+        model: &model,
+        program: &program,
+        masks: &masks,
+        lanes: 2,
+        node_limit: 0,
+        round_limit: 0,
+        gate: &gate,
+    };
+    let end = all_in(&rt, alloc, &run, &program.start)?;
+    assert!(rt; is_all(&end, &[[0, 1], [0, 2], [1, 2]]));
+    assert!(rt; gate.passed.load(Ordering::SeqCst));
     Ok(())
 }
 

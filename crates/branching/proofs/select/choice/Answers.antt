@@ -1,17 +1,18 @@
-use Rattle.branching.proofs.PickLaws.{choice_here, passed_here, not_all_passed, all_passed}
+use Rattle.std.proofs.Common.{◌≤◌, List, length, subst}
+use Rattle.constraint_model.specs.declared.model.Phase.{Phase}
+use Rattle.branching.proofs.FrontLaws.{chosen_here, passed_on, all_behind}
 use Rattle.branching.proofs.select.choice.Goals as goal
 
-pub returns-in-Some : goal.returns-in-Some
-returns-in-Some c = choice_here c.args.model.now c.args.b.now c.as_slice-phase-items.result.now c.loop-phase.invariant.same c.loop-phase.phase-index c.loop-phase-test.true c.phase-item.result c.phase-item.is
-    c.loop-phase.invariant.passed c.as_slice.result.now c.as_slice.ensures c.pick.result c.pick.ensures c.requires.phases c.in-Some.var c.in-Some.is
+pub returns-in-Some-clause-choice : goal.returns-in-Some-clause-choice
+returns-in-Some-clause-choice c = chosen_here c.args.model.now c.args.b.now c.loop-number.number c.loop-number.from c.loop-number.invariant
+    c.as_slice-phases.result.now c.as_slice-phases.ensures c.loop-number-test.true c.index-phases-number.result c.index-phases-number.is
+    c.requires.phases c.in-Some.var c.in-Some.ensures.chosen
 
-pub loop-phase-preserved : goal.loop-phase-preserved
-loop-phase-preserved c = record {
-  same = c.loop-phase.invariant.same;
-  passed = passed_here c.args.model.now c.args.b.now c.as_slice-phase-items.result.now c.loop-phase.invariant.same c.loop-phase.phase-index c.loop-phase-test.true c.phase-item.result c.phase-item.is
-      c.loop-phase.invariant.passed c.as_slice.result.now c.as_slice.ensures c.pick.result c.pick.ensures c.in_default.is;
-}
+pub loop-number-preserved : goal.loop-number-preserved
+loop-number-preserved c = passed_on c.args.model.now c.args.b.now c.loop-number.number c.loop-number.from c.loop-number.invariant
+    c.as_slice-phases.result.now c.as_slice-phases.ensures c.loop-number-test.true c.index-phases-number.result c.index-phases-number.is
+    c.in_default.ensures.none
 
-pub returns : goal.returns
-returns c = absurd (not_all_passed c.args.model.now c.args.b.now c.requires.phases c.requires.unfixed
-    (all_passed c.args.model.now c.args.b.now c.as_slice-phase-items.result.now c.loop-phase.invariant.same c.loop-phase.phase-index c.loop-phase-test.false c.loop-phase.invariant.passed))
+pub returns-clause-none : goal.returns-clause-none
+returns-clause-none c = all_behind c.args.model.now c.args.b.now c.loop-number.number c.loop-number.from c.loop-number.invariant c.requires.phases
+    (subst (λ (xs : List Phase). length xs ≤ c.loop-number.number) c.as_slice-phases.ensures c.loop-number-test.false)

@@ -1,9 +1,6 @@
-use Rattle.std.proofs.Common.{◌≡◌, take}
-use Rattle.branching.proofs.PickLaws.{Passed}
+use Rattle.branching.specs.Fronts.{IsFrontOf}
+use Rattle.branching.proofs.FrontLaws.{at}
 use Rattle.branching.proofs.select.choice.Given as goal
 
-abbrev pub invariant-loop-phase : goal.invariant-loop-phase
-invariant-loop-phase l = record {
-  same : l.phase-items ≡ l.model.search;
-  passed : Passed l.b (take l.phase-index l.model.search);
-}
+abbrev pub invariant-loop-number : goal.invariant-loop-number
+invariant-loop-number l = IsFrontOf l.model l.b (at l.number l.from)

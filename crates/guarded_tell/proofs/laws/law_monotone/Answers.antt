@@ -6,12 +6,14 @@ use Rattle.interval.specs.Quotients.{QuotientOrder}
 use Rattle.interval.specs.Corners.{CornerOrder}
 use Rattle.interval.specs.Boxes.{Bounds, IsInRange}
 use Rattle.guarded_tell.specs.declared.kernel.Kernel.{Kernel}
-use Rattle.guarded_tell.specs.declared.kernel.Kernel.TheVariants.{Le, Eq, Times, Abs, Max, Min, Clause, Element, InSet}
+use Rattle.guarded_tell.specs.declared.kernel.Kernel.TheVariants.{Le, Eq, Times, Div, Mod, Abs, Max, Min, Clause, Element, InSet}
 use Rattle.guarded_tell.specs.Words.{Keeps, IsInsideIn}
 use Rattle.guarded_tell.specs.Kernels.{vars_of, tells, IsKernel, IsClosedUnder, HasNumbers}
 use Rattle.guarded_tell.proofs.LeLaws.{le_monotone}
 use Rattle.guarded_tell.proofs.EqualityLaws.{eq_monotone}
 use Rattle.guarded_tell.proofs.TimesLaws.{times_monotone}
+use Rattle.guarded_tell.proofs.DivisionLaws.{div_monotone}
+use Rattle.guarded_tell.proofs.RemainderLaws.{mod_monotone}
 use Rattle.guarded_tell.proofs.AbsoluteLaws.{abs_monotone}
 use Rattle.guarded_tell.proofs.MaximumLaws.{max_monotone}
 use Rattle.guarded_tell.proofs.MinimumLaws.{min_monotone}
@@ -31,6 +33,8 @@ unfolding vars_of tells HasNumbers
 monotone o (Le l coeffs vars limit) outer inner k range closed inside = le_monotone inner outer o.quotients o.clamped l coeffs vars limit k.numbers.same_length closed.proper inside closed.kept
 monotone o (Eq l coeffs vars limit) outer inner k range closed inside = eq_monotone inner outer o.quotients o.clamped l coeffs vars limit k.numbers.same_length closed.proper inside range k.variables closed.kept
 monotone o (Times x y z) outer inner k range closed inside = times_monotone inner outer o.quotients o.clamped o.corners x y z closed.proper inside closed.kept
+monotone o (Div x y z) outer inner k range closed inside = div_monotone inner outer o.quotients o.clamped o.corners x y z closed.proper inside closed.kept
+monotone o (Mod x y z) outer inner k range closed inside = mod_monotone inner outer o.quotients o.clamped x y z closed.proper inside closed.kept
 monotone o (Abs x y) outer inner k range closed inside = abs_monotone inner outer o.quotients o.clamped x y closed.proper inside closed.kept
 monotone o (Max m xs) outer inner k range closed inside = max_monotone o.clamped m inner outer xs k.variables range closed.proper inside closed.kept
 monotone o (Min m xs) outer inner k range closed inside = min_monotone o.clamped m inner outer xs k.variables range closed.proper inside closed.kept

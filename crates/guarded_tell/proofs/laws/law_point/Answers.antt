@@ -6,12 +6,14 @@ use Rattle.interval.specs.Limits.{ClampOrder, IsNumber}
 use Rattle.interval.specs.Quotients.{QuotientOrder}
 use Rattle.interval.specs.Boxes.{Bounds, low_of, IsPoint}
 use Rattle.guarded_tell.specs.declared.kernel.Kernel.{Kernel}
-use Rattle.guarded_tell.specs.declared.kernel.Kernel.TheVariants.{Le, Eq, Times, Abs, Max, Min, Clause, Element, InSet}
+use Rattle.guarded_tell.specs.declared.kernel.Kernel.TheVariants.{Le, Eq, Times, Div, Mod, Abs, Max, Min, Clause, Element, InSet}
 use Rattle.guarded_tell.specs.Words.{Keeps, IsProperIn, point_of, AreVariables}
 use Rattle.guarded_tell.specs.Kernels.{vars_of, tells, Holds, HasNumbers}
 use Rattle.guarded_tell.proofs.LePoint.{le_closed_holds, le_holds_closed}
 use Rattle.guarded_tell.proofs.EqualityPoint.{eq_closed_holds, eq_holds_closed}
 use Rattle.guarded_tell.proofs.TimesLaws.{IsFixed, times_closed_holds, times_holds_closed}
+use Rattle.guarded_tell.proofs.DivisionLaws.{div_closed_holds, div_holds_closed}
+use Rattle.guarded_tell.proofs.RemainderLaws.{mod_closed_holds, mod_holds_closed}
 use Rattle.guarded_tell.proofs.AbsoluteLaws.{abs_closed_holds, abs_holds_closed}
 use Rattle.guarded_tell.proofs.MaximumLaws.{max_closed_holds, max_holds_closed}
 use Rattle.guarded_tell.proofs.MinimumLaws.{min_closed_holds, min_holds_closed}
@@ -28,6 +30,8 @@ unfolding vars_of tells HasNumbers Holds
 closed_holds q c (Le l coeffs vars limit) b n variables point numbers = le_closed_holds q c b l coeffs vars limit n.same_length variables point numbers
 closed_holds q c (Eq l coeffs vars limit) b n variables point numbers = eq_closed_holds q c b l coeffs vars limit n.same_length variables point numbers
 closed_holds q c (Times x y z) b n variables point numbers = times_closed_holds q c b x y z (fixed_at b x (variables.each 0 (omega arith)) point numbers) (fixed_at b y (variables.each 1 (omega arith)) point numbers) (fixed_at b z (variables.each 2 (omega arith)) point numbers)
+closed_holds q c (Div x y z) b n variables point numbers = div_closed_holds c b x y z (fixed_at b x (variables.each 0 (omega arith)) point numbers) (fixed_at b y (variables.each 1 (omega arith)) point numbers) (fixed_at b z (variables.each 2 (omega arith)) point numbers)
+closed_holds q c (Mod x y z) b n variables point numbers = mod_closed_holds c b x y z (fixed_at b x (variables.each 0 (omega arith)) point numbers) (fixed_at b y (variables.each 1 (omega arith)) point numbers) (fixed_at b z (variables.each 2 (omega arith)) point numbers)
 closed_holds q c (Abs x y) b n variables point numbers = abs_closed_holds c b x y (point x (variables.each 0 (omega arith))) (point y (variables.each 1 (omega arith))) (numbers x (variables.each 0 (omega arith))) (numbers y (variables.each 1 (omega arith)))
 closed_holds q c (Max m xs) b n variables point numbers = max_closed_holds c b m xs variables point numbers
 closed_holds q c (Min m xs) b n variables point numbers = min_closed_holds c b m xs variables point numbers
@@ -40,6 +44,8 @@ unfolding vars_of tells HasNumbers Holds
 holds_closed q c (Le l coeffs vars limit) b n variables point numbers = le_holds_closed q c b l coeffs vars limit n.same_length variables point numbers
 holds_closed q c (Eq l coeffs vars limit) b n variables point numbers = eq_holds_closed q c b l coeffs vars limit n.same_length variables point numbers
 holds_closed q c (Times x y z) b n variables point numbers = times_holds_closed q c b x y z (fixed_at b x (variables.each 0 (omega arith)) point numbers) (fixed_at b y (variables.each 1 (omega arith)) point numbers) (fixed_at b z (variables.each 2 (omega arith)) point numbers)
+holds_closed q c (Div x y z) b n variables point numbers = div_holds_closed c b x y z (fixed_at b x (variables.each 0 (omega arith)) point numbers) (fixed_at b y (variables.each 1 (omega arith)) point numbers) (fixed_at b z (variables.each 2 (omega arith)) point numbers)
+holds_closed q c (Mod x y z) b n variables point numbers = mod_holds_closed c b x y z (fixed_at b x (variables.each 0 (omega arith)) point numbers) (fixed_at b y (variables.each 1 (omega arith)) point numbers) (fixed_at b z (variables.each 2 (omega arith)) point numbers)
 holds_closed q c (Abs x y) b n variables point numbers = abs_holds_closed c b x y (point x (variables.each 0 (omega arith))) (point y (variables.each 1 (omega arith))) (numbers x (variables.each 0 (omega arith))) (numbers y (variables.each 1 (omega arith)))
 holds_closed q c (Max m xs) b n variables point numbers = max_holds_closed c b m xs variables point numbers
 holds_closed q c (Min m xs) b n variables point numbers = min_holds_closed c b m xs variables point numbers

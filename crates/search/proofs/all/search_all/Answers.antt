@@ -7,8 +7,8 @@ use Rattle.search.specs.Premises.{CanSearch}
 use Rattle.search.proofs.SearchLaws.{counted_more, node_reached, out_of_nodes, out_of_rounds, node_less, of_done, of_given_up}
 use Rattle.search.proofs.all.search_all.Goals as goal
 
-pub loop-boxes-init : goal.loop-boxes-init
-loop-boxes-init g c = record {
+pub boxes-init : goal.boxes-init
+boxes-init g c = record {
   count = 0;
   reached = begun (search_of c.args.run.now.model.now c.args.run.now.program.now c.args.run.now.node_limit c.args.run.now.round_limit Kind.All c.args.sub.now) (record { stack = boxes_of c.in_ok-searcher.searcher; best = None; count = 0; found = c.new-found.result })
       c.in_ok-searcher.ensures.boxes (inl refl) refl c.new-found.ensures;
@@ -18,34 +18,34 @@ loop-boxes-init g c = record {
 }
 
 pub node-requires-clause-run : goal.node-requires-clause-run
-node-requires-clause-run g c = subst (λ (n : ℕ). CanSearch c.args.run.now n) (sym c.loop-boxes.invariant.same_count) c.requires
+node-requires-clause-run g c = λ ks b. subst (λ (n : ℕ). CanSearch c.args.run.now n) (sym c.boxes.invariant.same_count) c.requires.run
 
-pub loop-boxes-smaller : goal.loop-boxes-smaller
-loop-boxes-smaller g c =
+pub boxes-smaller : goal.boxes-smaller
+boxes-smaller g c =
     let t = c.in_ok-node.ensures.visit in
-    node_less (search_of c.args.run.now.model.now c.args.run.now.program.now c.args.run.now.node_limit c.args.run.now.round_limit Kind.All c.args.sub.now) (λ (e : Kind.All ≡ Kind.Least). absurd cc) (boxes_of c.loop-boxes.searcher) c.loop-boxes.invariant.count c.loop-boxes.found c.loop-boxes.invariant.reached
-    c.law_inside_order.ensures c.law_branches.ensures c.requires.phases c.requires.long c.len-length.ensures.in_range t.rest t.top t.taken (boxes_of c.node.new.self) c.node.new.found
-    (of_done c.args.run.now.model.now c.args.run.now.program.now.kernels c.args.run.now.round_limit t.top t.rest (boxes_of c.node.new.self) c.loop-boxes.found c.node.new.found c.in_ok-node.field-0 c.in-Done.is t.visit)
+    node_less (search_of c.args.run.now.model.now c.args.run.now.program.now c.args.run.now.node_limit c.args.run.now.round_limit Kind.All c.args.sub.now) (λ (e : Kind.All ≡ Kind.Least). absurd cc) (boxes_of c.boxes.searcher) c.boxes.invariant.count c.boxes.found c.boxes.invariant.reached
+    c.law_inside_order.ensures c.law_branches.ensures c.requires.run.phases c.requires.run.long c.len-length.ensures.in_range t.rest t.top t.taken (boxes_of c.node.new.self) c.node.new.found
+    (of_done c.args.run.now.model.now c.args.run.now.program.now.kernels c.args.run.now.round_limit t.top t.rest (boxes_of c.node.new.self) c.boxes.found c.node.new.found c.in_ok-node.field-0 c.in-Done.is t.visit)
 
-pub loop-boxes-preserved : goal.loop-boxes-preserved
-loop-boxes-preserved g c =
+pub boxes-preserved : goal.boxes-preserved
+boxes-preserved g c =
     let t = c.in_ok-node.ensures.visit in
     record {
-      count = c.loop-boxes.invariant.count + 1;
-      reached = node_reached (search_of c.args.run.now.model.now c.args.run.now.program.now c.args.run.now.node_limit c.args.run.now.round_limit Kind.All c.args.sub.now) (λ (e : Kind.All ≡ Kind.Least). absurd cc) (boxes_of c.loop-boxes.searcher) c.loop-boxes.invariant.count c.loop-boxes.found c.loop-boxes.invariant.reached
-          t.rest t.top t.taken c.loop-boxes.nodes c.if-is_full.ensures.short c.loop-boxes.invariant.counted (λ (e : Kind.All ≡ Kind.First). absurd cc) c.if-is_full.ensures.below (boxes_of c.node.new.self) c.node.new.found
-          (of_done c.args.run.now.model.now c.args.run.now.program.now.kernels c.args.run.now.round_limit t.top t.rest (boxes_of c.node.new.self) c.loop-boxes.found c.node.new.found c.in_ok-node.field-0 c.in-Done.is t.visit);
-      counted = (counted_more c.args.run.now.node_limit c.loop-boxes.nodes c.loop-boxes.invariant.count c.counted-nodes.result c.if-is_full.ensures.short c.loop-boxes.invariant.counted c.if-is_full.ensures.below
+      count = c.boxes.invariant.count + 1;
+      reached = node_reached (search_of c.args.run.now.model.now c.args.run.now.program.now c.args.run.now.node_limit c.args.run.now.round_limit Kind.All c.args.sub.now) (λ (e : Kind.All ≡ Kind.Least). absurd cc) (boxes_of c.boxes.searcher) c.boxes.invariant.count c.boxes.found c.boxes.invariant.reached
+          t.rest t.top t.taken c.boxes.nodes c.if-is_full.ensures.short c.boxes.invariant.counted (λ (e : Kind.All ≡ Kind.First). absurd cc) c.if-is_full.ensures.below (boxes_of c.node.new.self) c.node.new.found
+          (of_done c.args.run.now.model.now c.args.run.now.program.now.kernels c.args.run.now.round_limit t.top t.rest (boxes_of c.node.new.self) c.boxes.found c.node.new.found c.in_ok-node.field-0 c.in-Done.is t.visit);
+      counted = (counted_more c.args.run.now.node_limit c.boxes.nodes c.boxes.invariant.count c.counted-nodes.result c.if-is_full.ensures.short c.boxes.invariant.counted c.if-is_full.ensures.below
           c.counted-nodes.ensures.more c.counted-nodes.ensures.most);
       ready = c.in_ok-node.ensures.ready c.in-Done.is;
-      same_count = c.in_ok-node.ensures.count ∙ c.loop-boxes.invariant.same_count;
+      same_count = c.in_ok-node.ensures.count c.in-Done.is ∙ c.boxes.invariant.same_count;
     }
 
 pub returns-in-GivenUp : goal.returns-in-GivenUp
 returns-in-GivenUp g c =
     let t = c.in_ok-node.ensures.visit in
-    let up = (of_given_up c.args.run.now.model.now c.args.run.now.program.now.kernels c.args.run.now.round_limit t.top t.rest (boxes_of c.node.new.self) c.loop-boxes.found c.node.new.found c.in_ok-node.field-0 c.in-GivenUp.is t.visit) in
-    out_of_rounds (search_of c.args.run.now.model.now c.args.run.now.program.now c.args.run.now.node_limit c.args.run.now.round_limit Kind.All c.args.sub.now) (λ (e : Kind.All ≡ Kind.Least). absurd cc) (boxes_of c.loop-boxes.searcher) c.loop-boxes.invariant.count c.loop-boxes.found c.loop-boxes.invariant.reached
-    t.rest t.top t.taken c.loop-boxes.nodes c.if-is_full.ensures.short c.loop-boxes.invariant.counted (λ (e : Kind.All ≡ Kind.First). absurd cc) c.if-is_full.ensures.below c.counted-nodes.result c.node.new.found
-    (counted_more c.args.run.now.node_limit c.loop-boxes.nodes c.loop-boxes.invariant.count c.counted-nodes.result c.if-is_full.ensures.short c.loop-boxes.invariant.counted c.if-is_full.ensures.below
+    let up = (of_given_up c.args.run.now.model.now c.args.run.now.program.now.kernels c.args.run.now.round_limit t.top t.rest (boxes_of c.node.new.self) c.boxes.found c.node.new.found c.in_ok-node.field-0 c.in-GivenUp.is t.visit) in
+    out_of_rounds (search_of c.args.run.now.model.now c.args.run.now.program.now c.args.run.now.node_limit c.args.run.now.round_limit Kind.All c.args.sub.now) (λ (e : Kind.All ≡ Kind.Least). absurd cc) (boxes_of c.boxes.searcher) c.boxes.invariant.count c.boxes.found c.boxes.invariant.reached
+    t.rest t.top t.taken c.boxes.nodes c.if-is_full.ensures.short c.boxes.invariant.counted (λ (e : Kind.All ≡ Kind.First). absurd cc) c.if-is_full.ensures.below c.counted-nodes.result c.node.new.found
+    (counted_more c.args.run.now.node_limit c.boxes.nodes c.boxes.invariant.count c.counted-nodes.result c.if-is_full.ensures.short c.boxes.invariant.counted c.if-is_full.ensures.below
     c.counted-nodes.ensures.more c.counted-nodes.ensures.most) up.0 up.1

@@ -9,8 +9,8 @@ use Rattle.search.proofs.SearchLaws.{IsCounted}
 use Rattle.search.proofs.all.search_all.Given as goal
 
 -- the boxes and what was found are those of a state that is reached, in which the nodes are counted
-abbrev pub invariant-loop-boxes : goal.invariant-loop-boxes
-invariant-loop-boxes g l = record {
+abbrev pub invariant-boxes : goal.invariant-boxes
+invariant-boxes g l = record {
   count : ℕ;
   reached : Reached (search_of l.run.model.now l.run.program.now l.run.node_limit l.run.round_limit Kind.All l.sub)
       (record { stack = boxes_of l.searcher; best = None; count = count; found = l.found });
@@ -19,5 +19,5 @@ invariant-loop-boxes g l = record {
   same_count : count_of l.searcher ≡ length l.sub;
 }
 
-abbrev pub decreases-loop-boxes : goal.decreases-loop-boxes
-decreases-loop-boxes g l = sum_by weight (boxes_of l.searcher)
+abbrev pub decreases-boxes : goal.decreases-boxes
+decreases-boxes g l = sum_by weight (boxes_of l.searcher)

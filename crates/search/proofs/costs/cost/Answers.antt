@@ -13,8 +13,8 @@ negated-requires c =
     let same = to_z-of_z w64 c.value-in-Maximize.result (record { sfits = c.value-in-Maximize.type_inv }) in
     subst IsNumber (sym (same ∙ c.value-in-Maximize.ensures)) (number_of_negated x (c.requires.numbers (neg_ℤ x) e))
 
-pub returns-in-Maximize : goal.returns-in-Maximize
-returns-in-Maximize c =
+pub returns-in-Maximize-clause-costs : goal.returns-in-Maximize-clause-costs
+returns-in-Maximize-clause-costs c =
     let x = value c.args.a.now c.in-Maximize.term in
     let e : cost_of c.args.goal c.args.a.now ≡ Some (neg_ℤ x) = ap (λ (g : Goal). cost_of g c.args.a.now) c.in-Maximize.is in
     let same = to_z-of_z w64 c.value-in-Maximize.result (record { sfits = c.value-in-Maximize.type_inv }) in

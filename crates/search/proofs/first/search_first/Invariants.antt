@@ -1,4 +1,4 @@
-use Rattle.std.proofs.Common.{◌≡◌, ℕ, length, None}
+use Rattle.std.proofs.Common.{◌≡◌, ℕ, [], length, None}
 use Rattle.std.specs.List.{sum_by}
 use Rattle.best_bound.specs.Lists.{Among}
 use Rattle.best_bound.specs.Seats.{IsFoundSeatOf, found_parts, numbers_seen, numbers_posted}
@@ -11,12 +11,13 @@ use Rattle.search.proofs.SearchLaws.{IsCounted}
 use Rattle.search.proofs.first.search_first.Given as goal
 
 -- the boxes and what was found are those of a state that is reached, in which the nodes are counted; nothing is posted
-abbrev pub invariant-loop-boxes : goal.invariant-loop-boxes
-invariant-loop-boxes g l = record {
+abbrev pub invariant-boxes : goal.invariant-boxes
+invariant-boxes g l = record {
   count : ℕ;
   reached : Reached (search_of l.run.model.now l.run.program.now l.run.node_limit l.run.round_limit Kind.First l.sub)
       (record { stack = boxes_of l.searcher; best = None; count = count; found = l.solutions });
   counted : IsCounted l.run.node_limit l.nodes count;
+  sought : l.solutions ≡ [];
   ready : IsReady l.run l.searcher;
   same_count : count_of l.searcher ≡ length l.sub;
   seat : IsFoundSeatOf l.found l.seat;
@@ -25,5 +26,5 @@ invariant-loop-boxes g l = record {
   seen : (n : ℕ) → Among (numbers_seen l.initial.seat) n → Among (numbers_seen l.seat) n;
 }
 
-abbrev pub decreases-loop-boxes : goal.decreases-loop-boxes
-decreases-loop-boxes g l = sum_by weight (boxes_of l.searcher)
+abbrev pub decreases-boxes : goal.decreases-boxes
+decreases-boxes g l = sum_by weight (boxes_of l.searcher)

@@ -11,12 +11,13 @@ use Rattle.search.specs.Costs.{IsObjectiveIn}
 use Rattle.search.specs.Premises.{CanSearch}
 use Rattle.search.specs.Stacks.{boxes_of, count_of}
 use Rattle.search.proofs.PremiseLaws.{can_search}
+use Rattle.search.proofs.RunLaws.{of_false}
 use Rattle.search.proofs.SearchLaws.{counted_more, of_done, of_given_up}
 use Rattle.search.proofs.LeastRunLaws.{premises, reached_after_look, falls_to, kept_by, lowest_number, objective_in, with_objective, few_vars, node_reached, out_of_rounds, node_less, recorded_solve, at_most_one, can_post, cost_posted, node_low, posts_more, posts_none, covered, contains_of, among_of, popped_none}
 use Rattle.search.proofs.least.search_least.Goals as goal
 
-pub loop-boxes-init : goal.loop-boxes-init
-loop-boxes-init g c = record {
+pub boxes-init : goal.boxes-init
+boxes-init g c = record {
   lowest = None;
   count = 0;
   reached = begun (least_of c.args.run.now.model.now c.args.run.now.program.now c.args.run.now.node_limit c.args.run.now.round_limit (costs_seen c.args.seat.now) c.args.sub.now) (record { stack = boxes_of c.in_ok-searcher.searcher; best = None; count = 0; found = c.new-found.result })
@@ -32,15 +33,15 @@ loop-boxes-init g c = record {
 }
 
 pub node-requires-clause-run : goal.node-requires-clause-run
-node-requires-clause-run g c =
-    subst (λ (n : ℕ). CanSearch c.args.run.now n) (sym c.loop-boxes.invariant.same_count) (can_search c.args.run.now c.args.sub.now c.requires.run c.requires.inside)
+node-requires-clause-run g c = λ ks b.
+    subst (λ (n : ℕ). CanSearch c.args.run.now n) (sym c.boxes.invariant.same_count) (can_search c.args.run.now c.args.sub.now c.requires.run c.requires.inside)
 
 pub node-requires-clause-best : goal.node-requires-clause-best
-node-requires-clause-best g c =
-    with_objective c.seen-lowest.result (IsObjectiveIn (count_of c.loop-boxes.searcher - 1) c.args.run.now.model.now.goal)
+node-requires-clause-best g c = λ ks b.
+    with_objective c.seen-lowest.result (IsObjectiveIn (count_of c.boxes.searcher - 1) c.args.run.now.model.now.goal)
     (lowest_number c.args.run.now.model.now c.requires.run.model (costs_seen c.seen-lowest.new.seat) c.seen-lowest.result (λ x h. (c.requires.costs x).0 (c.seen-lowest.ensures.passes x h)) c.seen-lowest.ensures.least)
-    (objective_in c.args.run.now.model.now.vars (count_of c.loop-boxes.searcher - 1) c.args.run.now.model.now.goal
-    (few_vars (length c.args.run.now.model.now.vars) (length c.args.sub.now) (count_of c.loop-boxes.searcher) (can_search c.args.run.now c.args.sub.now c.requires.run c.requires.inside).long c.loop-boxes.invariant.same_count)
+    (objective_in c.args.run.now.model.now.vars (count_of c.boxes.searcher - 1) c.args.run.now.model.now.goal
+    (few_vars (length c.args.run.now.model.now.vars) (length c.args.sub.now) (count_of c.boxes.searcher) (can_search c.args.run.now c.args.sub.now c.requires.run c.requires.inside).long c.boxes.invariant.same_count)
     c.requires.run.model.objective c.requires.objective)
 
 pub record_fresh-requires-clause-seat : goal.record_fresh-requires-clause-seat
@@ -54,55 +55,55 @@ record_fresh-requires-clause-one g c =
 pub record_fresh-requires-clause-objective : goal.record_fresh-requires-clause-objective
 record_fresh-requires-clause-objective g c k d l =
     let t = c.in_ok-node.ensures.visit in
-    let s = subst (All (SolvesInside c.args.run.now.model.now c.args.sub.now)) (sym c.into_vec.ensures) (recorded_solve c.law_inside_order.ensures c.law_branches.ensures (least_of c.args.run.now.model.now c.args.run.now.program.now c.args.run.now.node_limit c.args.run.now.round_limit (costs_seen c.seen-lowest.new.seat) c.args.sub.now) refl (premises c.args.run.now.model.now c.args.run.now.program.now c.args.run.now.node_limit c.args.run.now.round_limit c.args.sub.now c.requires.run.program c.requires.run.model c.requires.inside c.len-length.ensures.in_range (costs_seen c.seen-lowest.new.seat)) c.requires.run.model (boxes_of c.loop-boxes.searcher) c.loop-boxes.invariant.lowest c.loop-boxes.invariant.count c.loop-boxes.found (reached_after_look c.args.run.now.model.now c.args.run.now.program.now c.args.run.now.node_limit c.args.run.now.round_limit c.args.sub.now c.requires.run.program c.requires.run.model c.requires.inside c.len-length.ensures.in_range c.law_more_posted.ensures (costs_seen c.loop-boxes.seat) (costs_seen c.seen-lowest.new.seat) c.seen-lowest.result (record { stack = (boxes_of c.loop-boxes.searcher); best = c.loop-boxes.invariant.lowest; count = c.loop-boxes.invariant.count; found = c.loop-boxes.found }) c.seen-lowest.ensures.seen c.loop-boxes.invariant.reached) t.rest t.top t.taken c.loop-boxes.nodes c.if-is_full.ensures.short c.loop-boxes.invariant.counted c.if-is_full.ensures.below c.seen-lowest.result (falls_to (costs_seen c.loop-boxes.seat) (costs_seen c.seen-lowest.new.seat) c.loop-boxes.invariant.lowest c.seen-lowest.result (kept_by (costs_seen c.loop-boxes.seat) (costs_seen c.seen-lowest.new.seat) c.seen-lowest.result c.seen-lowest.ensures.seen) c.loop-boxes.invariant.low c.seen-lowest.ensures.least) c.law_records_solutions.ensures (boxes_of c.node.new.self) c.node.new.found (of_done c.args.run.now.model.now c.args.run.now.program.now.kernels c.args.run.now.round_limit (cut_by Kind.Least c.args.run.now.model.now.goal c.seen-lowest.result t.top) t.rest (boxes_of c.node.new.self) [] c.node.new.found c.in_ok-node.field-0 c.in-Done.is (subst (λ (xs : List (List ℤ)). IsVisit c.args.run.now.model.now c.args.run.now.program.now.kernels c.args.run.now.round_limit (cut_by Kind.Least c.args.run.now.model.now.goal c.seen-lowest.result t.top) t.rest (boxes_of c.node.new.self) xs c.node.new.found c.in_ok-node.field-0) c.new-fresh.ensures t.visit))) k d l in
+    let s = subst (All (SolvesInside c.args.run.now.model.now c.args.sub.now)) (sym c.into_vec.ensures) (recorded_solve c.law_inside_order.ensures c.law_branches.ensures (least_of c.args.run.now.model.now c.args.run.now.program.now c.args.run.now.node_limit c.args.run.now.round_limit (costs_seen c.seen-lowest.new.seat) c.args.sub.now) refl (premises c.args.run.now.model.now c.args.run.now.program.now c.args.run.now.node_limit c.args.run.now.round_limit c.args.sub.now c.requires.run.program c.requires.run.model c.requires.inside c.len-length.ensures.in_range (costs_seen c.seen-lowest.new.seat)) c.requires.run.model (boxes_of c.boxes.searcher) c.boxes.invariant.lowest c.boxes.invariant.count c.boxes.found (reached_after_look c.args.run.now.model.now c.args.run.now.program.now c.args.run.now.node_limit c.args.run.now.round_limit c.args.sub.now c.requires.run.program c.requires.run.model c.requires.inside c.len-length.ensures.in_range c.law_more_posted.ensures (costs_seen c.boxes.seat) (costs_seen c.seen-lowest.new.seat) c.seen-lowest.result (record { stack = (boxes_of c.boxes.searcher); best = c.boxes.invariant.lowest; count = c.boxes.invariant.count; found = c.boxes.found }) c.seen-lowest.ensures.seen c.boxes.invariant.reached) t.rest t.top t.taken c.boxes.nodes c.if-is_full.ensures.short c.boxes.invariant.counted c.if-is_full.ensures.below c.seen-lowest.result (falls_to (costs_seen c.boxes.seat) (costs_seen c.seen-lowest.new.seat) c.boxes.invariant.lowest c.seen-lowest.result (kept_by (costs_seen c.boxes.seat) (costs_seen c.seen-lowest.new.seat) c.seen-lowest.result c.seen-lowest.ensures.seen) c.boxes.invariant.low c.seen-lowest.ensures.least) c.law_records_solutions.ensures (boxes_of c.node.new.self) c.node.new.found (of_done c.args.run.now.model.now c.args.run.now.program.now.kernels c.args.run.now.round_limit (cut_by Kind.Least c.args.run.now.model.now.goal c.seen-lowest.result t.top) t.rest (boxes_of c.node.new.self) [] c.node.new.found c.in_ok-node.field-0 c.in-Done.is (subst (λ (xs : List (List ℤ)). IsVisit c.args.run.now.model.now c.args.run.now.program.now.kernels c.args.run.now.round_limit (cut_by Kind.Least c.args.run.now.model.now.goal c.seen-lowest.result t.top) t.rest (boxes_of c.node.new.self) xs c.node.new.found c.in_ok-node.field-0) c.new-fresh.ensures t.visit))) k d l in
     can_post c.args.run.now.model.now c.requires.run.model c.requires.objective c.args.sub.now (get_or c.into_vec.result.items k d) s
 
 pub record_fresh-requires-clause-costs : goal.record_fresh-requires-clause-costs
 record_fresh-requires-clause-costs g c k d l cost e =
     let t = c.in_ok-node.ensures.visit in
-    let s = subst (All (SolvesInside c.args.run.now.model.now c.args.sub.now)) (sym c.into_vec.ensures) (recorded_solve c.law_inside_order.ensures c.law_branches.ensures (least_of c.args.run.now.model.now c.args.run.now.program.now c.args.run.now.node_limit c.args.run.now.round_limit (costs_seen c.seen-lowest.new.seat) c.args.sub.now) refl (premises c.args.run.now.model.now c.args.run.now.program.now c.args.run.now.node_limit c.args.run.now.round_limit c.args.sub.now c.requires.run.program c.requires.run.model c.requires.inside c.len-length.ensures.in_range (costs_seen c.seen-lowest.new.seat)) c.requires.run.model (boxes_of c.loop-boxes.searcher) c.loop-boxes.invariant.lowest c.loop-boxes.invariant.count c.loop-boxes.found (reached_after_look c.args.run.now.model.now c.args.run.now.program.now c.args.run.now.node_limit c.args.run.now.round_limit c.args.sub.now c.requires.run.program c.requires.run.model c.requires.inside c.len-length.ensures.in_range c.law_more_posted.ensures (costs_seen c.loop-boxes.seat) (costs_seen c.seen-lowest.new.seat) c.seen-lowest.result (record { stack = (boxes_of c.loop-boxes.searcher); best = c.loop-boxes.invariant.lowest; count = c.loop-boxes.invariant.count; found = c.loop-boxes.found }) c.seen-lowest.ensures.seen c.loop-boxes.invariant.reached) t.rest t.top t.taken c.loop-boxes.nodes c.if-is_full.ensures.short c.loop-boxes.invariant.counted c.if-is_full.ensures.below c.seen-lowest.result (falls_to (costs_seen c.loop-boxes.seat) (costs_seen c.seen-lowest.new.seat) c.loop-boxes.invariant.lowest c.seen-lowest.result (kept_by (costs_seen c.loop-boxes.seat) (costs_seen c.seen-lowest.new.seat) c.seen-lowest.result c.seen-lowest.ensures.seen) c.loop-boxes.invariant.low c.seen-lowest.ensures.least) c.law_records_solutions.ensures (boxes_of c.node.new.self) c.node.new.found (of_done c.args.run.now.model.now c.args.run.now.program.now.kernels c.args.run.now.round_limit (cut_by Kind.Least c.args.run.now.model.now.goal c.seen-lowest.result t.top) t.rest (boxes_of c.node.new.self) [] c.node.new.found c.in_ok-node.field-0 c.in-Done.is (subst (λ (xs : List (List ℤ)). IsVisit c.args.run.now.model.now c.args.run.now.program.now.kernels c.args.run.now.round_limit (cut_by Kind.Least c.args.run.now.model.now.goal c.seen-lowest.result t.top) t.rest (boxes_of c.node.new.self) xs c.node.new.found c.in_ok-node.field-0) c.new-fresh.ensures t.visit))) k d l in
+    let s = subst (All (SolvesInside c.args.run.now.model.now c.args.sub.now)) (sym c.into_vec.ensures) (recorded_solve c.law_inside_order.ensures c.law_branches.ensures (least_of c.args.run.now.model.now c.args.run.now.program.now c.args.run.now.node_limit c.args.run.now.round_limit (costs_seen c.seen-lowest.new.seat) c.args.sub.now) refl (premises c.args.run.now.model.now c.args.run.now.program.now c.args.run.now.node_limit c.args.run.now.round_limit c.args.sub.now c.requires.run.program c.requires.run.model c.requires.inside c.len-length.ensures.in_range (costs_seen c.seen-lowest.new.seat)) c.requires.run.model (boxes_of c.boxes.searcher) c.boxes.invariant.lowest c.boxes.invariant.count c.boxes.found (reached_after_look c.args.run.now.model.now c.args.run.now.program.now c.args.run.now.node_limit c.args.run.now.round_limit c.args.sub.now c.requires.run.program c.requires.run.model c.requires.inside c.len-length.ensures.in_range c.law_more_posted.ensures (costs_seen c.boxes.seat) (costs_seen c.seen-lowest.new.seat) c.seen-lowest.result (record { stack = (boxes_of c.boxes.searcher); best = c.boxes.invariant.lowest; count = c.boxes.invariant.count; found = c.boxes.found }) c.seen-lowest.ensures.seen c.boxes.invariant.reached) t.rest t.top t.taken c.boxes.nodes c.if-is_full.ensures.short c.boxes.invariant.counted c.if-is_full.ensures.below c.seen-lowest.result (falls_to (costs_seen c.boxes.seat) (costs_seen c.seen-lowest.new.seat) c.boxes.invariant.lowest c.seen-lowest.result (kept_by (costs_seen c.boxes.seat) (costs_seen c.seen-lowest.new.seat) c.seen-lowest.result c.seen-lowest.ensures.seen) c.boxes.invariant.low c.seen-lowest.ensures.least) c.law_records_solutions.ensures (boxes_of c.node.new.self) c.node.new.found (of_done c.args.run.now.model.now c.args.run.now.program.now.kernels c.args.run.now.round_limit (cut_by Kind.Least c.args.run.now.model.now.goal c.seen-lowest.result t.top) t.rest (boxes_of c.node.new.self) [] c.node.new.found c.in_ok-node.field-0 c.in-Done.is (subst (λ (xs : List (List ℤ)). IsVisit c.args.run.now.model.now c.args.run.now.program.now.kernels c.args.run.now.round_limit (cut_by Kind.Least c.args.run.now.model.now.goal c.seen-lowest.result t.top) t.rest (boxes_of c.node.new.self) xs c.node.new.found c.in_ok-node.field-0) c.new-fresh.ensures t.visit))) k d l in
     let q = cost_posted c.args.run.now.model.now c.requires.run.model c.args.sub.now (get_or c.into_vec.result.items k d) s cost e in
     (q.0, (c.requires.costs cost).1 q.1)
 
-pub loop-boxes-smaller : goal.loop-boxes-smaller
-loop-boxes-smaller g c =
+pub boxes-smaller : goal.boxes-smaller
+boxes-smaller g c =
     let t = c.in_ok-node.ensures.visit in
-    node_less c.law_inside_order.ensures c.law_branches.ensures (least_of c.args.run.now.model.now c.args.run.now.program.now c.args.run.now.node_limit c.args.run.now.round_limit (costs_seen c.seen-lowest.new.seat) c.args.sub.now) refl (premises c.args.run.now.model.now c.args.run.now.program.now c.args.run.now.node_limit c.args.run.now.round_limit c.args.sub.now c.requires.run.program c.requires.run.model c.requires.inside c.len-length.ensures.in_range (costs_seen c.seen-lowest.new.seat)) c.requires.run.model (boxes_of c.loop-boxes.searcher) c.loop-boxes.invariant.lowest c.loop-boxes.invariant.count c.loop-boxes.found (reached_after_look c.args.run.now.model.now c.args.run.now.program.now c.args.run.now.node_limit c.args.run.now.round_limit c.args.sub.now c.requires.run.program c.requires.run.model c.requires.inside c.len-length.ensures.in_range c.law_more_posted.ensures (costs_seen c.loop-boxes.seat) (costs_seen c.seen-lowest.new.seat) c.seen-lowest.result (record { stack = (boxes_of c.loop-boxes.searcher); best = c.loop-boxes.invariant.lowest; count = c.loop-boxes.invariant.count; found = c.loop-boxes.found }) c.seen-lowest.ensures.seen c.loop-boxes.invariant.reached) t.rest t.top t.taken c.loop-boxes.nodes c.if-is_full.ensures.short c.loop-boxes.invariant.counted c.if-is_full.ensures.below c.seen-lowest.result (falls_to (costs_seen c.loop-boxes.seat) (costs_seen c.seen-lowest.new.seat) c.loop-boxes.invariant.lowest c.seen-lowest.result (kept_by (costs_seen c.loop-boxes.seat) (costs_seen c.seen-lowest.new.seat) c.seen-lowest.result c.seen-lowest.ensures.seen) c.loop-boxes.invariant.low c.seen-lowest.ensures.least) (boxes_of c.node.new.self) c.node.new.found (of_done c.args.run.now.model.now c.args.run.now.program.now.kernels c.args.run.now.round_limit (cut_by Kind.Least c.args.run.now.model.now.goal c.seen-lowest.result t.top) t.rest (boxes_of c.node.new.self) [] c.node.new.found c.in_ok-node.field-0 c.in-Done.is (subst (λ (xs : List (List ℤ)). IsVisit c.args.run.now.model.now c.args.run.now.program.now.kernels c.args.run.now.round_limit (cut_by Kind.Least c.args.run.now.model.now.goal c.seen-lowest.result t.top) t.rest (boxes_of c.node.new.self) xs c.node.new.found c.in_ok-node.field-0) c.new-fresh.ensures t.visit))
+    node_less c.law_inside_order.ensures c.law_branches.ensures (least_of c.args.run.now.model.now c.args.run.now.program.now c.args.run.now.node_limit c.args.run.now.round_limit (costs_seen c.seen-lowest.new.seat) c.args.sub.now) refl (premises c.args.run.now.model.now c.args.run.now.program.now c.args.run.now.node_limit c.args.run.now.round_limit c.args.sub.now c.requires.run.program c.requires.run.model c.requires.inside c.len-length.ensures.in_range (costs_seen c.seen-lowest.new.seat)) c.requires.run.model (boxes_of c.boxes.searcher) c.boxes.invariant.lowest c.boxes.invariant.count c.boxes.found (reached_after_look c.args.run.now.model.now c.args.run.now.program.now c.args.run.now.node_limit c.args.run.now.round_limit c.args.sub.now c.requires.run.program c.requires.run.model c.requires.inside c.len-length.ensures.in_range c.law_more_posted.ensures (costs_seen c.boxes.seat) (costs_seen c.seen-lowest.new.seat) c.seen-lowest.result (record { stack = (boxes_of c.boxes.searcher); best = c.boxes.invariant.lowest; count = c.boxes.invariant.count; found = c.boxes.found }) c.seen-lowest.ensures.seen c.boxes.invariant.reached) t.rest t.top t.taken c.boxes.nodes c.if-is_full.ensures.short c.boxes.invariant.counted c.if-is_full.ensures.below c.seen-lowest.result (falls_to (costs_seen c.boxes.seat) (costs_seen c.seen-lowest.new.seat) c.boxes.invariant.lowest c.seen-lowest.result (kept_by (costs_seen c.boxes.seat) (costs_seen c.seen-lowest.new.seat) c.seen-lowest.result c.seen-lowest.ensures.seen) c.boxes.invariant.low c.seen-lowest.ensures.least) (boxes_of c.node.new.self) c.node.new.found (of_done c.args.run.now.model.now c.args.run.now.program.now.kernels c.args.run.now.round_limit (cut_by Kind.Least c.args.run.now.model.now.goal c.seen-lowest.result t.top) t.rest (boxes_of c.node.new.self) [] c.node.new.found c.in_ok-node.field-0 c.in-Done.is (subst (λ (xs : List (List ℤ)). IsVisit c.args.run.now.model.now c.args.run.now.program.now.kernels c.args.run.now.round_limit (cut_by Kind.Least c.args.run.now.model.now.goal c.seen-lowest.result t.top) t.rest (boxes_of c.node.new.self) xs c.node.new.found c.in_ok-node.field-0) c.new-fresh.ensures t.visit))
 
-pub loop-boxes-preserved : goal.loop-boxes-preserved
-loop-boxes-preserved g c =
+pub boxes-preserved : goal.boxes-preserved
+boxes-preserved g c =
     let t = c.in_ok-node.ensures.visit in
     let sees = subst (λ (xs : List (List ℤ)). SeesCosts c.args.run.now.model.now.goal xs (costs_seen c.seen-lowest.new.seat) (costs_seen c.record_fresh.new.seat)) c.into_vec.ensures c.in_ok-record_fresh-in-Done.ensures.seen in
     let posts = subst (λ (xs : List (List ℤ)). PostsCosts c.args.run.now.model.now.goal xs (costs_posted c.seen-lowest.new.seat) (costs_posted c.record_fresh.new.seat)) c.into_vec.ensures c.in_ok-record_fresh-in-Done.ensures.posted in
-    let found = c.in_ok-record_fresh-in-Done.ensures.recorded ∙ ap (λ (xs : List (List ℤ)). c.loop-boxes.found ++ xs) c.into_vec.ensures in
+    let found = c.in_ok-record_fresh-in-Done.ensures.recorded ∙ ap (λ (xs : List (List ℤ)). c.boxes.found ++ xs) c.into_vec.ensures in
     record {
       lowest = (best_after Kind.Least c.args.run.now.model.now.goal c.seen-lowest.result c.node.new.found);
-      count = c.loop-boxes.invariant.count + 1;
-      reached = subst (λ (xs : List (List ℤ)). Reached (least_of c.args.run.now.model.now c.args.run.now.program.now c.args.run.now.node_limit c.args.run.now.round_limit (costs_seen c.record_fresh.new.seat) c.args.sub.now) (record { stack = (boxes_of c.node.new.self); best = (best_after Kind.Least c.args.run.now.model.now.goal c.seen-lowest.result c.node.new.found); count = c.loop-boxes.invariant.count + 1; found = xs })) (sym found)
-          (c.law_more_posted.ensures (least_of c.args.run.now.model.now c.args.run.now.program.now c.args.run.now.node_limit c.args.run.now.round_limit (costs_seen c.seen-lowest.new.seat) c.args.sub.now) (costs_seen c.record_fresh.new.seat) (record { stack = (boxes_of c.node.new.self); best = (best_after Kind.Least c.args.run.now.model.now.goal c.seen-lowest.result c.node.new.found); count = c.loop-boxes.invariant.count + 1; found = c.loop-boxes.found ++ c.node.new.found })
-          (λ x h. contains_of (costs_seen c.record_fresh.new.seat) x (sees.kept x (among_of (costs_seen c.seen-lowest.new.seat) x h))) (node_reached c.law_inside_order.ensures c.law_branches.ensures (least_of c.args.run.now.model.now c.args.run.now.program.now c.args.run.now.node_limit c.args.run.now.round_limit (costs_seen c.seen-lowest.new.seat) c.args.sub.now) refl (premises c.args.run.now.model.now c.args.run.now.program.now c.args.run.now.node_limit c.args.run.now.round_limit c.args.sub.now c.requires.run.program c.requires.run.model c.requires.inside c.len-length.ensures.in_range (costs_seen c.seen-lowest.new.seat)) c.requires.run.model (boxes_of c.loop-boxes.searcher) c.loop-boxes.invariant.lowest c.loop-boxes.invariant.count c.loop-boxes.found (reached_after_look c.args.run.now.model.now c.args.run.now.program.now c.args.run.now.node_limit c.args.run.now.round_limit c.args.sub.now c.requires.run.program c.requires.run.model c.requires.inside c.len-length.ensures.in_range c.law_more_posted.ensures (costs_seen c.loop-boxes.seat) (costs_seen c.seen-lowest.new.seat) c.seen-lowest.result (record { stack = (boxes_of c.loop-boxes.searcher); best = c.loop-boxes.invariant.lowest; count = c.loop-boxes.invariant.count; found = c.loop-boxes.found }) c.seen-lowest.ensures.seen c.loop-boxes.invariant.reached) t.rest t.top t.taken c.loop-boxes.nodes c.if-is_full.ensures.short c.loop-boxes.invariant.counted c.if-is_full.ensures.below c.seen-lowest.result (falls_to (costs_seen c.loop-boxes.seat) (costs_seen c.seen-lowest.new.seat) c.loop-boxes.invariant.lowest c.seen-lowest.result (kept_by (costs_seen c.loop-boxes.seat) (costs_seen c.seen-lowest.new.seat) c.seen-lowest.result c.seen-lowest.ensures.seen) c.loop-boxes.invariant.low c.seen-lowest.ensures.least) (boxes_of c.node.new.self) c.node.new.found (of_done c.args.run.now.model.now c.args.run.now.program.now.kernels c.args.run.now.round_limit (cut_by Kind.Least c.args.run.now.model.now.goal c.seen-lowest.result t.top) t.rest (boxes_of c.node.new.self) [] c.node.new.found c.in_ok-node.field-0 c.in-Done.is (subst (λ (xs : List (List ℤ)). IsVisit c.args.run.now.model.now c.args.run.now.program.now.kernels c.args.run.now.round_limit (cut_by Kind.Least c.args.run.now.model.now.goal c.seen-lowest.result t.top) t.rest (boxes_of c.node.new.self) xs c.node.new.found c.in_ok-node.field-0) c.new-fresh.ensures t.visit))));
+      count = c.boxes.invariant.count + 1;
+      reached = subst (λ (xs : List (List ℤ)). Reached (least_of c.args.run.now.model.now c.args.run.now.program.now c.args.run.now.node_limit c.args.run.now.round_limit (costs_seen c.record_fresh.new.seat) c.args.sub.now) (record { stack = (boxes_of c.node.new.self); best = (best_after Kind.Least c.args.run.now.model.now.goal c.seen-lowest.result c.node.new.found); count = c.boxes.invariant.count + 1; found = xs })) (sym found)
+          (c.law_more_posted.ensures (least_of c.args.run.now.model.now c.args.run.now.program.now c.args.run.now.node_limit c.args.run.now.round_limit (costs_seen c.seen-lowest.new.seat) c.args.sub.now) (costs_seen c.record_fresh.new.seat) (record { stack = (boxes_of c.node.new.self); best = (best_after Kind.Least c.args.run.now.model.now.goal c.seen-lowest.result c.node.new.found); count = c.boxes.invariant.count + 1; found = c.boxes.found ++ c.node.new.found })
+          (λ x h. contains_of (costs_seen c.record_fresh.new.seat) x (sees.kept x (among_of (costs_seen c.seen-lowest.new.seat) x h))) (node_reached c.law_inside_order.ensures c.law_branches.ensures (least_of c.args.run.now.model.now c.args.run.now.program.now c.args.run.now.node_limit c.args.run.now.round_limit (costs_seen c.seen-lowest.new.seat) c.args.sub.now) refl (premises c.args.run.now.model.now c.args.run.now.program.now c.args.run.now.node_limit c.args.run.now.round_limit c.args.sub.now c.requires.run.program c.requires.run.model c.requires.inside c.len-length.ensures.in_range (costs_seen c.seen-lowest.new.seat)) c.requires.run.model (boxes_of c.boxes.searcher) c.boxes.invariant.lowest c.boxes.invariant.count c.boxes.found (reached_after_look c.args.run.now.model.now c.args.run.now.program.now c.args.run.now.node_limit c.args.run.now.round_limit c.args.sub.now c.requires.run.program c.requires.run.model c.requires.inside c.len-length.ensures.in_range c.law_more_posted.ensures (costs_seen c.boxes.seat) (costs_seen c.seen-lowest.new.seat) c.seen-lowest.result (record { stack = (boxes_of c.boxes.searcher); best = c.boxes.invariant.lowest; count = c.boxes.invariant.count; found = c.boxes.found }) c.seen-lowest.ensures.seen c.boxes.invariant.reached) t.rest t.top t.taken c.boxes.nodes c.if-is_full.ensures.short c.boxes.invariant.counted c.if-is_full.ensures.below c.seen-lowest.result (falls_to (costs_seen c.boxes.seat) (costs_seen c.seen-lowest.new.seat) c.boxes.invariant.lowest c.seen-lowest.result (kept_by (costs_seen c.boxes.seat) (costs_seen c.seen-lowest.new.seat) c.seen-lowest.result c.seen-lowest.ensures.seen) c.boxes.invariant.low c.seen-lowest.ensures.least) (boxes_of c.node.new.self) c.node.new.found (of_done c.args.run.now.model.now c.args.run.now.program.now.kernels c.args.run.now.round_limit (cut_by Kind.Least c.args.run.now.model.now.goal c.seen-lowest.result t.top) t.rest (boxes_of c.node.new.self) [] c.node.new.found c.in_ok-node.field-0 c.in-Done.is (subst (λ (xs : List (List ℤ)). IsVisit c.args.run.now.model.now c.args.run.now.program.now.kernels c.args.run.now.round_limit (cut_by Kind.Least c.args.run.now.model.now.goal c.seen-lowest.result t.top) t.rest (boxes_of c.node.new.self) xs c.node.new.found c.in_ok-node.field-0) c.new-fresh.ensures t.visit))));
       low = node_low c.args.run.now.model.now.goal (costs_seen c.seen-lowest.new.seat) (costs_seen c.record_fresh.new.seat) c.seen-lowest.result c.node.new.found c.seen-lowest.ensures.least sees;
-      counted = counted_more c.args.run.now.node_limit c.loop-boxes.nodes c.loop-boxes.invariant.count c.counted-nodes.result c.if-is_full.ensures.short c.loop-boxes.invariant.counted c.if-is_full.ensures.below
+      counted = counted_more c.args.run.now.node_limit c.boxes.nodes c.boxes.invariant.count c.counted-nodes.result c.if-is_full.ensures.short c.boxes.invariant.counted c.if-is_full.ensures.below
           c.counted-nodes.ensures.more c.counted-nodes.ensures.most;
       ready = c.in_ok-node.ensures.ready c.in-Done.is;
-      same_count = c.in_ok-node.ensures.count ∙ c.loop-boxes.invariant.same_count;
+      same_count = c.in_ok-node.ensures.count c.in-Done.is ∙ c.boxes.invariant.same_count;
       seat = c.record_fresh.ensures.seat;
-      parts = c.record_fresh.ensures.parts ∙ c.seen-lowest.ensures.parts ∙ c.loop-boxes.invariant.parts;
-      kept = λ x h. c.record_fresh.ensures.kept x (kept_by (costs_seen c.loop-boxes.seat) (costs_seen c.seen-lowest.new.seat) c.seen-lowest.result c.seen-lowest.ensures.seen x (c.loop-boxes.invariant.kept x h));
+      parts = c.record_fresh.ensures.parts ∙ c.seen-lowest.ensures.parts ∙ c.boxes.invariant.parts;
+      kept = λ x h. c.record_fresh.ensures.kept x (kept_by (costs_seen c.boxes.seat) (costs_seen c.seen-lowest.new.seat) c.seen-lowest.result c.seen-lowest.ensures.seen x (c.boxes.invariant.kept x h));
       posted = subst (λ (xs : List (List ℤ)). PostsCosts c.args.run.now.model.now.goal xs (costs_posted c.args.seat.now) (costs_posted c.record_fresh.new.seat)) (sym found)
-          (posts_more c.args.run.now.model.now.goal c.loop-boxes.found c.node.new.found (costs_posted c.args.seat.now) (costs_posted c.seen-lowest.new.seat) (costs_posted c.record_fresh.new.seat)
-          (subst (PostsCosts c.args.run.now.model.now.goal c.loop-boxes.found (costs_posted c.args.seat.now)) (sym c.seen-lowest.ensures.posted) c.loop-boxes.invariant.posted) posts);
+          (posts_more c.args.run.now.model.now.goal c.boxes.found c.node.new.found (costs_posted c.args.seat.now) (costs_posted c.seen-lowest.new.seat) (costs_posted c.record_fresh.new.seat)
+          (subst (PostsCosts c.args.run.now.model.now.goal c.boxes.found (costs_posted c.args.seat.now)) (sym c.seen-lowest.ensures.posted) c.boxes.invariant.posted) posts);
     }
 
 pub returns-in-GivenUp-clause-closing : goal.returns-in-GivenUp-clause-closing
 returns-in-GivenUp-clause-closing g c =
     let t = c.in_ok-node.ensures.visit in
     let up = of_given_up c.args.run.now.model.now c.args.run.now.program.now.kernels c.args.run.now.round_limit (cut_by Kind.Least c.args.run.now.model.now.goal c.seen-lowest.result t.top) t.rest (boxes_of c.node.new.self) [] c.node.new.found c.in_ok-node.field-0 c.in-GivenUp.is (subst (λ (xs : List (List ℤ)). IsVisit c.args.run.now.model.now c.args.run.now.program.now.kernels c.args.run.now.round_limit (cut_by Kind.Least c.args.run.now.model.now.goal c.seen-lowest.result t.top) t.rest (boxes_of c.node.new.self) xs c.node.new.found c.in_ok-node.field-0) c.new-fresh.ensures t.visit) in
-    out_of_rounds c.law_inside_order.ensures c.law_branches.ensures (least_of c.args.run.now.model.now c.args.run.now.program.now c.args.run.now.node_limit c.args.run.now.round_limit (costs_seen c.seen-lowest.new.seat) c.args.sub.now) refl (premises c.args.run.now.model.now c.args.run.now.program.now c.args.run.now.node_limit c.args.run.now.round_limit c.args.sub.now c.requires.run.program c.requires.run.model c.requires.inside c.len-length.ensures.in_range (costs_seen c.seen-lowest.new.seat)) c.requires.run.model (boxes_of c.loop-boxes.searcher) c.loop-boxes.invariant.lowest c.loop-boxes.invariant.count c.loop-boxes.found (reached_after_look c.args.run.now.model.now c.args.run.now.program.now c.args.run.now.node_limit c.args.run.now.round_limit c.args.sub.now c.requires.run.program c.requires.run.model c.requires.inside c.len-length.ensures.in_range c.law_more_posted.ensures (costs_seen c.loop-boxes.seat) (costs_seen c.seen-lowest.new.seat) c.seen-lowest.result (record { stack = (boxes_of c.loop-boxes.searcher); best = c.loop-boxes.invariant.lowest; count = c.loop-boxes.invariant.count; found = c.loop-boxes.found }) c.seen-lowest.ensures.seen c.loop-boxes.invariant.reached) t.rest t.top t.taken c.loop-boxes.nodes c.if-is_full.ensures.short c.loop-boxes.invariant.counted c.if-is_full.ensures.below c.seen-lowest.result (falls_to (costs_seen c.loop-boxes.seat) (costs_seen c.seen-lowest.new.seat) c.loop-boxes.invariant.lowest c.seen-lowest.result (kept_by (costs_seen c.loop-boxes.seat) (costs_seen c.seen-lowest.new.seat) c.seen-lowest.result c.seen-lowest.ensures.seen) c.loop-boxes.invariant.low c.seen-lowest.ensures.least) c.counted-nodes.result
-    (counted_more c.args.run.now.node_limit c.loop-boxes.nodes c.loop-boxes.invariant.count c.counted-nodes.result c.if-is_full.ensures.short c.loop-boxes.invariant.counted c.if-is_full.ensures.below
+    out_of_rounds c.law_inside_order.ensures c.law_branches.ensures (least_of c.args.run.now.model.now c.args.run.now.program.now c.args.run.now.node_limit c.args.run.now.round_limit (costs_seen c.seen-lowest.new.seat) c.args.sub.now) refl (premises c.args.run.now.model.now c.args.run.now.program.now c.args.run.now.node_limit c.args.run.now.round_limit c.args.sub.now c.requires.run.program c.requires.run.model c.requires.inside c.len-length.ensures.in_range (costs_seen c.seen-lowest.new.seat)) c.requires.run.model (boxes_of c.boxes.searcher) c.boxes.invariant.lowest c.boxes.invariant.count c.boxes.found (reached_after_look c.args.run.now.model.now c.args.run.now.program.now c.args.run.now.node_limit c.args.run.now.round_limit c.args.sub.now c.requires.run.program c.requires.run.model c.requires.inside c.len-length.ensures.in_range c.law_more_posted.ensures (costs_seen c.boxes.seat) (costs_seen c.seen-lowest.new.seat) c.seen-lowest.result (record { stack = (boxes_of c.boxes.searcher); best = c.boxes.invariant.lowest; count = c.boxes.invariant.count; found = c.boxes.found }) c.seen-lowest.ensures.seen c.boxes.invariant.reached) t.rest t.top t.taken c.boxes.nodes c.if-is_full.ensures.short c.boxes.invariant.counted c.if-is_full.ensures.below c.seen-lowest.result (falls_to (costs_seen c.boxes.seat) (costs_seen c.seen-lowest.new.seat) c.boxes.invariant.lowest c.seen-lowest.result (kept_by (costs_seen c.boxes.seat) (costs_seen c.seen-lowest.new.seat) c.seen-lowest.result c.seen-lowest.ensures.seen) c.boxes.invariant.low c.seen-lowest.ensures.least) c.counted-nodes.result
+    (counted_more c.args.run.now.node_limit c.boxes.nodes c.boxes.invariant.count c.counted-nodes.result c.if-is_full.ensures.short c.boxes.invariant.counted c.if-is_full.ensures.below
     c.counted-nodes.ensures.more c.counted-nodes.ensures.most) up.0
 
 pub returns-clause-least : goal.returns-clause-least
 returns-clause-least g c =
-    let empty = c.has_next.ensures.none in
-    λ e. covered c.law_inside_order.ensures c.law_branches.ensures (least_of c.args.run.now.model.now c.args.run.now.program.now c.args.run.now.node_limit c.args.run.now.round_limit (costs_seen c.loop-boxes.seat) c.args.sub.now) refl (premises c.args.run.now.model.now c.args.run.now.program.now c.args.run.now.node_limit c.args.run.now.round_limit c.args.sub.now c.requires.run.program c.requires.run.model c.requires.inside c.len-length.ensures.in_range (costs_seen c.loop-boxes.seat)) c.requires.run.model (boxes_of c.loop-boxes.searcher) c.loop-boxes.invariant.lowest c.loop-boxes.invariant.count c.loop-boxes.found c.loop-boxes.invariant.reached c.law_finds_least.ensures empty c.loop-boxes.invariant.low
+    let empty = of_false c.has_next.result (boxes_of c.boxes.searcher ≡ []) c.boxes-test.false c.has_next.ensures.none in
+    λ e. covered c.law_inside_order.ensures c.law_branches.ensures (least_of c.args.run.now.model.now c.args.run.now.program.now c.args.run.now.node_limit c.args.run.now.round_limit (costs_seen c.boxes.seat) c.args.sub.now) refl (premises c.args.run.now.model.now c.args.run.now.program.now c.args.run.now.node_limit c.args.run.now.round_limit c.args.sub.now c.requires.run.program c.requires.run.model c.requires.inside c.len-length.ensures.in_range (costs_seen c.boxes.seat)) c.requires.run.model (boxes_of c.boxes.searcher) c.boxes.invariant.lowest c.boxes.invariant.count c.boxes.found c.boxes.invariant.reached c.law_finds_least.ensures empty c.boxes.invariant.low

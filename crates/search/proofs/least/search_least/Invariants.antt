@@ -11,8 +11,8 @@ use Rattle.search.proofs.LeastRunLaws.{IsLow}
 use Rattle.search.proofs.least.search_least.Given as goal
 
 -- the boxes and what was found are those of a state that is reached with the costs that the seat has seen
-abbrev pub invariant-loop-boxes : goal.invariant-loop-boxes
-invariant-loop-boxes g l = record {
+abbrev pub invariant-boxes : goal.invariant-boxes
+invariant-boxes g l = record {
   lowest : Option ℤ;
   count : ℕ;
   reached : Reached (least_of l.run.model.now l.run.program.now l.run.node_limit l.run.round_limit (costs_seen l.seat) l.sub)
@@ -27,5 +27,5 @@ invariant-loop-boxes g l = record {
   posted : PostsCosts l.run.model.now.goal l.found (costs_posted l.initial.seat) (costs_posted l.seat);
 }
 
-abbrev pub decreases-loop-boxes : goal.decreases-loop-boxes
-decreases-loop-boxes g l = sum_by weight (boxes_of l.searcher)
+abbrev pub decreases-boxes : goal.decreases-boxes
+decreases-boxes g l = sum_by weight (boxes_of l.searcher)

@@ -1,0 +1,16 @@
+use Rattle.std.proofs.Common.{◌≡◌, ◌∙◌, ap₂, codes}
+use Rattle.std.proofs.lemmas.Result.{IfOk-weaker}
+use Rattle.clap.specs.Simple.{App, app_of, new_app, with_rule}
+use Rattle.command_line.specs.CommandLine.{command, flag_rule, letter_rule, plain_rule, word_rule}
+use Rattle.command_line.proofs.command.command.Goals as goal
+
+pub returns : goal.returns
+returns c =
+    let one = c.in_ok-arg.ensures.shape c.flag.ensures.own ∙ ap₂ with_rule c.new.ensures.app c.flag.ensures.rule in
+    let two = c.in_ok-arg-2.ensures.shape c.letter_number.ensures.own ∙ ap₂ with_rule one c.letter_number.ensures.rule in
+    let three = c.in_ok-arg-3.ensures.shape c.number.ensures.own ∙ ap₂ with_rule two c.number.ensures.rule in
+    let four = c.in_ok-arg-4.ensures.shape c.number-2.ensures.own ∙ ap₂ with_rule three c.number-2.ensures.rule in
+    let five = c.in_ok-arg-5.ensures.shape c.number-3.ensures.own ∙ ap₂ with_rule four c.number-3.ensures.rule in
+    let six = c.in_ok-arg-6.ensures.shape c.number-4.ensures.own ∙ ap₂ with_rule five c.number-4.ensures.rule in
+    let seven = c.in_ok-arg-7.ensures.shape c.plain_number.ensures.own ∙ ap₂ with_rule six c.plain_number.ensures.rule in
+    IfOk-weaker c.arg-8.result _ _ (λ made h. h.shape c.new-2.ensures.optional.1 ∙ ap₂ with_rule seven c.new-2.ensures.rule) c.arg-8.ensures

@@ -1,0 +1,5 @@
+mod AloneEnds
+mod LaneEnds
+mod Copies
+mod Noting
+mod Examples

@@ -1,0 +1,36 @@
+-- What a narrower that notes variables may narrow.
+use Rattle.std.proofs.Common.{◌≡◌, ℕ, ℤ, true, false, ◌<◌, List, length, replicate, sym, subst, arith}
+use Rattle.std.specs.Prelude.{slice_set}
+use Rattle.std.specs.List.{All}
+use Rattle.std.proofs.lemmas.List.{get_or-replicate}
+use Rattle.interval.specs.Boxes.{Bounds, put_of}
+use Rattle.guarded_tell.specs.declared.kernel.Kernel.{Kernel}
+use Rattle.guarded_tell.specs.Kernels.{IsKernel}
+use Rattle.fixpoint_laws.specs.Fixpoints.{IsClosed}
+use Rattle.moved_set.specs.Sets.{IsIn}
+use Rattle.moved_fixpoint.specs.Moved.{Set, count_of, AreMovedOrQuiet, QuietUnlessMoved}
+use Rattle.narrowing.specs.declared.alone.Alone.{Alone}
+use Rattle.narrowing.specs.declared.narrower.Narrower.{Narrower}
+use Rattle.narrowing.specs.Narrowers.{len_of, AreQuietUnlessNoted}
+
+module _ (law : QuietUnlessMoved) where
+  pub quiet_where_closed : (n : Narrower) (kernels : List Kernel) (b : Bounds) → IsClosed b kernels → AreQuietUnlessNoted n kernels b
+  quiet_where_closed (Narrower.Alone alone) kernels b closed = law.closed b kernels alone.sets.moved closed
+  quiet_where_closed (Narrower.Lanes lanes) kernels b closed = tt
+
+  module _ (n : Narrower) (alone : Alone) (is : n ≡ Narrower.Alone alone) (moved : Set) where
+    -- a variable is noted, and its bounds are put
+    pub one_noted : (v : ℕ) → v < len_of n → moved ≡ slice_set alone.sets.moved v true → (kernels : List Kernel) (b : Bounds) (low high : ℤ) →
+        All (IsKernel (length b)) kernels → AreQuietUnlessNoted n kernels b → AreMovedOrQuiet moved (put_of b v low high) kernels
+    one_noted v h set kernels b low high are quiet =
+        let known : AreMovedOrQuiet alone.sets.moved b kernels = subst (λ (m : Narrower). AreQuietUnlessNoted m kernels b) is quiet in
+        let below : v < count_of alone.sets.moved = subst (λ (m : Narrower). v < len_of m) is h in
+        subst (λ (s : Set). AreMovedOrQuiet s (put_of b v low high) kernels) (sym set) (law.put b kernels alone.sets.moved v low high are below known)
+
+    -- all are noted
+    pub all_noted : moved ≡ replicate (count_of alone.sets.moved) true → (kernels : List Kernel) (b : Bounds) → length b ≡ len_of n →
+        All (IsKernel (length b)) kernels → AreMovedOrQuiet moved b kernels
+    all_noted set kernels b e are =
+        let same : length b ≡ count_of alone.sets.moved = subst (λ (m : Narrower). length b ≡ len_of m) is e in
+        law.all b kernels moved are
+        (λ v h. subst (λ (s : Set). IsIn s v) (sym set) (get_or-replicate (count_of alone.sets.moved) v true false (omega arith)))

@@ -1,0 +1,10 @@
+use Rattle.std.proofs.Common.{◌≡◌, length}
+use Rattle.narrowing.proofs.Copies.{AreSame}
+use Rattle.narrowing.proofs.lanes.take_bounds.Given as goal
+
+abbrev pub invariant-loop-v : goal.invariant-loop-v
+invariant-loop-v l = record {
+  stack : l.b.stack ≡ l.initial.b.stack;
+  same_length : length l.b.current ≡ length l.initial.b.current;
+  copied : AreSame l.b.current l.other l.v;
+}

@@ -1,0 +1,75 @@
+//! What narrows alone, by propagation that asks what moved.
+
+ghost use Rattle.std.specs.Prelude.{◌≡◌, ◌≤◌, length, All, IfOk};
+ghost use Rattle.interval.specs.Limits.{box_limit};
+ghost use Rattle.guarded_tell.specs.Kernels.{IsKernel};
+ghost use Rattle.moved_fixpoint.specs.Moved.{AreMasksOf, AreMovedOrQuiet};
+ghost use Rattle.narrowing.specs.Narrowing.{IsNarrowed};
+ghost use Rattle.narrowing.specs.Narrowers.{IsAloneFor};
+
+use crate::narrowed::Narrowed;
+use crate::propagation::Propagation;
+use fixpoint_laws::Limited;
+use interval::{BoxOf, NoMemory};
+use moved_fixpoint::{MovedSets, settle_moved};
+use rounds::Gate;
+use std::alloc::Global;
+use trailed_box::TrailedBox;
+
+/// A box of so many variables, each of them 0.
+pub(crate) fn flat_box(alloc: Global, len: u32) -> Result<BoxOf, NoMemory>
+    requires { len ≤ box_limit }
+    ensures { IfOk result (λ b. length b ≡ len) }
+{
+    let pairs = vec![in alloc; (0, 0); len as usize]?;
+    BoxOf::from_pairs(alloc, pairs.as_slice())
+}
+
+/// What narrows alone: the variables that are noted, and where the kernels read from.
+#[derive(Drop)]
+pub struct Alone {
+    pub(crate) sets: MovedSets,
+    pub(crate) spare: BoxOf,
+}
+
+impl Alone {
+    /// For boxes of so many variables. None is noted.
+    pub(crate) fn new(alloc: Global, len: u32) -> Result<Alone, NoMemory>
+        requires { len ≤ box_limit }
+        ensures { IfOk result (λ alone. IsAloneFor alone len) }
+    {
+        Ok(Alone {
+            sets: MovedSets::new(alloc, len)?,
+            spare: flat_box(alloc, len)?,
+        })
+    }
+
+    /// Narrows the box by the kernels that name a noted variable, and so on. No variable is noted then.
+    pub(crate) fn narrow<L: Gate>(
+        &mut self,
+        what: &Propagation<'_, L>,
+        b: &mut TrailedBox,
+    ) -> Result<Narrowed, NoMemory>
+        requires kernels { All (IsKernel (length b.old.current)) what.now.kernels.now }
+        requires masks { AreMasksOf what.now.kernels.now (length b.old.current) what.now.masks.now }
+        requires fits { IsAloneFor self.old (length b.old.current) }
+        requires quiet { AreMovedOrQuiet self.old.sets.moved b.old.current what.now.kernels.now }
+        ensures fits { IsAloneFor self.new (length b.old.current) }
+        ensures stack { b.new.stack ≡ b.old.stack }
+        ensures same_length { length b.new.current ≡ length b.old.current }
+        ensures narrowed { IfOk result (IsNarrowed what.now.kernels.now what.now.round_limit b.old.current b.new.current) }
+    {
+        match settle_moved(
+            b,
+            &mut self.spare,
+            what.kernels,
+            what.masks,
+            &mut self.sets,
+            what.round_limit,
+        )? {
+            Limited::Fixed { .. } => Ok(Narrowed::Fixed),
+            Limited::Failed { .. } => Ok(Narrowed::Failed),
+            Limited::RoundsSpent { .. } => Ok(Narrowed::GivenUp),
+        }
+    }
+}

@@ -1,0 +1,13 @@
+//! Laws of narrowers, as functions that do nothing.
+
+ghost use Rattle.narrowing.specs.Narrowers.{QuietWhereClosed};
+
+use moved_fixpoint::law_quiet_unless_moved;
+
+/// A search goes on from a closed box: any narrower may narrow what it makes of it, once it has noted the variables whose
+/// bounds were put.
+pub fn law_quiet_where_closed()
+    ensures { QuietWhereClosed }
+{
+    law_quiet_unless_moved();
+}

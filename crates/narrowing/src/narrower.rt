@@ -1,0 +1,109 @@
+//! What narrows the boxes of one searcher.
+
+ghost use Rattle.std.specs.Prelude.{◌≡◌, ◌≤◌, ◌<◌, ℕ, ℤ, List, length, All, IfOk};
+ghost use Rattle.interval.specs.Limits.{box_limit};
+ghost use Rattle.interval.specs.Boxes.{Bounds, put_of};
+ghost use Rattle.guarded_tell.specs.declared.kernel.Kernel.{Kernel};
+ghost use Rattle.guarded_tell.specs.Kernels.{IsKernel};
+ghost use Rattle.moved_fixpoint.specs.Moved.{AreMasksOf};
+ghost use Rattle.rounds.specs.Shares.{share_limit};
+ghost use Rattle.narrowing.specs.Narrowing.{IsNarrowed};
+ghost use Rattle.narrowing.specs.Narrowers.{Fits, AreQuietUnlessNoted, len_of, lanes_of, lanes_for};
+
+use crate::alone::Alone;
+use crate::lanes::Lanes;
+use crate::narrowed::Narrowed;
+use crate::propagation::Propagation;
+use guarded_tell::Kernel;
+use interval::NoMemory;
+use moved_fixpoint::law_quiet_unless_moved;
+use rounds::Gate;
+use std::alloc::Global;
+use std::thread::Threads;
+use trailed_box::TrailedBox;
+
+/// What narrows the boxes of one searcher, kept over its nodes and its runs. The searcher notes each variable whose bounds
+/// it puts.
+#[derive(Drop)]
+pub enum Narrower {
+    /// One lane, which asks what moved.
+    Alone(Alone),
+    /// Several lanes, which run all kernels in each round.
+    Lanes(Lanes),
+}
+
+impl Narrower {
+    /// A narrower of so many lanes for these kernels and boxes of so many variables; without kernels it has one lane. No
+    /// variable is noted. More than 2^32 kernels of several lanes count as want of memory.
+    pub fn new(
+        alloc: Global,
+        kernels: &[Kernel],
+        len: u32,
+        lanes: u32,
+    ) -> Result<Narrower, NoMemory>
+        requires len { len ≤ box_limit }
+        requires some { 1 ≤ lanes }
+        requires short { lanes ≤ share_limit }
+        ensures fits { IfOk result (λ made. Fits made kernels.now len) }
+        ensures lanes { IfOk result (λ made. lanes_of made ≡ lanes_for kernels.now lanes) }
+    {
+        if lanes == 1 || kernels.is_empty() {
+            Ok(Narrower::Alone(Alone::new(alloc, len)?))
+        } else {
+            Ok(Narrower::Lanes(Lanes::new(alloc, kernels, len, lanes)?))
+        }
+    }
+
+    /// Notes variable `v`, whose bounds are put.
+    pub fn note(&mut self, v: u32)
+        requires { v < len_of self.old }
+        ensures fits { (kernels : List Kernel) (count : ℕ) → Fits self.old kernels count → Fits self.new kernels count }
+        ensures lanes { lanes_of self.new ≡ lanes_of self.old }
+        ensures quiet { (kernels : List Kernel) (b : Bounds) (low high : ℤ) → All (IsKernel (length b)) kernels →
+            AreQuietUnlessNoted self.old kernels b → AreQuietUnlessNoted self.new kernels (put_of b v low high) }
+    {
+        law_quiet_unless_moved();
+        if let Narrower::Alone(alone) = self {
+            alone.sets.moved.mark(v);
+        }
+    }
+
+    /// Notes all variables, for a box of which nothing is known.
+    pub fn note_all(&mut self)
+        ensures fits { (kernels : List Kernel) (count : ℕ) → Fits self.old kernels count → Fits self.new kernels count }
+        ensures lanes { lanes_of self.new ≡ lanes_of self.old }
+        ensures quiet { (kernels : List Kernel) (b : Bounds) → length b ≡ len_of self.old → All (IsKernel (length b)) kernels →
+            AreQuietUnlessNoted self.new kernels b }
+    {
+        law_quiet_unless_moved();
+        if let Narrower::Alone(alone) = self {
+            alone.sets.moved.mark_all();
+        }
+    }
+
+    /// Narrows the box to the greatest closed box inside it, or finds that there is none, or gives up after so many rounds
+    /// as the limit. Each kernel that names none of the variables that are noted has to be quiet on the box; none is noted
+    /// then. The stack stays as it is, and so it does where memory is refused.
+    pub fn narrow<R: Threads + Sync, L: Gate + Sync>(
+        &mut self,
+        rt: &R,
+        alloc: Global,
+        what: &Propagation<'_, L>,
+        b: &mut TrailedBox,
+    ) -> Result<Narrowed, NoMemory>
+        requires kernels { All (IsKernel (length b.old.current)) what.now.kernels.now }
+        requires masks { AreMasksOf what.now.kernels.now (length b.old.current) what.now.masks.now }
+        requires fits { Fits self.old what.now.kernels.now (length b.old.current) }
+        requires quiet { AreQuietUnlessNoted self.old what.now.kernels.now b.old.current }
+        ensures fits { Fits self.new what.now.kernels.now (length b.old.current) }
+        ensures lanes { lanes_of self.new ≡ lanes_of self.old }
+        ensures stack { b.new.stack ≡ b.old.stack }
+        ensures same_length { length b.new.current ≡ length b.old.current }
+        ensures narrowed { IfOk result (IsNarrowed what.now.kernels.now what.now.round_limit b.old.current b.new.current) }
+    {
+        match self {
+            Narrower::Alone(alone) => alone.narrow(what, b),
+            Narrower::Lanes(lanes) => lanes.narrow(rt, alloc, what, b),
+        }
+    }
+}

@@ -1,0 +1,126 @@
+-- A searcher's boxes, and what it knows of them, at each move.
+use Rattle.std.proofs.Common.{◌≡◌, ◌≢◌, ℕ, ℤ, pos, ◌-ℤ◌, Option, Some, None, ◌<◌, Bool, true, false, cond, List, [], ◌∷◌, ◌++◌, length, map, refl, sym, ap, subst, ◌∙◌, arith, length-append}
+use Rattle.std.specs.List.{All}
+use Rattle.std.proofs.lemmas.List.{append_assoc, map-append}
+use Rattle.std.proofs.lemmas.List.Elements.{All-nil, All-cons, All-append}
+use Rattle.interval.specs.Boxes.{Bounds, IsInside, IsProper, InsideOrder, put_of}
+use Rattle.constraint_model.specs.declared.model.FznModel.{FznModel}
+use Rattle.trailed_box.specs.Trailed.{Left, left_of, box_of, boxes_of as left_boxes}
+use Rattle.branching.specs.declared.fronts.Front.{Front}
+use Rattle.branching.specs.Fronts.{IsFrontOf, FrontsStay}
+use Rattle.guarded_tell.specs.declared.kernel.Kernel.{Kernel}
+use Rattle.constraint_model.specs.declared.model.Goal.{Goal}
+use Rattle.search.specs.declared.kind.Kind.{Kind}
+use Rattle.search.specs.Machine.{cut_by}
+use Rattle.search.proofs.CutLaws.{at_most_inside}
+use Rattle.search.specs.Stacks.{IsLeft, AreFronts, AreSound, IsFrontNear}
+use Rattle.search.proofs.StackLaws.{all_last, all_front}
+
+-- ---- fronts of what is left
+
+no_fronts : (model : FznModel) (fronts : List Front) (front : Front) → AreFronts model [] (fronts ++ front ∷ []) → ⊥
+no_fronts model [] front h = h
+no_fronts model (f ∷ fronts) front h = h
+
+no_lefts : (model : FznModel) (lefts : List Left) (left : Left) → AreFronts model (lefts ++ left ∷ []) [] → ⊥
+no_lefts model [] left h = h
+no_lefts model (l ∷ lefts) left h = h
+
+pub fronts_push : (model : FznModel) (lefts : List Left) (fronts : List Front) (left : Left) (front : Front) → AreFronts model lefts fronts → IsFrontOf model left.base front →
+    AreFronts model (lefts ++ left ∷ []) (fronts ++ front ∷ [])
+fronts_push model [] [] left front h k = (k, tt)
+fronts_push model [] (f ∷ fronts) left front h k = absurd h
+fronts_push model (l ∷ lefts) [] left front h k = absurd h
+fronts_push model (l ∷ lefts) (f ∷ fronts) left front h k = (h.0, fronts_push model lefts fronts left front h.1 k)
+
+pub fronts_pop : (model : FznModel) (lefts : List Left) (fronts : List Front) (left : Left) (front : Front) → AreFronts model (lefts ++ left ∷ []) (fronts ++ front ∷ []) →
+    AreFronts model lefts fronts × IsFrontOf model left.base front
+fronts_pop model [] [] left front h = (tt, h.0)
+fronts_pop model [] (f ∷ fronts) left front h = absurd (no_fronts model fronts front h.1)
+fronts_pop model (l ∷ lefts) [] left front h = absurd (no_lefts model lefts left h.1)
+fronts_pop model (l ∷ lefts) (f ∷ fronts) left front h = let q = fronts_pop model lefts fronts left front h.1 in ((h.0, q.0), q.1)
+
+pub some_fronts : (model : FznModel) (stack lefts : List Left) (fronts : List Front) (left : Left) → stack ≡ lefts ++ left ∷ [] → AreFronts model stack fronts → fronts ≢ []
+some_fronts model stack lefts fronts left e h none =
+    no_lefts model lefts left (subst (λ (fs : List Front). AreFronts model (lefts ++ left ∷ []) fs) none (subst (λ (ls : List Left). AreFronts model ls fronts) e h))
+
+-- ---- what is left
+
+module _ (model : FznModel) (kernels : List Kernel) where
+  pub sound_none : (stack : List Left) (fronts : List Front) → stack ≡ [] → fronts ≡ [] → AreSound model kernels stack fronts
+  sound_none stack fronts e f = record {
+    parts = subst (λ (ls : List Left). All (IsLeft kernels) ls) (sym e) (All-nil (IsLeft kernels));
+    fronts = subst (λ (ls : List Left). AreFronts model ls fronts) (sym e) (subst (λ (fs : List Front). AreFronts model [] fs) (sym f) tt);
+  }
+
+  pub sound_push : (stack more : List Left) (fronts others : List Front) (left : Left) (front : Front) → more ≡ stack ++ left ∷ [] → others ≡ fronts ++ front ∷ [] →
+      IsLeft kernels left → IsFrontOf model left.base front → AreSound model kernels stack fronts → AreSound model kernels more others
+  sound_push stack more fronts others left front e f l k h = record {
+    parts = subst (λ (ls : List Left). All (IsLeft kernels) ls) (sym e) (All-append (IsLeft kernels) stack (left ∷ []) h.parts (All-cons (IsLeft kernels) left [] l (All-nil (IsLeft kernels))));
+    fronts = subst (λ (ls : List Left). AreFronts model ls others) (sym e) (subst (λ (fs : List Front). AreFronts model (stack ++ left ∷ []) fs) (sym f) (fronts_push model stack fronts left front h.fronts k));
+  }
+
+  module _ (stack lefts : List Left) (fronts others : List Front) (left : Left) (e : stack ≡ lefts ++ left ∷ []) (parts : All (IsLeft kernels) stack) (are_fronts : AreFronts model stack fronts) where
+    pub last_left : IsLeft kernels left
+    last_left = all_last (IsLeft kernels) lefts left (subst (λ (ls : List Left). All (IsLeft kernels) ls) e parts)
+
+    module _ (front : Front) (f : fronts ≡ others ++ front ∷ []) where
+      both : AreFronts model lefts others × IsFrontOf model left.base front
+      both = fronts_pop model lefts others left front
+          (subst (λ (fs : List Front). AreFronts model (lefts ++ left ∷ []) fs) f (subst (λ (ls : List Left). AreFronts model ls fronts) e are_fronts))
+
+      pub sound_pop : AreSound model kernels lefts others
+      sound_pop = record {
+        parts = all_front (IsLeft kernels) lefts (left ∷ []) (subst (λ (ls : List Left). All (IsLeft kernels) ls) e parts);
+        fronts = both.0;
+      }
+
+      pub last_front : IsFrontOf model left.base front
+      last_front = both.1
+
+-- ---- boxes
+
+pub opened : {A : Type 0} (t : Bool) (xs : List A) → cond t xs [] ≢ [] → t ≡ true
+opened true xs h = refl
+opened false xs h = absurd (h refl)
+
+pub when_open : {A : Type 0} (t : Bool) (xs : List A) → t ≡ true → cond t xs [] ≡ xs
+when_open t xs e = ap (λ (u : Bool). cond u xs []) e
+
+pub when_closed : {A : Type 0} (t : Bool) (xs : List A) → t ≡ false → cond t xs [] ≡ []
+when_closed t xs e = ap (λ (u : Bool). cond u xs []) e
+
+pub some_box : {A : Type 0} (t : Bool) (xs : List A) (x : A) → t ≡ true → cond t (xs ++ x ∷ []) [] ≢ []
+some_box t xs x e k = absurd (omega (arith, ap length (sym (when_open t (xs ++ x ∷ []) e) ∙ k), length-append xs (x ∷ [])))
+
+pub boxes_more : (lefts : List Left) (left : Left) → left_boxes (lefts ++ left ∷ []) ≡ left_boxes lefts ++ box_of left ∷ []
+boxes_more lefts left = map-append box_of lefts (left ∷ [])
+
+-- a box that was left is the current one again
+pub boxes_back : (t : Bool) (stack lefts : List Left) (base current : Bounds) (var : ℕ) (low high : ℤ) → t ≡ true → stack ≡ lefts ++ left_of base var low high ∷ [] →
+    current ≡ put_of base var low high → cond t (left_boxes lefts ++ current ∷ []) [] ≡ left_boxes stack
+boxes_back t stack lefts base current var low high e s c =
+    when_open t (left_boxes lefts ++ current ∷ []) e ∙ ap (λ (b : Bounds). left_boxes lefts ++ b ∷ []) c
+    ∙ sym (boxes_more lefts (left_of base var low high)) ∙ ap left_boxes (sym s)
+
+-- one part is left, and the other is the current box
+pub boxes_parted : (t : Bool) (stack lefts : List Left) (base current : Bounds) (var : ℕ) (low high : ℤ) → t ≡ true → stack ≡ lefts ++ left_of base var low high ∷ [] →
+    cond t (left_boxes stack ++ current ∷ []) [] ≡ left_boxes lefts ++ put_of base var low high ∷ current ∷ []
+boxes_parted t stack lefts base current var low high e s =
+    when_open t (left_boxes stack ++ current ∷ []) e ∙ ap (λ (ls : List Left). left_boxes ls ++ current ∷ []) s
+    ∙ ap (λ (bs : List Bounds). bs ++ current ∷ []) (boxes_more lefts (left_of base var low high))
+    ∙ append_assoc (left_boxes lefts) (put_of base var low high ∷ []) (current ∷ [])
+
+-- ---- fronts
+
+pub near_inside : InsideOrder → (model : FznModel) (b c : Bounds) (front : Front) → IsInside c b → IsFrontNear model b front → IsFrontNear model c front
+near_inside order model b c front i h = record { outer = h.outer; inside = order.through c b h.outer i h.inside; is_front = h.is_front }
+
+pub front_here : FrontsStay → (model : FznModel) (b : Bounds) (front : Front) → IsProper b → IsFrontNear model b front → IsFrontOf model b front
+front_here stay model b front proper h = stay model h.outer b front h.is_front h.inside proper
+
+-- ---- a cut box
+
+pub cut_lies : InsideOrder → (goal : Goal) (best : Option ℤ) (b : Bounds) → IsInside (cut_by Kind.Least goal best b) b
+cut_lies order goal None b = order.itself b
+cut_lies order goal (Some best) b = at_most_inside order goal (best -ℤ pos 1) b

@@ -1,0 +1,17 @@
+use Rattle.std.proofs.Common.{◌≡◌, List, length, sym, subst, ◌∙◌}
+use Rattle.interval.specs.Boxes.{Bounds}
+use Rattle.narrowing.specs.Narrowers.{Fits, AreQuietUnlessNoted}
+use Rattle.search.proofs.SearcherLaws.{sound_none}
+use Rattle.search.proofs.searcher.Searcher.new.Goals as goal
+
+pub returns-clause-ready : goal.returns-clause-ready
+returns-clause-ready g c =
+    let is_sub = c.in_ok-boxes.ensures.current ∙ c.in_ok-copy.ensures in
+    record {
+      left = record {
+        sound = sound_none c.args.run.now.model.now c.args.run.now.program.now.kernels c.in_ok-boxes.boxes.stack c.new-fronts.result.items c.in_ok-boxes.ensures.stack c.new-fronts.ensures.items;
+        fits = subst (λ (b : Bounds). Fits c.in_ok-narrower.narrower c.args.run.now.program.now.kernels (length b)) (sym is_sub) c.in_ok-narrower.ensures.fits;
+      };
+      quiet = λ _. subst (λ (b : Bounds). AreQuietUnlessNoted c.in_ok-narrower.narrower c.args.run.now.program.now.kernels b) (sym is_sub) c.in_ok-narrower.ensures.quiet;
+      front = λ _. record { outer = c.in_ok-boxes.boxes.current; inside = c.law_inside_order.ensures.itself c.in_ok-boxes.boxes.current; is_front = c.first-front.ensures c.args.run.now.model.now c.in_ok-boxes.boxes.current };
+    }

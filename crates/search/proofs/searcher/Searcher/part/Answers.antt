@@ -1,0 +1,62 @@
+use Rattle.std.proofs.Common.{◌≡◌, ℕ, true, cond, List, [], ◌∷◌, ◌++◌, length, ap, sym, subst, ◌∙◌, arith}
+use Rattle.std.specs.List.{All}
+use Rattle.std.proofs.lemmas.List.{length-set}
+use Rattle.interval.specs.Boxes.{Bounds, IsInside, put_of}
+use Rattle.guarded_tell.specs.Kernels.{IsKernel}
+use Rattle.trailed_box.specs.declared.trail.Part.{Part}
+use Rattle.trailed_box.specs.Trailed.{Left, IsPart, left_of, boxes_of as left_boxes}
+use Rattle.branching.specs.Fronts.{right_by, left_by}
+use Rattle.narrowing.specs.Narrowers.{Fits, AreQuietUnlessNoted}
+use Rattle.search.specs.Stacks.{AreSound}
+use Rattle.search.proofs.SearcherLaws.{sound_push, boxes_parted}
+use Rattle.search.proofs.searcher.Searcher.part.Goals as goal
+
+pub put-requires-clause-part : goal.put-requires-clause-part
+put-requires-clause-part g c =
+    subst (λ (p : Part). IsPart (length c.leave.new.boxes.current) p.var p.low p.high) (sym c.first_part.ensures)
+    (subst (λ (b : Bounds). IsPart (length b) c.args.parts.pair c.args.parts.left_low c.args.parts.left_high) (sym c.in_ok-leave.ensures.current)
+    (record { variable = c.requires.fits.pair; low_in_range = c.requires.fits.left_low; high_in_range = c.requires.fits.left_high }))
+
+pub put-requires-clause-noted : goal.put-requires-clause-noted
+put-requires-clause-noted g c =
+    let v = c.requires.fits.pair in
+    let e = c.requires.left.fits.len in
+    let f = ap (λ (p : Part). p.var) c.first_part.ensures in
+    omega (arith, v, e, f)
+
+pub returns-clause-ready : goal.returns-clause-ready
+returns-clause-ready g c =
+    let base = c.args.self.now.boxes.current in
+    let left = left_of base c.args.parts.pair c.args.parts.right_low c.args.parts.right_high in
+    let same = c.in_ok-leave.ensures.current in
+    let is_base : c.put.new.boxes.current ≡ left_by base c.args.parts =
+    c.in_ok-put.ensures.current ∙ ap (λ (p : Part). put_of c.leave.new.boxes.current p.var p.low p.high) c.first_part.ensures ∙ ap (λ (b : Bounds). left_by b c.args.parts) same in
+    let lengths : length c.put.new.boxes.current ≡ length base = ap length is_base ∙ length-set base c.args.parts.pair _ in
+    record {
+      left = record {
+        sound = sound_push c.args.run.now.model.now c.args.run.now.program.now.kernels c.args.self.now.boxes.stack c.put.new.boxes.stack c.args.self.now.fronts.items c.keep.new.fronts.items left c.args.front
+            (c.in_ok-put.ensures.stack ∙ c.in_ok-leave.ensures.stack) c.in_ok-keep.ensures (record { closed = c.requires.closed; inside = c.requires.parts.second_part.inside }) c.requires.front c.requires.left.sound;
+        fits = subst (λ (n : ℕ). Fits c.put.new.narrower c.args.run.now.program.now.kernels n) (sym lengths) (c.in_ok-put.ensures.fits c.args.run.now.program.now.kernels (length base) c.requires.left.fits);
+      };
+      quiet = λ _. c.in_ok-put.ensures.quiet c.args.run.now.program.now.kernels (subst (λ (b : Bounds). All (IsKernel (length b)) c.args.run.now.program.now.kernels) (sym same) c.requires.run.kernels)
+          (subst (λ (b : Bounds). AreQuietUnlessNoted c.args.self.now.narrower c.args.run.now.program.now.kernels b) (sym same) (c.law_quiet_where_closed.ensures c.args.self.now.narrower c.args.run.now.program.now.kernels base c.requires.closed));
+      front = λ _. record {
+        outer = base;
+        inside = subst (λ (b : Bounds). IsInside b base) (sym is_base) c.requires.parts.first_part.inside;
+        is_front = c.requires.front;
+      };
+    }
+
+pub returns-clause-count : goal.returns-clause-count
+returns-clause-count g c =
+    ap length (c.in_ok-put.ensures.current ∙ ap (λ (p : Part). put_of c.leave.new.boxes.current p.var p.low p.high) c.first_part.ensures ∙ ap (λ (b : Bounds). left_by b c.args.parts) c.in_ok-leave.ensures.current)
+    ∙ length-set c.args.self.now.boxes.current c.args.parts.pair _
+
+pub returns-clause-boxes : goal.returns-clause-boxes
+returns-clause-boxes g c =
+    let base = c.args.self.now.boxes.current in
+    let is_base : c.put.new.boxes.current ≡ left_by base c.args.parts =
+    c.in_ok-put.ensures.current ∙ ap (λ (p : Part). put_of c.leave.new.boxes.current p.var p.low p.high) c.first_part.ensures ∙ ap (λ (b : Bounds). left_by b c.args.parts) c.in_ok-leave.ensures.current in
+    boxes_parted c.args.self.now.is_open c.put.new.boxes.stack c.args.self.now.boxes.stack base c.put.new.boxes.current c.args.parts.pair c.args.parts.right_low c.args.parts.right_high
+    c.requires.open (c.in_ok-put.ensures.stack ∙ c.in_ok-leave.ensures.stack)
+    ∙ ap (λ (b : Bounds). left_boxes c.args.self.now.boxes.stack ++ right_by base c.args.parts ∷ b ∷ []) is_base

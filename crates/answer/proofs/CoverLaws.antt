@@ -180,3 +180,9 @@ nothing_solves model collected objective reach empty a solves =
   where
     none : {P : Assignment → Type 0} → Any P [] → ⊥
     none h = let l = h.2 in omega arith
+
+pub best_is_solution : (model : FznModel) (collected : List Assignment) (a : Assignment) → All (IsSolution model) collected → IsFirstLeast model.goal collected a → IsSolution model a
+best_is_solution model collected a solve best = subst (IsSolution model) there.2 (solve there.0 a there.1)
+  where
+    there : Contains collected a
+    there = subst (λ (xs : List Assignment). Contains xs a) (sym best.there) (Contains-append_right best.before (a ∷ best.after) a (0, omega arith, refl))

@@ -167,7 +167,7 @@ module _ (law : MorePosted) (model : FznModel) (options : Options) (b : Bounds) 
 
 module _ (goal : Goal) where
   -- the costs fall
-  abbrev Falls : List Assignment → Type 0
+  abbrev pub Falls : List Assignment → Type 0
   Falls found = AllPairs (λ a b. (c d : ℤ) → cost_of goal a ≡ Some c → cost_of goal b ≡ Some d → d <ℤ c) found
 
   falls_tail : (x : Assignment) (xs : List Assignment) → Falls (x ∷ xs) → Falls xs
@@ -177,7 +177,7 @@ module _ (goal : Goal) where
   falls_head x y xs h (k, l, e) c d p q = h 0 (suc k) y (omega arith) (omega arith) c d p (ap (cost_of goal) e ∙ q)
 
   -- the last costs as much as each at most
-  last_least : (found : List Assignment) (cost : ℤ) → ((a : Assignment) → (c : ℤ) × (cost_of goal a ≡ Some c)) → Falls found → (a : Assignment) → Contains found a → cost_of goal a ≡ Some cost →
+  pub last_least : (found : List Assignment) (cost : ℤ) → ((a : Assignment) → (c : ℤ) × (cost_of goal a ≡ Some c)) → Falls found → (a : Assignment) → Contains found a → cost_of goal a ≡ Some cost →
       (z : Assignment) × (last_of found ≡ Some z) × Contains found z × CostsAtMost goal cost z
   last_least [] cost costs falls a there e = absurd (nothing_there a there)
   last_least (x ∷ []) cost costs falls a there e =
@@ -196,7 +196,7 @@ module _ (goal : Goal) where
       at_most p q r h k = omega (arith, ints)
 
   -- each cost of the one list is that of an entry of the other
-  cost_there : (found : List Assignment) (costs : List ℤ) → map (cost_of goal) found ≡ map (λ (c : ℤ). Some c) costs → (cost : ℤ) → Contains costs cost → (a : Assignment) × Contains found a × (cost_of goal a ≡ Some cost)
+  pub cost_there : (found : List Assignment) (costs : List ℤ) → map (cost_of goal) found ≡ map (λ (c : ℤ). Some c) costs → (cost : ℤ) → Contains costs cost → (a : Assignment) × Contains found a × (cost_of goal a ≡ Some cost)
   cost_there [] [] e cost there = absurd (nothing_there cost there)
   cost_there [] (c ∷ cs) e cost there = absurd cc
   cost_there (a ∷ xs) [] e cost there = absurd cc

@@ -9,3 +9,6 @@ pub mod RunLists
 pub mod LeastRunLists
 pub mod CoverLaws
 pub mod BestLaws
+pub mod JobLaws
+pub mod LeastJobLaws
+pub mod GivenLaws

@@ -6,5 +6,8 @@ pub mod Places
 pub mod Results
 pub mod Unfinished
 pub mod Answers
+pub mod Given
+pub mod Plans
 pub mod Runs
+pub mod Jobs
 pub mod Laws

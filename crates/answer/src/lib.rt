@@ -1,8 +1,14 @@
 //! The answer of a model: its subproblems are searched by workers, and their results put together.
 #![tactic(auto)]
 
+mod all_job;
 mod collecting;
+mod first_job;
+mod laws;
+mod least_job;
 mod objective;
 mod options;
+mod plan;
 
+pub use laws::law_one_finished;
 pub use options::{Answer, Options};

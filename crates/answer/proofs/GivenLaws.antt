@@ -1,5 +1,6 @@
 -- What is put together of the results is an answer.
 use Rattle.std.proofs.Common.{◌≡◌, ◌≢◌, ℕ, zero, suc, ℤ, ◌<◌, Bool, true, false, List, [], ◌∷◌, ◌++◌, length, get_or, slice_get, take, flat_map, All, Any, Contains, Option, None, Some, refl, sym, ap, subst, subst₂, ◌∙◌, ◌⊎◌, inl, inr, arith}
+use Rattle.std.specs.Bool.{OnTrue, OnFalse}
 use Rattle.std.proofs.lemmas.Option.{slice_get-get_or}
 use Rattle.std.proofs.lemmas.List.{get_or_default}
 use Rattle.std.proofs.lemmas.List.Elements.{All-nil, All-cons, All-append, All-head, Contains-append_right}
@@ -34,11 +35,11 @@ use Rattle.answer.specs.Places.{HasResult, AreResults}
 use Rattle.answer.specs.Results.{program_of, listed, IsFirstResult, AreFirstResults, first_collected, IsFirstSpent, IsAllResult, AreAllResults, all_collected, IsAllSpent, IsLeastResult, least_collected, IsLeastSpent, AreLeastResults}
 use Rattle.answer.specs.Unfinished.{mark_where, IsFirstLeast, IsBestOf, FindsBest, IsBestCollected, IsLeastCollected, GivesCollected}
 use Rattle.answer.specs.Runs.{ReachAll, AreWholeResults}
-use Rattle.answer.specs.Given.{mark_for, IsGiven}
+use Rattle.answer.specs.Given.{mark_for, IsBestKnown, IsGiven}
 use Rattle.answer.proofs.HeadLaws.{first_of_all, all_of_all}
 use Rattle.answer.proofs.ListedLaws.{start_can_be_cut, can_be_cut, lists_solutions, cut_in_start, cut_in_range, lists_solutions_at}
 use Rattle.answer.proofs.SolveLaws.{firsts_solve, all_solve, least_solve}
-use Rattle.answer.proofs.CoverLaws.{nothing_solves, best_is_solution}
+use Rattle.answer.proofs.CoverLaws.{nothing_solves, best_is_solution, least_is_best}
 
 -- ---- without limits no search is stopped by one
 
@@ -253,3 +254,43 @@ module _ (order : InsideOrder) (one : OneList) (every : EveryList) (laws : PathL
           let done : IsFinished model options.all answer =
               inr (optimal_given model.goal options.all objective (optimum list.0 list.1 (first_of_all one laws model options cut results list.0 cut_can h unspent list.1) m)) in
           record { is_answer = inl done; whole = λ n r. done; solve = second_solve }
+
+module _ (order : InsideOrder) (one : OneList) (every : EveryList) (laws : PathLaws) (cuts : CutLaws) (are : SolutionsAreListed) (declared : InDeclarationOrder) (records : RecordsSolutions)
+    (model : FznModel) (rule : IsSearchOf model) (goal : IsGoalOf model.vars model.goal) (f : IsProgramOf model (program_of model)) (options : Options) (answer : Answer) where
+  pub first_given : (results slice : List FirstEnd) → AreFirstResults model options (start_of model) results → model.goal ≡ Goal.Satisfy → options.all ≡ false → answer.solutions ≡ take 1 (flat_map first_collected results) →
+      slice ≡ results → (spent : Bool) → OnTrue spent (Any IsFirstSpent slice) → OnFalse spent (All (λ end. IsFirstSpent end → ⊥) slice) → answer.mark ≡ mark_for spent answer.solutions Mark.Plain → IsGiven model options answer
+  first_given results slice h satisfy first e same true s u m =
+      first_spent order one every laws cuts are declared records model rule goal f options answer results h satisfy first e (subst (λ (rs : List FirstEnd). Any IsFirstSpent rs) same s) m
+  first_given results slice h satisfy first e same false s u m =
+      first_unspent order one every laws cuts are declared records model rule goal f options answer results h satisfy first e (subst (λ (rs : List FirstEnd). All (λ end. IsFirstSpent end → ⊥) rs) same u) m
+
+  pub all_given : (results slice : List AllEnd) → AreAllResults model options results → model.goal ≡ Goal.Satisfy → options.all ≡ true → answer.solutions ≡ flat_map all_collected results →
+      slice ≡ results → (spent : Bool) → OnTrue spent (Any IsAllSpent slice) → OnFalse spent (All (λ end. IsAllSpent end → ⊥) slice) → answer.mark ≡ mark_for spent answer.solutions Mark.Complete → IsGiven model options answer
+  all_given results slice h satisfy all e same true s u m =
+      all_spent order one every laws cuts are declared records model rule goal f options answer results h satisfy all e (subst (λ (rs : List AllEnd). Any IsAllSpent rs) same s) m
+  all_given results slice h satisfy all e same false s u m =
+      all_unspent order one every laws cuts are declared records model rule goal f options answer results h satisfy all e (subst (λ (rs : List AllEnd). All (λ end. IsAllSpent end → ⊥) rs) same u) m
+
+  -- what is known of the best, if no search for the least cost was stopped
+  pub best_known : model.goal ≢ Goal.Satisfy → (results : List LeastEnd) → AreWholeResults model options results → All (λ end. IsLeastSpent end → ⊥) results → (best : Assignment) →
+      IsFirstLeast model.goal (flat_map least_collected results) best → IsBestKnown model options best
+  best_known objective results h unspent best is_best =
+      let solve = least_solve order laws cuts records model rule goal f options (start_of model) (start_can_be_cut order model rule f) (order.itself (start_of model)) h.are.posted results h.are.are in
+      record {
+        found = record { results = results; are = h.are; unspent = unspent; is_best = is_best };
+        solves = best_is_solution model (flat_map least_collected results) best solve is_best;
+        least = λ cost costs. least_is_best model (flat_map least_collected results) best cost solve (h.reach unspent) is_best costs;
+      }
+
+  pub second_given : (objective : model.goal ≢ Goal.Satisfy) (cost : ℤ) (best : Assignment) → IsBestKnown model options best → cost_of model.goal best ≡ Some cost → (results slice : List FirstEnd) →
+      AreFirstResults model options (cut_to model.goal cost (start_of model)) results → answer.solutions ≡ take 1 (flat_map first_collected results ++ best ∷ []) → slice ≡ results → (spent : Bool) →
+      OnTrue spent (Any IsFirstSpent slice) → OnFalse spent (All (λ end. IsFirstSpent end → ⊥) slice) → OnTrue spent (answer.mark ≡ Mark.Plain) → OnFalse spent (answer.mark ≡ Mark.Complete) → IsGiven model options answer
+  second_given objective cost best known costs results slice h e same true s u plain complete =
+      second_spent order one every laws cuts are declared records model rule goal f options answer objective cost (known.least cost costs) best known.found (record { solves = known.solves; costs = costs }) results h e
+      (subst (λ (rs : List FirstEnd). Any IsFirstSpent rs) same s) plain
+  second_given objective cost best known costs results slice h e same false s u plain complete =
+      second_unspent order one every laws cuts are declared records model rule goal f options answer objective cost (known.least cost costs) best known.found (record { solves = known.solves; costs = costs }) results h e
+      (subst (λ (rs : List FirstEnd). All (λ end. IsFirstSpent end → ⊥) rs) same u) complete
+
+  pub whole_solve : (results : List LeastEnd) → AreWholeResults model options results → All (IsSolution model) (flat_map least_collected results)
+  whole_solve results h = least_solve order laws cuts records model rule goal f options (start_of model) (start_can_be_cut order model rule f) (order.itself (start_of model)) h.are.posted results h.are.are

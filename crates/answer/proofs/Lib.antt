@@ -12,3 +12,4 @@ pub mod BestLaws
 pub mod JobLaws
 pub mod LeastJobLaws
 pub mod GivenLaws
+pub mod NumberLaws

@@ -2,6 +2,7 @@
 #![tactic(auto)]
 
 mod all_job;
+mod answering;
 mod collecting;
 mod first_job;
 mod laws;
@@ -10,5 +11,6 @@ mod objective;
 mod options;
 mod plan;
 
+pub use answering::{Gates, answer};
 pub use laws::law_one_finished;
 pub use options::{Answer, Options};

@@ -1,6 +1,7 @@
 -- A worker before, between and after its runs, and who hired it. Each definition takes what the job says of seats (`fits`,
 -- `has_parts`), of what a worker keeps (`owns`) and of runs (`stands`).
-use Rattle.std.specs.Prelude.{ℕ, ◌≡◌, List, true, false}
+use Rattle.std.specs.Prelude.{ℕ, ◌≡◌, ◌+◌, List, [], ◌∷◌, ◌++◌, Bool, true, false, Result, IfOk}
+use Rattle.interval.specs.declared.NoMemory.{NoMemory}
 use Rattle.tickets.specs.declared.tickets.Tickets.{Tickets}
 use Rattle.tickets.specs.declared.seat.TicketSeat.{TicketSeat}
 use Rattle.tickets.specs.Seats.{IsTicketSeatOf, ticket_parts, next_of, count_of, numbers_drawn}
@@ -39,3 +40,11 @@ pub record IsBack {S W E : Type 0} (tickets : Tickets) (fits : S → Type 0) (ha
   pub seats : HasSeats tickets fits has_parts w
   pub passed : w.is_done ≡ true → next_of w.tickets ≡ count_of tickets
   pub run : w.is_done ≡ true → HaveRun stands w.tickets w.seat w.runs.items
+
+-- what a run of a number leaves, by its result: the seat is one with as many parts, and where memory sufficed the worker may
+-- keep what it has, and the run was made with the seat
+pub record IsRun {S W E : Type 0} (fits : S → Type 0) (has_parts : S → ℕ → Type 0) (owns : W → Type 0) (stands : S → List (ℕ × E) → Type 0) (own : W) (before after : S) (number : ℕ) (result : Result E NoMemory) : Type 0 where
+  pub seat : fits after
+  pub parts : (n : ℕ) → has_parts before n → has_parts after n
+  pub kept : IfOk result (λ end. owns own)
+  pub run : (runs : List (ℕ × E)) → stands before runs → IfOk result (λ end. stands after (runs ++ (number, end) ∷ []))

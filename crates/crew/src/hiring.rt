@@ -6,7 +6,7 @@ ghost use Rattle.std.specs.List.{All};
 ghost use Rattle.tickets.specs.Counting.{IsEachOnce};
 ghost use Rattle.tickets.specs.Seats.{count_of, next_of, ticket_parts};
 ghost use Rattle.crew.specs.Ends.{numbers_of};
-ghost use Rattle.crew.specs.AtWork.{HaveRun, AreSeats, IsHired, IsBack};
+ghost use Rattle.crew.specs.AtWork.{HaveRun, AreSeats, IsHired, IsBack, IsRun};
 ghost use Rattle.crew.specs.declared.worker.Worker.{Worker};
 
 use crate::job::Job;
@@ -165,14 +165,17 @@ pub(crate) fn work_all<
     W: Send,
     E: Send + Drop,
     J: Job<S, W, E> + Sync,
->(rt: &R, alloc: Global, tickets: &Tickets, job: &J, gate: &C, workers: &mut [Worker<S, W, E>])
+    F: Fn(&mut W, &mut S, u32) -> Result<E, NoMemory> + Sync,
+>(rt: &R, tickets: &Tickets, job: &J, run: &F, gate: &C, workers: &mut [Worker<S, W, E>])
     requires some { 0 < length workers.old }
+    requires can { (own : _) (seat : _) (number : ℕ) → number < J.count job.now → J.owns job.now own.now → J.fits job.now seat.now → F.pre run.now own seat number }
+    requires does { (own : _) (seat : _) (number : ℕ) (r : _) (own2 : _) (seat2 : _) → number < J.count job.now → J.owns job.now own.now → J.fits job.now seat.now → F.post run.now own seat number r own2 seat2 → IsRun (J.fits job.now) J.has_parts (J.owns job.now) (J.stands job.now) own2.now seat.now seat2.now number r }
     requires count { count_of tickets.now ≡ J.count job.now }
     requires hired { All (IsHired tickets.now (J.fits job.now) J.has_parts (J.owns job.now) (J.stands job.now)) workers.old }
     ensures { (i : ℕ) (d : Worker S W E) → i < length workers.old → IsBack tickets.now (J.fits job.now) J.has_parts (J.stands job.now) (slice_index_or workers.new i d) }
 {
     if workers.len() == 1 {
-        work(rt, alloc, tickets, job, gate, &mut workers[0]);
+        work(tickets, job, run, gate, &mut workers[0]);
         return;
     }
     let threads = workers.len();
@@ -181,9 +184,9 @@ pub(crate) fn work_all<
         workers,
         threads,
         &|_, worker: &mut Worker<S, W, E>|
-            requires { (count_of tickets.now ≡ J.count job.now) × IsHired tickets.now (J.fits job.now) J.has_parts (J.owns job.now) (J.stands job.now) worker.now }
+            requires { (count_of tickets.now ≡ J.count job.now) × ((own : _) (seat : _) (number : ℕ) → number < J.count job.now → J.owns job.now own.now → J.fits job.now seat.now → F.pre run.now own seat number) × ((own : _) (seat : _) (number : ℕ) (r : _) (own2 : _) (seat2 : _) → number < J.count job.now → J.owns job.now own.now → J.fits job.now seat.now → F.post run.now own seat number r own2 seat2 → IsRun (J.fits job.now) J.has_parts (J.owns job.now) (J.stands job.now) own2.now seat.now seat2.now number r) × IsHired tickets.now (J.fits job.now) J.has_parts (J.owns job.now) (J.stands job.now) worker.now }
             ensures { IsBack tickets.entry.now (J.fits job.entry.now) J.has_parts (J.stands job.entry.now) worker.exit.now }
-        { work(rt, alloc, tickets, job, gate, worker) },
+        { work(tickets, job, run, gate, worker) },
     );
 }
 

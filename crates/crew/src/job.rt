@@ -2,7 +2,6 @@
 
 use interval::NoMemory;
 use std::alloc::Global;
-use std::thread::Threads;
 
 /// Runs of the numbers below a count. Each worker has an `S`, its seat of what all workers share (`()` where that is
 /// nothing), and keeps a `W` over its runs; a run ends in an `E`. The job says what it means that runs were made with a
@@ -47,21 +46,4 @@ pub trait Job<S, W, E> {
         ensures fits { fits self.now seat.new }
         ensures parts { (m n : ℕ) → has_parts seat.old m → has_parts other n → has_parts seat.new (m + n) }
         ensures stands { (runs others : List (ℕ × E)) → stands self.now seat.old runs → stands self.now other others → stands self.now seat.new (runs ++ others) };
-
-    /// Runs a number.
-    fn run<R: Threads + Sync>(
-        &self,
-        rt: &R,
-        alloc: Global,
-        own: &mut W,
-        seat: &mut S,
-        number: u32,
-    ) -> Result<E, NoMemory>
-        requires number { number < count self.now }
-        requires owns { owns self.now own.old }
-        requires fits { fits self.now seat.old }
-        ensures owns { IfOk result (λ _. owns self.now own.new) }
-        ensures fits { fits self.now seat.new }
-        ensures parts { (n : ℕ) → has_parts seat.old n → has_parts seat.new n }
-        ensures stands { (runs : List (ℕ × E)) → stands self.now seat.old runs → IfOk result (λ end. stands self.now seat.new (runs ++ (number, end) ∷ [])) };
 }

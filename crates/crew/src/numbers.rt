@@ -1,11 +1,11 @@
 //! All numbers of a job, run by a crew.
 
-ghost use Rattle.std.specs.Prelude.{◌≡◌, ◌≤◌, ◌+◌, [], length, IfOk, OnOk};
+ghost use Rattle.std.specs.Prelude.{◌≡◌, ◌<◌, ◌≤◌, ℕ, ◌+◌, [], length, IfOk, OnOk};
 ghost use Rattle.std.specs.List.{All};
 ghost use Rattle.tickets.specs.Seats.{count_of, ticket_parts};
 ghost use Rattle.crew.specs.Ends.{AreEndsOf};
 ghost use Rattle.crew.specs.Crews.{workers_of};
-ghost use Rattle.crew.specs.AtWork.{HaveRun, AreSeats, IsBack};
+ghost use Rattle.crew.specs.AtWork.{HaveRun, AreSeats, IsBack, IsRun};
 
 use crate::ends::in_order;
 use crate::hiring::{hire_all, take_all, work_all};
@@ -27,6 +27,7 @@ fn hire_and_work<
     W: Send + Drop,
     E: Send + Drop,
     J: Job<S, W, E> + Sync,
+    F: Fn(&mut W, &mut S, u32) -> Result<E, NoMemory> + Sync,
 >(
     rt: &R,
     alloc: Global,
@@ -34,10 +35,13 @@ fn hire_and_work<
     tickets: &Tickets,
     first: &mut TicketSeat,
     job: &J,
+    run: &F,
     gate: &C,
     seat: &mut S,
     workers: &mut Vec<Worker<S, W, E>>,
 ) -> Result<(), NoMemory>
+    requires can { (own : _) (seat : _) (number : ℕ) → number < J.count job.now → J.owns job.now own.now → J.fits job.now seat.now → F.pre run.now own seat number }
+    requires does { (own : _) (seat : _) (number : ℕ) (r : _) (own2 : _) (seat2 : _) → number < J.count job.now → J.owns job.now own.now → J.fits job.now seat.now → F.post run.now own seat number r own2 seat2 → IsRun (J.fits job.now) J.has_parts (J.owns job.now) (J.stands job.now) own2.now seat.now seat2.now number r }
     requires count { count_of tickets.now ≡ J.count job.now }
     requires seats { AreSeats tickets.now (J.fits job.now) J.has_parts first.old seat.old }
     requires parts { ticket_parts first.old ≡ 1024 }
@@ -51,7 +55,7 @@ fn hire_and_work<
     ensures crew { workers_of crew.new ≡ workers_of crew.old }
 {
     hire_all(alloc, tickets, first, job, seat, crew.turns(), workers)?;
-    work_all(rt, alloc, tickets, job, gate, workers);
+    work_all(rt, tickets, job, run, gate, workers);
     crew.note_turns(workers);
     Ok(())
 }
@@ -67,15 +71,19 @@ pub fn run_numbers<
     W: Send + Drop,
     E: Send + Drop,
     J: Job<S, W, E> + Sync,
+    F: Fn(&mut W, &mut S, u32) -> Result<E, NoMemory> + Sync,
 >(
     rt: &R,
     alloc: Global,
     crew: &mut Workers,
     job: &J,
+    run: &F,
     count: u32,
     gate: &C,
     seat: &mut S,
 ) -> Result<ListOf<E>, NoMemory>
+    requires can { (own : _) (seat : _) (number : ℕ) → number < J.count job.now → J.owns job.now own.now → J.fits job.now seat.now → F.pre run.now own seat number }
+    requires does { (own : _) (seat : _) (number : ℕ) (r : _) (own2 : _) (seat2 : _) → number < J.count job.now → J.owns job.now own.now → J.fits job.now seat.now → F.post run.now own seat number r own2 seat2 → IsRun (J.fits job.now) J.has_parts (J.owns job.now) (J.stands job.now) own2.now seat.now seat2.now number r }
     requires count { count ≡ J.count job.now }
     requires fits { J.fits job.now seat.old }
     requires parts { J.has_parts seat.old 1024 }
@@ -94,6 +102,7 @@ pub fn run_numbers<
         &tickets,
         &mut first,
         job,
+        run,
         gate,
         seat,
         &mut workers,

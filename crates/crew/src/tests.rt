@@ -1,6 +1,6 @@
 //! Numbers run by one worker and by many, and two workers that wait for each other.
 
-ghost use Rattle.std.specs.Prelude.{◌≡◌, ◌≤◌};
+ghost use Rattle.std.specs.Prelude.{◌≡◌, ◌<◌, ◌≤◌, ◌+◌, ◌*◌, ◌/◌, min, length, slice_index, IfOk};
 
 use crate::{Gate, Job, NoGate, Workers, run_numbers};
 use interval::NoMemory;
@@ -71,23 +71,41 @@ impl Job<Counter, u64, u64> for Doubles {
     fn join_back(&self, seat: &mut Counter, other: Counter) {
         seat.runs = seat.runs.saturating_add(other.runs);
     }
+}
 
-    fn run<R: Threads + Sync>(
-        &self,
-        _rt: &R,
-        _alloc: Global,
-        own: &mut u64,
-        seat: &mut Counter,
-        number: u32,
-    ) -> Result<u64, NoMemory> {
-        if self.refused == Some(number) {
-            return Err(NoMemory);
-        }
-        self.made.fetch_add(1, Ordering::SeqCst);
-        *own = own.saturating_add(1);
-        seat.runs = seat.runs.saturating_add(1);
-        Ok(2 * u64::from(number))
+/// Doubles a number.
+fn double(job: &Doubles, own: &mut u64, seat: &mut Counter, number: u32) -> Result<u64, NoMemory>
+    ensures value { IfOk result (λ end. end ≡ 2 * number) }
+    ensures counted { IfOk result (λ end. seat.new.runs ≡ min (seat.old.runs + 1) 18446744073709551615) }
+{
+    if job.refused == Some(number) {
+        return Err(NoMemory);
     }
+    job.made.fetch_add(1, Ordering::SeqCst);
+    *own = own.saturating_add(1);
+    seat.runs = seat.runs.saturating_add(1);
+    Ok(2 * u64::from(number))
+}
+
+/// Doubles all numbers.
+fn double_all<R: Threads + Sync, C: Gate + Sync>(
+    rt: &R,
+    alloc: Global,
+    crew: &mut Workers,
+    job: &Doubles,
+    count: u32,
+    gate: &C,
+    seat: &mut Counter,
+) -> Result<ListOf<u64>, NoMemory>
+    requires count { count ≡ job.now.count }
+    requires none { seat.old.runs ≡ 0 }
+{
+    let run = |own: &mut u64, seat: &mut Counter, number: u32| -> Result<u64, NoMemory>
+        ensures value { IfOk result (λ end. end ≡ 2 * number) }
+        ensures counted { IfOk result (λ end. seat.exit.now.runs ≡ min (seat.entry.now.runs + 1) 18446744073709551615) }
+    { double(job, own, seat, number) };
+    let ends = run_numbers(rt, alloc, crew, job, &run, count, gate, seat)?;
+    Ok(ends)
 }
 
 /// Whether the ends are the doubled numbers, in order.
@@ -107,7 +125,7 @@ fn every_crew_gives_the_ends_in_order(rt: HostRuntime) -> Result<(), Fail> {
             let job = Doubles::new(count);
             let mut crew = Workers::new(rt.alloc(), workers)?;
             let mut seat = Counter { runs: 0 };
-            let ends = run_numbers(&rt, rt.alloc(), &mut crew, &job, count, &NoGate, &mut seat)?;
+            let ends = double_all(&rt, rt.alloc(), &mut crew, &job, count, &NoGate, &mut seat)?;
             assert!(rt; are_doubled(&ends, count));
             assert_eq!(rt; seat.runs, u64::from(count));
         }
@@ -121,7 +139,7 @@ fn where_memory_is_refused_all_workers_are_taken_in(rt: HostRuntime) -> Result<(
         let job = Doubles::refused_at(64, 5);
         let mut crew = Workers::new(rt.alloc(), workers)?;
         let mut seat = Counter { runs: 0 };
-        let ends = run_numbers(&rt, rt.alloc(), &mut crew, &job, 64, &NoGate, &mut seat);
+        let ends = double_all(&rt, rt.alloc(), &mut crew, &job, 64, &NoGate, &mut seat);
         assert!(rt; ends.is_err());
         assert_eq!(rt; seat.runs, job.made.load(Ordering::SeqCst));
     }
@@ -154,7 +172,7 @@ fn turns_go_on_over_two_calls(rt: HostRuntime) -> Result<(), Fail> {
     for count in [2, 1] {
         let job = Doubles::new(count);
         let mut seat = Counter { runs: 0 };
-        let ends = run_numbers(&rt, rt.alloc(), &mut crew, &job, count, &gate, &mut seat)?;
+        let ends = double_all(&rt, rt.alloc(), &mut crew, &job, count, &gate, &mut seat)?;
         assert!(rt; are_doubled(&ends, count));
     }
     assert!(rt; !gate.was_wrong.load(Ordering::SeqCst));
@@ -182,7 +200,7 @@ fn each_worker_passes_before_each_number_and_once_more(rt: HostRuntime) -> Resul
     let mut crew = Workers::new(rt.alloc(), 3)?;
     let job = Doubles::new(7);
     let mut seat = Counter { runs: 0 };
-    let ends = run_numbers(&rt, rt.alloc(), &mut crew, &job, 7, &gate, &mut seat)?;
+    let ends = double_all(&rt, rt.alloc(), &mut crew, &job, 7, &gate, &mut seat)?;
     assert!(rt; are_doubled(&ends, 7));
     assert_eq!(rt; gate.count.load(Ordering::SeqCst), 10);
     Ok(())
@@ -250,7 +268,7 @@ fn two_workers_meet(rt: HostRuntime) -> Result<(), Fail> {
     let mut crew = Workers::new(rt.alloc(), 2)?;
     let mut seat = Counter { runs: 0 };
     let gate = Meet::new();
-    let ends = run_numbers(&rt, rt.alloc(), &mut crew, &job, 4, &gate, &mut seat)?;
+    let ends = double_all(&rt, rt.alloc(), &mut crew, &job, 4, &gate, &mut seat)?;
     assert!(rt; are_doubled(&ends, 4));
     assert!(rt; gate.was_passed());
     Ok(())
@@ -283,17 +301,24 @@ impl<'a> Job<(), (), u32> for Halves<'a> {
     fn split(&self, _seat: &mut ()) {}
 
     fn join_back(&self, _seat: &mut (), _other: ()) {}
+}
 
-    fn run<R: Threads + Sync>(
-        &self,
-        _rt: &R,
-        _alloc: Global,
-        _own: &mut (),
-        _seat: &mut (),
-        number: u32,
-    ) -> Result<u32, NoMemory> {
-        Ok(self.numbers[number as usize] / 2)
-    }
+/// Halves all numbers.
+fn halve_all<R: Threads + Sync>(
+    rt: &R,
+    alloc: Global,
+    crew: &mut Workers,
+    job: &Halves<'_>,
+    count: u32,
+) -> Result<ListOf<u32>, NoMemory>
+    requires { count ≡ length job.now.numbers.now }
+{
+    let run = |_own: &mut (), _seat: &mut (), number: u32| -> Result<u32, NoMemory>
+        requires { number < length job.now.numbers.now }
+        ensures { IfOk result (λ end. end ≡ slice_index job.entry.now.numbers.now number / 2) }
+    { Ok(job.numbers[number as usize] / 2) };
+    let ends = run_numbers(rt, alloc, crew, job, &run, count, &NoGate, &mut ())?;
+    Ok(ends)
 }
 
 #[test]
@@ -301,7 +326,7 @@ fn workers_may_share_nothing(rt: HostRuntime) -> Result<(), Fail> {
     let mut crew = Workers::new(rt.alloc(), 2)?;
     let numbers = [9, 8, 1, 0, 7];
     let job = Halves { numbers: &numbers };
-    let ends = run_numbers(&rt, rt.alloc(), &mut crew, &job, 5, &NoGate, &mut ())?;
+    let ends = halve_all(&rt, rt.alloc(), &mut crew, &job, 5)?;
     assert_eq!(rt; ends.as_slice(), [4, 4, 0, 0, 3].as_slice());
     Ok(())
 }

@@ -1,15 +1,13 @@
 //! One worker, which draws numbers and runs them until none is left.
 
-ghost use Rattle.std.specs.Prelude.{◌≡◌, ◌<◌, ◌≤◌, IfOk, OnOk};
+ghost use Rattle.std.specs.Prelude.{◌≡◌, ◌<◌, ℕ, ◌≤◌, IfOk, OnOk};
 ghost use Rattle.std.specs.Bool.{OnTrue, OnFalse};
 ghost use Rattle.tickets.specs.Seats.{count_of, next_of};
-ghost use Rattle.crew.specs.AtWork.{HasSeats, HaveRun, MayDraw, IsHired, IsBack};
+ghost use Rattle.crew.specs.AtWork.{HasSeats, HaveRun, MayDraw, IsHired, IsBack, IsRun};
 
 use crate::job::Job;
 use gate::Gate;
 use interval::NoMemory;
-use std::alloc::Global;
-use std::thread::Threads;
 use tickets::{TicketSeat, Tickets};
 
 /// One worker, with what it has of its own.
@@ -32,14 +30,15 @@ pub struct Worker<S, W, E> {
 }
 
 // Draws the next number and runs it, and says whether there was one. The gate is passed first.
-fn run_next<R: Threads + Sync, C: Gate, S, W, E: Drop, J: Job<S, W, E>>(
-    rt: &R,
-    alloc: Global,
+fn run_next<C: Gate, S, W, E: Drop, J: Job<S, W, E>, F: Fn(&mut W, &mut S, u32) -> Result<E, NoMemory>>(
     tickets: &Tickets,
     job: &J,
+    run: &F,
     gate: &C,
     worker: &mut Worker<S, W, E>,
 ) -> Result<bool, NoMemory>
+    requires can { (own : _) (seat : _) (number : ℕ) → number < J.count job.now → J.owns job.now own.now → J.fits job.now seat.now → F.pre run.now own seat number }
+    requires does { (own : _) (seat : _) (number : ℕ) (r : _) (own2 : _) (seat2 : _) → number < J.count job.now → J.owns job.now own.now → J.fits job.now seat.now → F.post run.now own seat number r own2 seat2 → IsRun (J.fits job.now) J.has_parts (J.owns job.now) (J.stands job.now) own2.now seat.now seat2.now number r }
     requires count { count_of tickets.now ≡ J.count job.now }
     requires seats { HasSeats tickets.now (J.fits job.now) J.has_parts worker.old }
     requires may_draw { MayDraw (J.owns job.now) (J.stands job.now) worker.old }
@@ -54,7 +53,7 @@ fn run_next<R: Threads + Sync, C: Gate, S, W, E: Drop, J: Job<S, W, E>>(
     let Some(number) = tickets.draw(&mut worker.tickets) else {
         return Ok(false);
     };
-    let end = job.run(rt, alloc, &mut worker.own, &mut worker.seat, number)?;
+    let end = run(&mut worker.own, &mut worker.seat, number)?;
     if worker.runs.push((number, end)).is_err() {
         return Err(NoMemory);
     }
@@ -62,37 +61,39 @@ fn run_next<R: Threads + Sync, C: Gate, S, W, E: Drop, J: Job<S, W, E>>(
 }
 
 // Runs numbers until none is left.
-fn run_all<R: Threads + Sync, C: Gate, S, W, E: Drop, J: Job<S, W, E>>(
-    rt: &R,
-    alloc: Global,
+fn run_all<C: Gate, S, W, E: Drop, J: Job<S, W, E>, F: Fn(&mut W, &mut S, u32) -> Result<E, NoMemory>>(
     tickets: &Tickets,
     job: &J,
+    run: &F,
     gate: &C,
     worker: &mut Worker<S, W, E>,
 ) -> Result<(), NoMemory>
+    requires can { (own : _) (seat : _) (number : ℕ) → number < J.count job.now → J.owns job.now own.now → J.fits job.now seat.now → F.pre run.now own seat number }
+    requires does { (own : _) (seat : _) (number : ℕ) (r : _) (own2 : _) (seat2 : _) → number < J.count job.now → J.owns job.now own.now → J.fits job.now seat.now → F.post run.now own seat number r own2 seat2 → IsRun (J.fits job.now) J.has_parts (J.owns job.now) (J.stands job.now) own2.now seat.now seat2.now number r }
     requires count { count_of tickets.now ≡ J.count job.now }
     requires hired { IsHired tickets.now (J.fits job.now) J.has_parts (J.owns job.now) (J.stands job.now) worker.old }
     ensures seats { HasSeats tickets.now (J.fits job.now) J.has_parts worker.new }
     ensures passed { OnOk result (next_of worker.new.tickets ≡ count_of tickets.now) }
     ensures run { OnOk result (HaveRun (J.stands job.now) worker.new.tickets worker.new.seat worker.new.runs.items) }
 {
-    'draws: while run_next(rt, alloc, tickets, job, gate, worker)? {}
+    'draws: while run_next(tickets, job, run, gate, worker)? {}
     Ok(())
 }
 
 /// Has a worker run numbers until none is left or memory is refused, and note in it which.
-pub(crate) fn work<R: Threads + Sync, C: Gate, S, W, E: Drop, J: Job<S, W, E>>(
-    rt: &R,
-    alloc: Global,
+pub(crate) fn work<C: Gate, S, W, E: Drop, J: Job<S, W, E>, F: Fn(&mut W, &mut S, u32) -> Result<E, NoMemory>>(
     tickets: &Tickets,
     job: &J,
+    run: &F,
     gate: &C,
     worker: &mut Worker<S, W, E>,
 )
+    requires can { (own : _) (seat : _) (number : ℕ) → number < J.count job.now → J.owns job.now own.now → J.fits job.now seat.now → F.pre run.now own seat number }
+    requires does { (own : _) (seat : _) (number : ℕ) (r : _) (own2 : _) (seat2 : _) → number < J.count job.now → J.owns job.now own.now → J.fits job.now seat.now → F.post run.now own seat number r own2 seat2 → IsRun (J.fits job.now) J.has_parts (J.owns job.now) (J.stands job.now) own2.now seat.now seat2.now number r }
     requires count { count_of tickets.now ≡ J.count job.now }
     requires hired { IsHired tickets.now (J.fits job.now) J.has_parts (J.owns job.now) (J.stands job.now) worker.old }
     ensures { IsBack tickets.now (J.fits job.now) J.has_parts (J.stands job.now) worker.new }
 {
-    let ended = run_all(rt, alloc, tickets, job, gate, worker);
+    let ended = run_all(tickets, job, run, gate, worker);
     worker.is_done = ended.is_ok();
 }

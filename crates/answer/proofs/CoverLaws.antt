@@ -1,0 +1,188 @@
+-- Each solution of the model lies in what some number leads to, so that the searches of all numbers reach its cost.
+use Rattle.std.proofs.Common.{◌≡◌, ◌≢◌, ◌↔◌, ℕ, zero, suc, ℤ, ◌+◌, ◌<◌, ◌^◌, ◌≤ℤ◌, ◌<ℤ◌, List, [], ◌∷◌, ◌++◌, length, get_or, slice_get, flat_map, All, Any, Contains, Option, None, Some, refl, sym, ap, subst, ◌∙◌, ◌⊎◌, inl, inr, arith}
+use Rattle.std.proofs.lemmas.Int.{ints}
+use Rattle.std.proofs.lemmas.Option.{slice_get_within, get_or_from_slice_get, slice_get-get_or}
+use Rattle.std.proofs.lemmas.List.Elements.{Contains-append_left, Contains-append_right, Contains-append_cases}
+use Rattle.interval.specs.Boxes.{Bounds, IsInside, IsInRange, InsideOrder}
+use Rattle.guarded_tell.specs.Kernels.{IsKernel}
+use Rattle.constraint_model.specs.declared.model.Goal.{Goal}
+use Rattle.constraint_model.specs.declared.model.FznModel.{FznModel}
+use Rattle.constraint_model.specs.Relations.{cost_of, IsSolution}
+use Rattle.constraint_model.specs.Searches.{IsSearchOf}
+use Rattle.decompose.specs.Kernels.{kernels_of}
+use Rattle.decompose.specs.Program.{start_of, IsProgramOf}
+use Rattle.branching.specs.Tree.{EveryList, SolutionsIn}
+use Rattle.best_bound.specs.Lists.{Among}
+use Rattle.solution_lists.specs.Solutions.{SolvesInside, SolutionsAreListed, ListsSolutionsInside}
+use Rattle.subproblems.specs.Cuts.{CanBeCut, CutLaws}
+use Rattle.subproblems.specs.Paths.{LeadsTo, ArePaths, SolutionsOfAll, PathLaws}
+use Rattle.search.specs.declared.ends.LeastEnd.{LeastEnd}
+use Rattle.search.specs.LeastEnds.{IsCost, CostAtLeast}
+use Rattle.crew.specs.Ends.{AreInOrder}
+use Rattle.answer.specs.declared.options.Options.{Options}
+use Rattle.answer.specs.Lists.{Assignment}
+use Rattle.answer.specs.Least.{IsLeastCost}
+use Rattle.answer.specs.Places.{StandsAt, HasResult, AreResults}
+use Rattle.answer.specs.Results.{program_of, IsLeastResult, least_collected, IsLeastSpent, CostsAtMost, MayBePosted, AreLeastResults}
+use Rattle.answer.specs.Runs.{IsCovered, IsLeastRun, AreLeastRuns, ReachAll, AreWholeResults}
+use Rattle.answer.specs.Unfinished.{CostsMore, CostsAsMuch, IsFirstLeast}
+use Rattle.answer.proofs.RunLists.{AllAmong, nothing_there, the_one, result_kept, results_of}
+use Rattle.answer.proofs.LeastRunLists.{contains_later, contains_among, among_contains}
+use Rattle.answer.proofs.ListedLaws.{lies_in_start, start_can_be_cut}
+use Rattle.answer.proofs.PathBoxes.{path_can}
+
+-- whatever an entry gives is given by all
+contains_given : {E X : Type 0} (f : E → List X) (rs : List E) (k : ℕ) (r : E) (x : X) → slice_get rs k ≡ Some r → Contains (f r) x → Contains (flat_map f rs) x
+contains_given f [] k r x e h = absurd cc
+contains_given f (s ∷ rs) zero r x e h =
+    let same : s ≡ r = cc in
+    Contains-append_left (f s) (flat_map f rs) x (subst (λ y. Contains (f y) x) (sym same) h)
+contains_given f (s ∷ rs) (suc k) r x e h = Contains-append_right (f s) (flat_map f rs) x (contains_given f rs k r x e h)
+
+-- a subproblem on the way to which the assignment lies
+record LiesBelow (model : FznModel) (paths : List (Option Bounds)) (a : Assignment) : Type 0 where
+  number : ℕ
+  sub : Bounds
+  there : slice_get paths number ≡ Some (Some sub)
+  own : List Assignment
+  listed : SolutionsIn model (kernels_of model) sub own
+  stands : Contains own a
+
+later_below : (model : FznModel) (p : Option Bounds) (paths : List (Option Bounds)) (a : Assignment) → LiesBelow model paths a → LiesBelow model (p ∷ paths) a
+later_below model p paths a h = record { number = suc h.number; sub = h.sub; there = h.there; own = h.own; listed = h.listed; stands = h.stands }
+
+lies_below : (model : FznModel) (paths : List (Option Bounds)) (found : List Assignment) (a : Assignment) → SolutionsOfAll model (kernels_of model) paths found → Contains found a → LiesBelow model paths a
+lies_below model [] found a e h = absurd (nothing_there a (subst (λ (xs : List Assignment). Contains xs a) e h))
+lies_below model (None ∷ paths) found a (first, rest, own, others, e) h =
+    let same : found ≡ rest = e ∙ ap (λ (xs : List Assignment). xs ++ rest) own in
+    later_below model None paths a (lies_below model paths rest a others (subst (λ (xs : List Assignment). Contains xs a) same h))
+lies_below model (Some sub ∷ paths) found a (first, rest, own, others, e) h =
+    elim (Contains-append_cases first rest a (subst (λ (xs : List Assignment). Contains xs a) e h)) [
+      | inl l ↦ record { number = 0; sub = sub; there = refl; own = first; listed = own; stands = l }
+      | inr r ↦ later_below model (Some sub) paths a (lies_below model paths rest a others r)
+    ]
+
+module _ (order : InsideOrder) (every : EveryList) (laws : PathLaws) (cuts : CutLaws) (listed : SolutionsAreListed) (model : FznModel) (rule : IsSearchOf model)
+    (f : IsProgramOf model (program_of model)) (options : Options) where
+  -- a number and its subproblem, in which the assignment solves the model
+  record IsCoveredAt (a : Assignment) : Type 0 where
+    number : ℕ
+    below : number < 2 ^ options.depth
+    sub : Bounds
+    leads : LeadsTo model (kernels_of model) options.depth (start_of model) number (Some sub)
+    solves : SolvesInside model sub a
+
+  covered : (a : Assignment) → IsSolution model a → IsCoveredAt a
+  covered a h =
+      let start = start_of model in
+      let can = start_can_be_cut order model rule f in
+      let list = every model (kernels_of model) start rule can.long can.in_range can.fit in
+      let all : ListsSolutionsInside model start list.0 = listed model (program_of model) start list.0 f rule can.in_range (order.itself start) list.1 in
+      let paths = laws.every model (kernels_of model) options.depth start can in
+      let parts = laws.solutions_back model (kernels_of model) options.depth start paths.0 list.0 can paths.1 list.1 in
+      let here = lies_below model paths.0 list.0 a parts ((all.each a).1 (record { solves = h; inside = lies_in_start order model rule f a h })) in
+      let within = slice_get_within paths.0 here.number (Some here.sub) here.there in
+      let below : here.number < 2 ^ options.depth = let e = paths.1.count in omega arith in
+      let leads : LeadsTo model (kernels_of model) options.depth start here.number (Some here.sub) =
+          subst (LeadsTo model (kernels_of model) options.depth start here.number) (get_or_from_slice_get paths.0 here.number (Some here.sub) None here.there) (paths.1.each here.number below) in
+      let sub_can = path_can cuts model (kernels_of model) options.depth start here.number here.sub can leads in
+      let sub_in = laws.inside model (kernels_of model) options.depth start here.number here.sub can leads in
+      let sub_all : ListsSolutionsInside model here.sub here.own = listed model (program_of model) here.sub here.own f rule sub_can.in_range sub_in here.listed in
+      record { number = here.number; below = below; sub = here.sub; leads = leads; solves = (sub_all.each a).0 here.stands }
+
+  -- the ends of the runs of all numbers, where all costs that were seen were posted and are those of solutions
+  module _ (seen posted : List ℤ) (runs : List (ℕ × LeastEnd)) (ends : List LeastEnd) (h : AreLeastRuns model options (start_of model) seen posted runs)
+      (all : AllAmong seen posted) (costs : (cost : ℤ) → Among seen cost → IsCost model cost) (in_order : AreInOrder (2 ^ options.depth) runs ends) where
+    given : (cost : ℤ) → Among seen cost → Any (CostsAtMost model.goal cost) (flat_map least_collected ends)
+    given cost there =
+        let r = h.reached cost (all cost there) in
+        let place = (in_order.places r.0 r.1).0 r.3 in
+        let stands = contains_given least_collected ends r.0 r.1 r.2 place r.4 in
+        (stands.0, r.2, stands.1, stands.2, r.5)
+
+    results : AreLeastResults model options ends
+    results = record {
+      posted = seen;
+      may_be = λ cost there. record { is_cost = costs cost (contains_among seen cost there); reached = given cost (contains_among seen cost there) };
+      are = results_of model options.depth (start_of model) (IsLeastResult model options seen) runs ends in_order
+          (λ number end there. result_kept model options.depth (start_of model) (IsLeastRun model options seen) (IsLeastResult model options seen) (λ n p e k. k.0) number end (h.each number end there));
+    }
+
+    lower : (cost other : ℤ) (a : Assignment) → other ≤ℤ cost → CostsAtMost model.goal other a → CostsAtMost model.goal cost a
+    lower cost other a l (c, e, k) = (c, e, omega (arith, ints))
+
+    lower_any : (cost other : ℤ) → other ≤ℤ cost → Any (CostsAtMost model.goal other) (flat_map least_collected ends) → Any (CostsAtMost model.goal cost) (flat_map least_collected ends)
+    lower_any cost other l (k, a, m, e, c) = (k, a, m, e, lower cost other a l c)
+
+    at_end : (end : LeastEnd) (sub : Bounds) → (IsLeastSpent end → ⊥) → IsCovered model seen (Some sub) end → CostAtLeast model sub seen
+    at_end (LeastEnd.Done answer) sub unspent k = k
+    at_end (LeastEnd.Spent nodes why so_far) sub unspent k = absurd (unspent tt)
+
+    reach : All (λ result. IsLeastSpent result → ⊥) ends → ReachAll model (flat_map least_collected ends)
+    reach unspent a cost solves costs_so =
+        let c = covered a solves in
+        let below : c.number < length ends = let e = in_order.length_is in let l = c.below in omega arith in
+        let end = get_or ends c.number (LeastEnd.Done None) in
+        let place : slice_get ends c.number ≡ Some end = slice_get-get_or ends c.number (LeastEnd.Done None) below in
+        let own = h.each c.number end ((in_order.places c.number end).1 place) in
+        let same = laws.one model (kernels_of model) options.depth (start_of model) c.number own.path (Some c.sub) rule own.leads c.leads in
+        let is_covered = subst (λ (p : Option Bounds). IsCovered model seen p end) same own.is_result.1 in
+        let some = at_end end c.sub (unspent c.number (LeastEnd.Done None) below) is_covered a cost c.solves costs_so in
+        lower_any cost some.1 some.4 (given some.1 (contains_among seen some.1 (some.0, some.2, some.3)))
+
+    pub whole_results : AreWholeResults model options ends
+    whole_results = record { are = results; reach = reach }
+
+-- ---- the best of what was collected costs least
+
+pub has_cost : (goal : Goal) (a : Assignment) → goal ≢ Goal.Satisfy → (cost : ℤ) × (cost_of goal a ≡ Some cost)
+has_cost Goal.Satisfy a h = absurd (h refl)
+has_cost (Goal.Minimize t) a h = (_, refl)
+has_cost (Goal.Maximize t) a h = (_, refl)
+
+pub least_is_best : (model : FznModel) (collected : List Assignment) (a : Assignment) (cost : ℤ) → All (IsSolution model) collected → ReachAll model collected → IsFirstLeast model.goal collected a →
+    cost_of model.goal a ≡ Some cost → IsLeastCost model cost
+least_is_best model collected a cost solve reach best costs = record {
+  some = record { assignment = a; solves = solves; costs = costs };
+  least = λ b other is_solution other_costs. at_least other (reach b other is_solution other_costs);
+}
+  where
+    in_list : Contains collected a
+    in_list = subst (λ (xs : List Assignment). Contains xs a) (sym best.there) (Contains-append_right best.before (a ∷ best.after) a (0, omega arith, refl))
+
+    solves : IsSolution model a
+    solves = subst (IsSolution model) in_list.2 (solve in_list.0 a in_list.1)
+
+    chain : (p q r : ℤ) → p ≤ℤ q → q ≤ℤ r → p ≤ℤ r
+    chain p q r h k = omega (arith, ints)
+
+    strict : (p q r : ℤ) → p <ℤ q → q ≤ℤ r → p ≤ℤ r
+    strict p q r h k = omega (arith, ints)
+
+    same_cost : (x : Assignment) (c : ℤ) → a ≡ x → cost_of model.goal x ≡ Some c → cost ≡ c
+    same_cost x c e h = let f = sym costs ∙ ap (cost_of model.goal) e ∙ h in cc
+
+    by_place : (x : Assignment) (c other : ℤ) → cost_of model.goal x ≡ Some c → c ≤ℤ other → Contains (best.before ++ a ∷ best.after) x → cost ≤ℤ other
+    by_place x c other is_cost l there = elim (Contains-append_cases best.before (a ∷ best.after) x there) [
+      | inl (k, m, e) ↦ strict cost c other (subst (CostsMore model.goal a) e (best.before_cost_more k x m) cost c costs is_cost) l
+      | inr (zero, m, e) ↦ subst (λ (z : ℤ). z ≤ℤ other) (sym (same_cost x c e is_cost)) l
+      | inr (suc k, m, e) ↦ chain cost c other (subst (CostsAsMuch model.goal a) e (best.after_cost_as_much k x (omega arith)) cost c costs is_cost) l
+    ]
+
+    at_least : (other : ℤ) → Any (CostsAtMost model.goal other) collected → cost ≤ℤ other
+    at_least other (k, x, l, e, c) = by_place x c.0 other c.1 c.2 (subst (λ (xs : List Assignment). Contains xs x) best.there (k, l, e))
+
+-- nothing was collected only where nothing solves the model
+pub nothing_solves : (model : FznModel) (collected : List Assignment) → model.goal ≢ Goal.Satisfy → ReachAll model collected → collected ≡ [] → (a : Assignment) → IsSolution model a → ⊥
+nothing_solves model collected objective reach empty a solves =
+    let cost = has_cost model.goal a objective in
+    none (subst (λ (xs : List Assignment). Any (CostsAtMost model.goal cost.0) xs) empty (reach a cost.0 solves cost.1))
+  where
+    none : {P : Assignment → Type 0} → Any P [] → ⊥
+    none h = let l = h.2 in omega arith
+
+pub best_is_solution : (model : FznModel) (collected : List Assignment) (a : Assignment) → All (IsSolution model) collected → IsFirstLeast model.goal collected a → IsSolution model a
+best_is_solution model collected a solve best = subst (IsSolution model) there.2 (solve there.0 a there.1)
+  where
+    there : Contains collected a
+    there = subst (λ (xs : List Assignment). Contains xs a) (sym best.there) (Contains-append_right best.before (a ∷ best.after) a (0, omega arith, refl))

@@ -1,0 +1,296 @@
+-- What is put together of the results is an answer.
+use Rattle.std.proofs.Common.{◌≡◌, ◌≢◌, ℕ, zero, suc, ℤ, ◌<◌, Bool, true, false, List, [], ◌∷◌, ◌++◌, length, get_or, slice_get, take, flat_map, All, Any, Contains, Option, None, Some, refl, sym, ap, subst, subst₂, ◌∙◌, ◌⊎◌, inl, inr, arith}
+use Rattle.std.specs.Bool.{OnTrue, OnFalse}
+use Rattle.std.proofs.lemmas.Option.{slice_get-get_or}
+use Rattle.std.proofs.lemmas.List.{get_or_default}
+use Rattle.std.proofs.lemmas.List.Elements.{All-nil, All-cons, All-append, All-head, Contains-append_right}
+use Rattle.interval.specs.Boxes.{Bounds, IsInside, IsInRange, InsideOrder}
+use Rattle.constraint_model.specs.declared.model.Goal.{Goal}
+use Rattle.constraint_model.specs.declared.model.FznModel.{FznModel}
+use Rattle.constraint_model.specs.Relations.{cost_of, IsSolution}
+use Rattle.constraint_model.specs.Searches.{IsSearchOf}
+use Rattle.constraint_model.specs.WellFormed.{IsGoalOf}
+use Rattle.decompose.specs.Kernels.{kernels_of}
+use Rattle.decompose.specs.Program.{start_of, IsProgramOf}
+use Rattle.branching.specs.Tree.{OneList, EveryList, SolutionsIn}
+use Rattle.solution_lists.specs.Solutions.{SolutionsAreListed}
+use Rattle.solution_lists.specs.Order.{InDeclarationOrder}
+use Rattle.subproblems.specs.Cuts.{CutLaws, CanBeCut}
+use Rattle.subproblems.specs.Paths.{PathLaws}
+use Rattle.search.specs.declared.ends.Why.{Why}
+use Rattle.search.specs.declared.ends.FirstEnd.{FirstEnd}
+use Rattle.search.specs.declared.ends.AllEnd.{AllEnd}
+use Rattle.search.specs.declared.ends.LeastEnd.{LeastEnd}
+use Rattle.search.specs.Machine.{Search}
+use Rattle.search.specs.Ends.{EndsSpent}
+use Rattle.search.specs.Laws.{RecordsSolutions}
+use Rattle.fzn_print.specs.declared.marks.Mark.{Mark}
+use Rattle.answer.specs.declared.options.Options.{Options}
+use Rattle.answer.specs.declared.options.Answer.{Answer}
+use Rattle.answer.specs.Least.{IsLeastCost}
+use Rattle.answer.specs.Cuts.{cut_to}
+use Rattle.answer.specs.Lists.{Assignment, ListsSolutions, ListsSolutionsAt, IsSolutionAt}
+use Rattle.answer.specs.Finished.{IsFinished, IsOptimal, Gives}
+use Rattle.answer.specs.Places.{HasResult, AreResults}
+use Rattle.answer.specs.Results.{program_of, listed, IsFirstResult, AreFirstResults, first_collected, IsFirstSpent, IsAllResult, AreAllResults, all_collected, IsAllSpent, IsLeastResult, least_collected, IsLeastSpent, AreLeastResults}
+use Rattle.answer.specs.Unfinished.{mark_where, IsFirstLeast, IsBestOf, FindsBest, IsBestCollected, IsLeastCollected, GivesCollected}
+use Rattle.answer.specs.Runs.{ReachAll, AreWholeResults}
+use Rattle.answer.specs.Given.{mark_for, IsBestKnown, IsGiven}
+use Rattle.answer.proofs.HeadLaws.{first_of_all, all_of_all}
+use Rattle.answer.proofs.ListedLaws.{start_can_be_cut, can_be_cut, lists_solutions, cut_in_start, cut_in_range, lists_solutions_at}
+use Rattle.answer.proofs.SolveLaws.{firsts_solve, all_solve, least_solve}
+use Rattle.answer.proofs.CoverLaws.{nothing_solves, best_is_solution, least_is_best}
+
+-- ---- without limits no search is stopped by one
+
+limited : (s : Search) (why : Why) (nodes : ℕ) (found : List Assignment) → s.node_limit ≡ 0 → s.round_limit ≡ 0 → EndsSpent s why nodes found → ⊥
+limited s Why.Nodes nodes found n r h = h.out.limited n
+limited s Why.Rounds nodes found n r h = h.out.given_up.limited r
+
+module _ (model : FznModel) (options : Options) (n : options.node_limit ≡ 0) (r : options.round_limit ≡ 0) where
+  first_unlimited : (results : List FirstEnd) (number : ℕ) (path : Option Bounds) (end : FirstEnd) → IsFirstResult model options results number path end → IsFirstSpent end → ⊥
+  first_unlimited results number path (FirstEnd.Done answer) h s = s
+  first_unlimited results number path (FirstEnd.Cut lesser) h s = s
+  first_unlimited results number None (FirstEnd.Spent nodes why) h s = let e : FirstEnd.Spent nodes why ≡ FirstEnd.Done None = h in absurd cc
+  first_unlimited results number (Some sub) (FirstEnd.Spent nodes why) h s = limited _ why nodes [] n r h
+
+  all_unlimited : (number : ℕ) (path : Option Bounds) (end : AllEnd) → IsAllResult model options number path end → IsAllSpent end → ⊥
+  all_unlimited number path (AllEnd.Done found) h s = s
+  all_unlimited number None (AllEnd.Spent nodes why found) h s = let e : AllEnd.Spent nodes why found ≡ AllEnd.Done [] = h in absurd cc
+  all_unlimited number (Some sub) (AllEnd.Spent nodes why found) h s = limited _ why nodes found n r h
+
+  least_unlimited : (posted : List ℤ) (number : ℕ) (path : Option Bounds) (end : LeastEnd) → IsLeastResult model options posted number path end → IsLeastSpent end → ⊥
+  least_unlimited posted number path (LeastEnd.Done answer) h s = s
+  least_unlimited posted number None (LeastEnd.Spent nodes why so_far) h s = let e : LeastEnd.Spent nodes why so_far ≡ LeastEnd.Done None = h in absurd cc
+  least_unlimited posted number (Some sub) (LeastEnd.Spent nodes why so_far) h s = limited _ why nodes h.0 n r h.1.0
+
+-- no result is stopped, if each that is one of its number isn't
+none_spent : {E : Type 0} (model : FznModel) (depth : ℕ) (b : Bounds) (Is : ℕ → Option Bounds → E → Type 0) (Spent : E → Type 0) (results : List E) → AreResults model depth b Is results →
+    ((number : ℕ) (path : Option Bounds) (end : E) → Is number path end → Spent end → ⊥) → Any Spent results → ⊥
+none_spent model depth b Is Spent results are unlimited (k, x, l, e, s) =
+    let own = are.each k x (slice_get-get_or results k x l ∙ ap (λ y. Some y) e) in
+    unlimited k own.path x own.is_result s
+
+first_of_list : (P : Assignment → Type 0) (xs : List Assignment) → All P xs → All P (take 1 xs)
+first_of_list P [] h = All-nil P
+first_of_list P (x ∷ xs) h = All-cons P x [] (All-head P x xs h) (All-nil P)
+
+nothing_in : (a : Assignment) → Contains [] a → ⊥
+nothing_in a h = let l = h.1 in omega arith
+
+there_first : (a : Assignment) (xs : List Assignment) → Contains (a ∷ xs) a
+there_first a xs = (0, omega arith, refl)
+
+same_mark : (spent other : Bool) (given others : List Assignment) (whole mark : Mark) → spent ≡ other → given ≡ others → mark ≡ mark_for spent given whole → mark ≡ mark_for other others whole
+same_mark spent other given others whole mark e f h = h ∙ ap (λ (b : Bool). mark_for b given whole) e ∙ ap (λ (xs : List Assignment). mark_for other xs whole) f
+
+module _ (order : InsideOrder) (one : OneList) (every : EveryList) (laws : PathLaws) (cuts : CutLaws) (are : SolutionsAreListed) (declared : InDeclarationOrder) (records : RecordsSolutions)
+    (model : FznModel) (rule : IsSearchOf model) (goal : IsGoalOf model.vars model.goal) (f : IsProgramOf model (program_of model)) (options : Options) (answer : Answer) where
+  abbrev start : Bounds
+  start = start_of model
+
+  can : CanBeCut model (kernels_of model) start
+  can = start_can_be_cut order model rule f
+
+  -- the list of the start
+  all_list : (found : List Assignment) × SolutionsIn model (kernels_of model) start found
+  all_list = every model (kernels_of model) start rule can.long can.in_range can.fit
+
+  unsatisfiable : ListsSolutions model [] → answer.solutions ≡ [] → answer.mark ≡ Mark.Unsatisfiable → IsFinished model options.all answer
+  unsatisfiable l e m = inl (record { none = λ a h. nothing_in a ((l.each a).1 h); solutions = e; mark = m })
+
+  -- ---- the first solution
+
+  module _ (results : List FirstEnd) (h : AreFirstResults model options start results) (satisfy : model.goal ≡ Goal.Satisfy) (first : options.all ≡ false)
+      (e : answer.solutions ≡ take 1 (flat_map first_collected results)) where
+    first_solve : All (IsSolution model) answer.solutions
+    first_solve =
+        subst (All (IsSolution model)) (sym e)
+        (first_of_list (IsSolution model) (flat_map first_collected results) (firsts_solve order laws cuts records model rule goal f options start can (order.itself start) results h))
+
+    pub first_spent : Any IsFirstSpent results → answer.mark ≡ mark_where answer.solutions → IsGiven model options answer
+    first_spent spent m = record {
+      is_answer = inr (subst₂ (λ (g : Goal) (b : Bool). GivesCollected g b model options answer) (sym satisfy) (sym first) (record { results = results; are = h; spent = spent; solutions = e; mark = m }));
+      whole = λ n r. absurd (none_spent model options.depth start (IsFirstResult model options results) IsFirstSpent results h (first_unlimited model options n r results) spent);
+      solve = first_solve;
+    }
+
+    finished : (found : List Assignment) → SolutionsIn model (kernels_of model) start found → take 1 (flat_map first_collected results) ≡ take 1 found → answer.mark ≡ mark_for false answer.solutions Mark.Plain →
+        IsFinished model options.all answer
+    finished [] s t m = unsatisfiable (lists_solutions order model rule f are declared [] s) (e ∙ t) (same_mark false false answer.solutions [] Mark.Plain answer.mark refl (e ∙ t) m)
+    finished (a ∷ others) s t m =
+        inr (subst₂ (λ (g : Goal) (b : Bool). Gives g b model answer) (sym satisfy) (sym first) (record {
+          first = a;
+          others = others;
+          listed = lists_solutions order model rule f are declared (a ∷ others) s;
+          solutions = e ∙ t;
+          mark = same_mark false false answer.solutions (a ∷ []) Mark.Plain answer.mark refl (e ∙ t) m;
+        }))
+
+    pub first_unspent : All (λ end. IsFirstSpent end → ⊥) results → answer.mark ≡ mark_for false answer.solutions Mark.Plain → IsGiven model options answer
+    first_unspent unspent m =
+        let done = finished all_list.0 all_list.1 (first_of_all one laws model options start results all_list.0 can h unspent all_list.1) m in
+        record { is_answer = inl done; whole = λ n r. done; solve = first_solve }
+
+  -- ---- all solutions
+
+  module _ (results : List AllEnd) (h : AreAllResults model options results) (satisfy : model.goal ≡ Goal.Satisfy) (all : options.all ≡ true)
+      (e : answer.solutions ≡ flat_map all_collected results) where
+    all_solutions_solve : All (IsSolution model) answer.solutions
+    all_solutions_solve = subst (All (IsSolution model)) (sym e) (all_solve order laws cuts records model rule goal f options start can (order.itself start) results h)
+
+    pub all_spent : Any IsAllSpent results → answer.mark ≡ mark_where answer.solutions → IsGiven model options answer
+    all_spent spent m = record {
+      is_answer = inr (subst₂ (λ (g : Goal) (b : Bool). GivesCollected g b model options answer) (sym satisfy) (sym all) (record { results = results; are = h; spent = spent; solutions = e; mark = m }));
+      whole = λ n r. absurd (none_spent model options.depth start (IsAllResult model options) IsAllSpent results h (all_unlimited model options n r) spent);
+      solve = all_solutions_solve;
+    }
+
+    all_finished : (found : List Assignment) → SolutionsIn model (kernels_of model) start found → flat_map all_collected results ≡ found → answer.mark ≡ mark_for false answer.solutions Mark.Complete →
+        IsFinished model options.all answer
+    all_finished [] s t m = unsatisfiable (lists_solutions order model rule f are declared [] s) (e ∙ t) (same_mark false false answer.solutions [] Mark.Complete answer.mark refl (e ∙ t) m)
+    all_finished (a ∷ others) s t m =
+        inr (subst₂ (λ (g : Goal) (b : Bool). Gives g b model answer) (sym satisfy) (sym all) (record {
+          first = a;
+          others = others;
+          listed = lists_solutions order model rule f are declared (a ∷ others) s;
+          solutions = e ∙ t;
+          mark = same_mark false false answer.solutions (a ∷ others) Mark.Complete answer.mark refl (e ∙ t) m;
+        }))
+
+    pub all_unspent : All (λ end. IsAllSpent end → ⊥) results → answer.mark ≡ mark_for false answer.solutions Mark.Complete → IsGiven model options answer
+    all_unspent unspent m =
+        let done = all_finished all_list.0 all_list.1 (all_of_all one laws model options start results all_list.0 can h unspent all_list.1) m in
+        record { is_answer = inl done; whole = λ n r. done; solve = all_solutions_solve }
+
+  -- ---- the least cost
+
+  module _ (objective : model.goal ≢ Goal.Satisfy) where
+    collected_given : (g : Goal) (all : Bool) → g ≢ Goal.Satisfy → IsBestCollected model options answer ⊎ IsLeastCollected model options answer → GivesCollected g all model options answer
+    collected_given Goal.Satisfy all o h = absurd (o refl)
+    collected_given (Goal.Minimize t) all o h = h
+    collected_given (Goal.Maximize t) all o h = h
+
+    optimal_given : (g : Goal) (all : Bool) → g ≢ Goal.Satisfy → IsOptimal model answer → Gives g all model answer
+    optimal_given Goal.Satisfy all o h = absurd (o refl)
+    optimal_given (Goal.Minimize t) all o h = h
+    optimal_given (Goal.Maximize t) all o h = h
+
+    -- what the first phase gives, where a limit stopped it or nothing was collected
+    module _ (results : List LeastEnd) (h : AreWholeResults model options results) (best : Option Assignment) (is_best : IsBestOf model.goal (flat_map least_collected results) best)
+        (e : answer.solutions ≡ listed best) where
+      least_solutions_solve : All (IsSolution model) (flat_map least_collected results)
+      least_solutions_solve = least_solve order laws cuts records model rule goal f options start can (order.itself start) h.are.posted results h.are.are
+
+      best_solves : (best : Option Assignment) → IsBestOf model.goal (flat_map least_collected results) best → All (IsSolution model) (listed best)
+      best_solves None b = All-nil (IsSolution model)
+      best_solves (Some a) b = All-cons (IsSolution model) a [] (best_is_solution model (flat_map least_collected results) a least_solutions_solve b) (All-nil (IsSolution model))
+
+      solved : All (IsSolution model) answer.solutions
+      solved = subst (All (IsSolution model)) (sym e) (best_solves best is_best)
+
+      pub least_spent : Any IsLeastSpent results → answer.mark ≡ mark_where answer.solutions → IsGiven model options answer
+      least_spent spent m = record {
+        is_answer = inr (collected_given model.goal options.all objective (inl (record { results = results; are = h.are; spent = spent; best = best; is_best = is_best; solutions = e; mark = m })));
+        whole = λ n r. absurd (none_spent model options.depth start (IsLeastResult model options h.are.posted) IsLeastSpent results h.are.are (least_unlimited model options n r h.are.posted) spent);
+        solve = solved;
+      }
+
+      pub least_nothing : All (λ end. IsLeastSpent end → ⊥) results → best ≡ None → answer.mark ≡ mark_for false answer.solutions Mark.Complete → IsGiven model options answer
+      least_nothing unspent none m =
+          let empty : answer.solutions ≡ [] = e ∙ ap listed none in
+          let done : IsFinished model options.all answer = inl (record {
+            none = nothing_solves model (flat_map least_collected results) objective (h.reach unspent) (subst (λ (o : Option Assignment). IsBestOf model.goal (flat_map least_collected results) o) none is_best);
+            solutions = empty;
+            mark = same_mark false false answer.solutions [] Mark.Complete answer.mark refl empty m;
+          }) in
+          record { is_answer = inl done; whole = λ n r. done; solve = solved }
+
+    -- what the second phase gives
+    module _ (cost : ℤ) (least : IsLeastCost model cost) (best : Assignment) (finds : FindsBest model options best) (best_is : IsSolutionAt model cost best) (results : List FirstEnd)
+        (h : AreFirstResults model options (cut_to model.goal cost start) results) (e : answer.solutions ≡ take 1 (flat_map first_collected results ++ best ∷ [])) where
+      abbrev cut : Bounds
+      cut = cut_to model.goal cost start
+
+      inside : IsInside cut start
+      inside = cut_in_start order model rule f are declared goal cost least.some
+
+      cut_can : CanBeCut model (kernels_of model) cut
+      cut_can = can_be_cut order model rule f cut inside (cut_in_range order model rule f are declared goal cost least.some)
+
+      both_solve : All (IsSolution model) (flat_map first_collected results ++ best ∷ [])
+      both_solve = All-append (IsSolution model) (flat_map first_collected results) (best ∷ []) (firsts_solve order laws cuts records model rule goal f options cut cut_can inside results h)
+          (All-cons (IsSolution model) best [] best_is.solves (All-nil (IsSolution model)))
+
+      second_solve : All (IsSolution model) answer.solutions
+      second_solve = subst (All (IsSolution model)) (sym e) (first_of_list (IsSolution model) (flat_map first_collected results ++ best ∷ []) both_solve)
+
+      pub second_spent : Any IsFirstSpent results → answer.mark ≡ Mark.Plain → IsGiven model options answer
+      second_spent spent m = record {
+        is_answer = inr (collected_given model.goal options.all objective (inr (record { cost = cost; least = least; best = best; found = finds; results = results; are = h; spent = spent; solutions = e; mark = m })));
+        whole = λ n r. absurd (none_spent model options.depth cut (IsFirstResult model options results) IsFirstSpent results h (first_unlimited model options n r results) spent);
+        solve = second_solve;
+      }
+
+      front : (xs : List Assignment) (a : Assignment) (others : List Assignment) → take 1 xs ≡ a ∷ [] → take 1 (xs ++ best ∷ []) ≡ a ∷ []
+      front [] a others t = absurd cc
+      front (x ∷ xs) a others t = t
+
+      optimum : (found : List Assignment) → SolutionsIn model (kernels_of model) cut found → take 1 (flat_map first_collected results) ≡ take 1 found → answer.mark ≡ Mark.Complete → IsOptimal model answer
+      optimum [] s t m = absurd (nothing_in best (((lists_solutions_at order model rule f are declared goal cost least.some [] s).each best).1 best_is))
+      optimum (a ∷ others) s t m = record {
+        cost = cost;
+        least = least;
+        first = a;
+        others = others;
+        listed = lists_solutions_at order model rule f are declared goal cost least.some (a ∷ others) s;
+        solutions = e ∙ front (flat_map first_collected results) a others t;
+        mark = m;
+      }
+
+      pub second_unspent : All (λ end. IsFirstSpent end → ⊥) results → answer.mark ≡ Mark.Complete → IsGiven model options answer
+      second_unspent unspent m =
+          let list = every model (kernels_of model) cut rule cut_can.long cut_can.in_range cut_can.fit in
+          let done : IsFinished model options.all answer =
+              inr (optimal_given model.goal options.all objective (optimum list.0 list.1 (first_of_all one laws model options cut results list.0 cut_can h unspent list.1) m)) in
+          record { is_answer = inl done; whole = λ n r. done; solve = second_solve }
+
+module _ (order : InsideOrder) (one : OneList) (every : EveryList) (laws : PathLaws) (cuts : CutLaws) (are : SolutionsAreListed) (declared : InDeclarationOrder) (records : RecordsSolutions)
+    (model : FznModel) (rule : IsSearchOf model) (goal : IsGoalOf model.vars model.goal) (f : IsProgramOf model (program_of model)) (options : Options) (answer : Answer) where
+  pub first_given : (results slice : List FirstEnd) → AreFirstResults model options (start_of model) results → model.goal ≡ Goal.Satisfy → options.all ≡ false → answer.solutions ≡ take 1 (flat_map first_collected results) →
+      slice ≡ results → (spent : Bool) → OnTrue spent (Any IsFirstSpent slice) → OnFalse spent (All (λ end. IsFirstSpent end → ⊥) slice) → answer.mark ≡ mark_for spent answer.solutions Mark.Plain → IsGiven model options answer
+  first_given results slice h satisfy first e same true s u m =
+      first_spent order one every laws cuts are declared records model rule goal f options answer results h satisfy first e (subst (λ (rs : List FirstEnd). Any IsFirstSpent rs) same s) m
+  first_given results slice h satisfy first e same false s u m =
+      first_unspent order one every laws cuts are declared records model rule goal f options answer results h satisfy first e (subst (λ (rs : List FirstEnd). All (λ end. IsFirstSpent end → ⊥) rs) same u) m
+
+  pub all_given : (results slice : List AllEnd) → AreAllResults model options results → model.goal ≡ Goal.Satisfy → options.all ≡ true → answer.solutions ≡ flat_map all_collected results →
+      slice ≡ results → (spent : Bool) → OnTrue spent (Any IsAllSpent slice) → OnFalse spent (All (λ end. IsAllSpent end → ⊥) slice) → answer.mark ≡ mark_for spent answer.solutions Mark.Complete → IsGiven model options answer
+  all_given results slice h satisfy all e same true s u m =
+      all_spent order one every laws cuts are declared records model rule goal f options answer results h satisfy all e (subst (λ (rs : List AllEnd). Any IsAllSpent rs) same s) m
+  all_given results slice h satisfy all e same false s u m =
+      all_unspent order one every laws cuts are declared records model rule goal f options answer results h satisfy all e (subst (λ (rs : List AllEnd). All (λ end. IsAllSpent end → ⊥) rs) same u) m
+
+  -- what is known of the best, if no search for the least cost was stopped
+  pub best_known : model.goal ≢ Goal.Satisfy → (results : List LeastEnd) → AreWholeResults model options results → All (λ end. IsLeastSpent end → ⊥) results → (best : Assignment) →
+      IsFirstLeast model.goal (flat_map least_collected results) best → IsBestKnown model options best
+  best_known objective results h unspent best is_best =
+      let solve = least_solve order laws cuts records model rule goal f options (start_of model) (start_can_be_cut order model rule f) (order.itself (start_of model)) h.are.posted results h.are.are in
+      record {
+        found = record { results = results; are = h.are; unspent = unspent; is_best = is_best };
+        solves = best_is_solution model (flat_map least_collected results) best solve is_best;
+        least = λ cost costs. least_is_best model (flat_map least_collected results) best cost solve (h.reach unspent) is_best costs;
+      }
+
+  pub second_given : (objective : model.goal ≢ Goal.Satisfy) (cost : ℤ) (best : Assignment) → IsBestKnown model options best → cost_of model.goal best ≡ Some cost → (results slice : List FirstEnd) →
+      AreFirstResults model options (cut_to model.goal cost (start_of model)) results → answer.solutions ≡ take 1 (flat_map first_collected results ++ best ∷ []) → slice ≡ results → (spent : Bool) →
+      OnTrue spent (Any IsFirstSpent slice) → OnFalse spent (All (λ end. IsFirstSpent end → ⊥) slice) → OnTrue spent (answer.mark ≡ Mark.Plain) → OnFalse spent (answer.mark ≡ Mark.Complete) → IsGiven model options answer
+  second_given objective cost best known costs results slice h e same true s u plain complete =
+      second_spent order one every laws cuts are declared records model rule goal f options answer objective cost (known.least cost costs) best known.found (record { solves = known.solves; costs = costs }) results h e
+      (subst (λ (rs : List FirstEnd). Any IsFirstSpent rs) same s) plain
+  second_given objective cost best known costs results slice h e same false s u plain complete =
+      second_unspent order one every laws cuts are declared records model rule goal f options answer objective cost (known.least cost costs) best known.found (record { solves = known.solves; costs = costs }) results h e
+      (subst (λ (rs : List FirstEnd). All (λ end. IsFirstSpent end → ⊥) rs) same u) complete
+
+  pub whole_solve : (results : List LeastEnd) → AreWholeResults model options results → All (IsSolution model) (flat_map least_collected results)
+  whole_solve results h = least_solve order laws cuts records model rule goal f options (start_of model) (start_can_be_cut order model rule f) (order.itself (start_of model)) h.are.posted results h.are.are

@@ -1,0 +1,89 @@
+-- One run of a job.
+use Rattle.std.proofs.Common.{◌≡◌, ℕ, ℤ, ◌<◌, List, [], ◌∷◌, ◌++◌, Option, None, Some, Result, Ok, refl, sym, ap, subst, ◌∙◌, ◌⊎◌, inl, inr}
+use Rattle.interval.specs.Boxes.{Bounds}
+use Rattle.guarded_tell.specs.declared.kernel.Kernel.{Kernel}
+use Rattle.constraint_model.specs.declared.model.FznModel.{FznModel}
+use Rattle.decompose.specs.Kernels.{kernels_of}
+use Rattle.best_bound.specs.Lists.{Among, with_seen}
+use Rattle.subproblems.specs.Paths.{LeadsTo}
+use Rattle.search.specs.declared.kind.Kind.{Kind}
+use Rattle.search.specs.declared.ends.FirstEnd.{FirstEnd}
+use Rattle.search.specs.declared.ends.AllEnd.{AllEnd}
+use Rattle.search.specs.declared.ends.LeastEnd.{LeastEnd}
+use Rattle.search.specs.Machine.{Search}
+use Rattle.search.specs.Ends.{search_of, IsFirstEnd, IsAllEnd, posts_of}
+use Rattle.search.specs.LeastEnds.{least_of}
+use Rattle.answer.specs.declared.plan.Plan.{Plan}
+use Rattle.answer.specs.Plans.{IsPlan, model_of, kernels_in}
+use Rattle.answer.specs.Places.{HasResult}
+use Rattle.answer.specs.Results.{program_of, first_of, all_of, IsAllResult}
+use Rattle.answer.specs.Runs.{IsFirstRun, AreFirstRuns, AreAllRuns}
+use Rattle.answer.proofs.RunLists.{AllAmong, first_run_more, all_run_more}
+
+module _ {L : Type 0} (plan : Plan L) (is : IsPlan plan) where
+  abbrev model : FznModel
+  model = model_of plan
+
+  pub plan_leads : (number : ℕ) (path : Option Bounds) → LeadsTo model (kernels_in plan) plan.options.depth plan.start.now number path →
+      LeadsTo model (kernels_of model) plan.options.depth plan.start.now number path
+  plan_leads number path h = subst (λ (ks : List Kernel). LeadsTo model ks plan.options.depth plan.start.now number path) is.run.program.kernels h
+
+  -- the search of a run, as the definitions name it
+  pub plan_search : (kind : Kind) (posted : List ℤ) (sub : Bounds) →
+      ◌≡◌ {A = Search} (record { model = model; kernels = kernels_in plan; sub = sub; kind = kind; node_limit = plan.run.now.node_limit; round_limit = plan.run.now.round_limit; posted = posted })
+      (record { model = model; kernels = kernels_of model; sub = sub; kind = kind; node_limit = plan.options.node_limit; round_limit = plan.options.round_limit; posted = posted })
+  plan_search kind posted sub = λ i. record { model = model; kernels = is.run.program.kernels i; sub = sub; kind = kind; node_limit = is.node_limit i; round_limit = is.round_limit i; posted = posted }
+
+  first_none : (number : ℕ) (seen : List ℕ) → LeadsTo model (kernels_in plan) plan.options.depth plan.start.now number None →
+      HasResult model plan.options.depth plan.start.now (IsFirstRun model plan.options seen) number (FirstEnd.Done None)
+  first_none number seen h = record { path = None; leads = plan_leads number None h; is_result = refl }
+
+  first_some : (number : ℕ) (seen : List ℕ) (sub : Bounds) (end : FirstEnd) → LeadsTo model (kernels_in plan) plan.options.depth plan.start.now number (Some sub) →
+      IsFirstEnd (search_of model plan.run.now.program.now plan.run.now.node_limit plan.run.now.round_limit Kind.First sub) number seen end →
+      HasResult model plan.options.depth plan.start.now (IsFirstRun model plan.options seen) number end
+  first_some number seen sub end h k = record {
+    path = Some sub;
+    leads = plan_leads number (Some sub) h;
+    is_result = subst (λ (s : Search). IsFirstEnd s number seen end) (plan_search Kind.First [] sub) k;
+  }
+
+  -- a number that leads to nothing has no solution
+  pub first_run_none : (seen posted : List ℕ) (number : ℕ) (runs : List (ℕ × FirstEnd)) → LeadsTo model (kernels_in plan) plan.options.depth plan.start.now number None →
+      AreFirstRuns model plan.options plan.start.now seen posted runs → AreFirstRuns model plan.options plan.start.now seen posted (runs ++ (number, FirstEnd.Done None) ∷ [])
+  first_run_none seen posted number runs h k =
+      first_run_more model plan.options plan.start.now seen seen posted posted runs number (FirstEnd.Done None) k (λ x there. there) (first_none number seen h) refl
+
+  -- the run of a subproblem
+  pub first_run_some : (seen after posted posts : List ℕ) (number : ℕ) (sub : Bounds) (end : FirstEnd) (runs : List (ℕ × FirstEnd)) →
+      LeadsTo model (kernels_in plan) plan.options.depth plan.start.now number (Some sub) → AllAmong seen after →
+      IsFirstEnd (search_of model plan.run.now.program.now plan.run.now.node_limit plan.run.now.round_limit Kind.First sub) number after end →
+      posts ≡ posts_of number posted end → AreFirstRuns model plan.options plan.start.now seen posted runs →
+      AreFirstRuns model plan.options plan.start.now after posts (runs ++ (number, end) ∷ [])
+  first_run_some seen after posted posts number sub end runs h all is_end e k =
+      first_run_more model plan.options plan.start.now seen after posted posts runs number end k all (first_some number after sub end h is_end) e
+
+  -- ---- for all solutions
+
+  pub all_run_none : (number : ℕ) (runs : List (ℕ × AllEnd)) → LeadsTo model (kernels_in plan) plan.options.depth plan.start.now number None →
+      AreAllRuns model plan.options plan.start.now runs → AreAllRuns model plan.options plan.start.now (runs ++ (number, AllEnd.Done []) ∷ [])
+  all_run_none number runs h k =
+      all_run_more model plan.options plan.start.now runs number (AllEnd.Done []) k (record { path = None; leads = plan_leads number None h; is_result = refl })
+
+  pub all_run_some : (number : ℕ) (sub : Bounds) (end : AllEnd) (runs : List (ℕ × AllEnd)) → LeadsTo model (kernels_in plan) plan.options.depth plan.start.now number (Some sub) →
+      IsAllEnd (search_of model plan.run.now.program.now plan.run.now.node_limit plan.run.now.round_limit Kind.All sub) end →
+      AreAllRuns model plan.options plan.start.now runs → AreAllRuns model plan.options plan.start.now (runs ++ (number, end) ∷ [])
+  all_run_some number sub end runs h is_end k =
+      all_run_more model plan.options plan.start.now runs number end k (record {
+        path = Some sub;
+        leads = plan_leads number (Some sub) h;
+        is_result = subst (λ (s : Search). IsAllEnd s end) (plan_search Kind.All [] sub) is_end;
+      })
+
+-- what a seat had seen was posted, if all that it has seen after a look was
+pub seen_was_posted : {A : Type 0} (o : Option A) (seen after posted posts : List A) → after ≡ with_seen o seen → posts ≡ posted → AllAmong after posts → AllAmong seen posted
+seen_was_posted {A} o seen after posted posts e p all x h =
+    subst (λ (xs : List A). Among xs x) p (all x (subst (λ (xs : List A). Among xs x) (sym e) (still o)))
+  where
+    still : (o : Option A) → Among (with_seen o seen) x
+    still None = h
+    still (Some y) = inr h

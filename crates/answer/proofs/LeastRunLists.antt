@@ -1,0 +1,208 @@
+-- What is known of the runs for the least cost stays as they grow, and as more costs are seen.
+use Rattle.std.proofs.Common.{◌≡◌, ◌≢◌, ◌↔◌, ℕ, zero, suc, ℤ, ◌+◌, ◌<◌, ◌^◌, ◌≤ℤ◌, ◌<ℤ◌, List, [], ◌∷◌, ◌++◌, length, map, reverse, get_or, slice_get, flat_map, Any, Contains, AllPairs, Option, None, Some, refl, sym, ap, subst, ◌∙◌, ◌⊎◌, inl, inr, arith}
+use Rattle.std.proofs.lemmas.Int.{ints}
+use Rattle.std.proofs.lemmas.List.Elements.{Contains-append_left, Contains-append_right, Contains-append_cases}
+use Rattle.interval.specs.Boxes.{Bounds}
+use Rattle.constraint_model.specs.declared.model.Goal.{Goal}
+use Rattle.constraint_model.specs.declared.model.FznModel.{FznModel}
+use Rattle.constraint_model.specs.Relations.{cost_of}
+use Rattle.best_bound.specs.Lists.{Among}
+use Rattle.solution_lists.specs.Solutions.{SolvesInside}
+use Rattle.search.specs.declared.ends.Why.{Why}
+use Rattle.search.specs.declared.ends.LeastEnd.{LeastEnd}
+use Rattle.search.specs.Machine.{Search, State, Reached, Takes, GoesOn, MayFall, IsDone, IsOutOfNodes, IsOutOfRounds}
+use Rattle.search.specs.Ends.{EndsDone, EndsSpent, EndsOutOfNodes, EndsOutOfRounds}
+use Rattle.search.specs.Laws.{MorePosted}
+use Rattle.search.specs.LeastEnds.{least_of, last_of, EndsLeast, IsLeastEnd, PostsCosts, CostAtLeast, OnDone}
+use Rattle.crew.specs.Ends.{AreInOrder}
+use Rattle.answer.specs.declared.options.Options.{Options}
+use Rattle.answer.specs.Lists.{Assignment}
+use Rattle.answer.specs.Places.{StandsAt, HasResult, AreResults}
+use Rattle.answer.specs.Results.{program_of, listed, IsLeastResult, least_collected, CostsAtMost}
+use Rattle.answer.specs.Runs.{IsCovered, IsLeastRun, AreLeastRuns}
+use Rattle.answer.proofs.RunLists.{AllAmong, among_left, among_right, among_cases, nothing_there, the_one, it_is_there, result_kept}
+
+-- ---- entries of lists
+
+pub contains_later : {A : Type 0} (x : A) (xs : List A) (y : A) → Contains xs y → Contains (x ∷ xs) y
+contains_later x xs y (k, l, e) = (suc k, omega arith, e)
+
+pub contains_among : {A : Type 0} (xs : List A) (x : A) → Contains xs x → Among xs x
+contains_among [] x h = absurd (nothing_there x h)
+contains_among (z ∷ xs) x (zero, l, e) = inl e
+contains_among (z ∷ xs) x (suc k, l, e) = inr (contains_among xs x (k, omega arith, e))
+
+pub among_contains : {A : Type 0} (xs : List A) (x : A) → Among xs x → Contains xs x
+among_contains [] x h = absurd h
+among_contains (z ∷ xs) x (inl e) = (0, omega arith, e)
+among_contains (z ∷ xs) x (inr h) = contains_later z xs x (among_contains xs x h)
+
+any_later : (P : ℤ → Type 0) (x : ℤ) (xs : List ℤ) → Any P xs → Any P (x ∷ xs)
+any_later P x xs (k, y, l, e, p) = (suc k, y, omega arith, e, p)
+
+-- some entry of the list, and where it stands in another
+any_among : (P : ℤ → Type 0) (xs ys : List ℤ) → AllAmong xs ys → Any P xs → Any P ys
+any_among P xs ys all (k, x, l, e, p) =
+    let there = among_contains ys x (all x (contains_among xs x (k, l, e))) in (there.0, x, there.1, there.2, p)
+
+-- ---- more costs are posted
+
+module _ (law : MorePosted) (s : Search) (more : List ℤ) (all : (cost : ℤ) → Contains s.posted cost → Contains more cost) where
+  abbrev with_more : Search
+  with_more = record s { posted = more }
+
+  more_fall : (best after : Option ℤ) → MayFall s.posted best after → MayFall more best after
+  more_fall best after (inl e) = inl e
+  more_fall best after (inr h) = inr (h.0, (all h.0 h.1.0, h.1.1))
+
+  more_takes : (state : State) (best : Option ℤ) (rest : List Bounds) (top : Bounds) → Takes s state best rest top → Takes with_more state best rest top
+  more_takes state best rest top h = record { falls = more_fall state.best best h.falls; taken = h.taken }
+
+  more_done : (found : List Assignment) → EndsDone s found → EndsDone with_more found
+  more_done found h = record { state = h.state; reached = law s more h.state all h.reached; done = h.done; is_found = h.is_found }
+
+  more_nodes : (nodes : ℕ) (found : List Assignment) → EndsOutOfNodes s nodes found → EndsOutOfNodes with_more nodes found
+  more_nodes nodes found h = record {
+    state = h.state;
+    reached = law s more h.state all h.reached;
+    out = record { limited = h.out.limited; full = h.out.full; left = h.out.left; sought = h.out.sought };
+    is_count = h.is_count;
+    is_found = h.is_found;
+  }
+
+  more_rounds : (nodes : ℕ) (found : List Assignment) → EndsOutOfRounds s nodes found → EndsOutOfRounds with_more nodes found
+  more_rounds nodes found h = record {
+    state = h.state;
+    out = record {
+      before = h.out.before;
+      reached = law s more h.out.before all h.out.reached;
+      goes_on = record { below = h.out.goes_on.below; sought = h.out.goes_on.sought };
+      rest = h.out.rest;
+      top = h.out.top;
+      takes = more_takes h.out.before h.state.best h.out.rest h.out.top h.out.takes;
+      given_up = h.out.given_up;
+      stack = h.out.stack;
+      count = h.out.count;
+      found = h.out.found;
+    };
+    is_count = h.is_count;
+    is_found = h.is_found;
+  }
+
+  more_spent : (why : Why) (nodes : ℕ) (found : List Assignment) → EndsSpent s why nodes found → EndsSpent with_more why nodes found
+  more_spent Why.Nodes nodes found h = more_nodes nodes found h
+  more_spent Why.Rounds nodes found h = more_rounds nodes found h
+
+  more_ends : (found : List Assignment) (end : LeastEnd) → EndsLeast s found end → EndsLeast with_more found end
+  more_ends found (LeastEnd.Done answer) h = (more_done found h.0, h.1)
+  more_ends found (LeastEnd.Spent nodes why so_far) h = (more_spent why nodes found h.0, h.1)
+
+module _ (law : MorePosted) (model : FznModel) (options : Options) (b : Bounds) where
+  more_result : (seen more : List ℤ) → AllAmong seen more → (number : ℕ) (path : Option Bounds) (end : LeastEnd) → IsLeastResult model options seen number path end → IsLeastResult model options more number path end
+  more_result seen more all number None end h = h
+  more_result seen more all number (Some sub) end h =
+      (h.0, more_ends law (least_of model (program_of model) options.node_limit options.round_limit seen sub) more
+          (λ cost there. among_contains more cost (all cost (contains_among seen cost there))) h.0 end h.1)
+
+  more_at_least : (seen more : List ℤ) → AllAmong seen more → (sub : Bounds) → CostAtLeast model sub seen → CostAtLeast model sub more
+  more_at_least seen more all sub h a cost solves costs = any_among (λ c. c ≤ℤ cost) seen more all (h a cost solves costs)
+
+  more_covered : (seen more : List ℤ) → AllAmong seen more → (path : Option Bounds) (end : LeastEnd) → IsCovered model seen path end → IsCovered model more path end
+  more_covered seen more all None end h = tt
+  more_covered seen more all (Some sub) (LeastEnd.Done answer) h = more_at_least seen more all sub h
+  more_covered seen more all (Some sub) (LeastEnd.Spent nodes why so_far) h = tt
+
+  least_result_kept : (seen more : List ℤ) → AllAmong seen more → (number : ℕ) (end : LeastEnd) →
+      HasResult model options.depth b (IsLeastRun model options seen) number end → HasResult model options.depth b (IsLeastRun model options more) number end
+  least_result_kept seen more all =
+      result_kept model options.depth b (IsLeastRun model options seen) (IsLeastRun model options more)
+      (λ number path end h. (more_result seen more all number path end h.0, more_covered seen more all path end h.1))
+
+  -- a run gives a solution that costs so much at most
+  abbrev IsReached : List (ℕ × LeastEnd) → ℤ → Type 0
+  IsReached runs cost = (number : ℕ) × (end : LeastEnd) × (a : Assignment) × Contains runs (number, end) × Contains (least_collected end) a × CostsAtMost model.goal cost a
+
+  reached_left : (runs runs2 : List (ℕ × LeastEnd)) (cost : ℤ) → IsReached runs cost → IsReached (runs ++ runs2) cost
+  reached_left runs runs2 cost (number, end, a, there, here, costs) = (number, end, a, Contains-append_left runs runs2 (number, end) there, here, costs)
+
+  reached_right : (runs runs2 : List (ℕ × LeastEnd)) (cost : ℤ) → IsReached runs2 cost → IsReached (runs ++ runs2) cost
+  reached_right runs runs2 cost (number, end, a, there, here, costs) = (number, end, a, Contains-append_right runs runs2 (number, end) there, here, costs)
+
+  pub no_least_runs : (seen posted : List ℤ) → posted ≡ [] → AreLeastRuns model options b seen posted []
+  no_least_runs seen posted e = record {
+    each = λ number end h. absurd (nothing_there (number, end) h);
+    reached = λ cost h. let none : Among [] cost = subst (λ (xs : List ℤ). Among xs cost) e h in absurd none;
+  }
+
+  pub least_runs_joined : (seen seen2 posted posted2 : List ℤ) (runs runs2 : List (ℕ × LeastEnd)) → AreLeastRuns model options b seen posted runs → AreLeastRuns model options b seen2 posted2 runs2 →
+      AreLeastRuns model options b (seen ++ seen2) (posted ++ posted2) (runs ++ runs2)
+  least_runs_joined seen seen2 posted posted2 runs runs2 h k = record {
+    each = λ number end there. elim (Contains-append_cases runs runs2 (number, end) there) [
+      | inl l ↦ least_result_kept seen (seen ++ seen2) (among_left seen seen2) number end (h.each number end l)
+      | inr r ↦ least_result_kept seen2 (seen ++ seen2) (among_right seen seen2) number end (k.each number end r)
+    ];
+    reached = λ cost there. elim (among_cases posted posted2 cost there) [
+      | inl l ↦ reached_left runs runs2 cost (h.reached cost l)
+      | inr r ↦ reached_right runs runs2 cost (k.reached cost r)
+    ];
+  }
+
+  pub least_run_more : (seen after posted posts : List ℤ) (runs : List (ℕ × LeastEnd)) (number : ℕ) (end : LeastEnd) → AreLeastRuns model options b seen posted runs → AllAmong seen after →
+      HasResult model options.depth b (IsLeastRun model options after) number end →
+      ((cost : ℤ) → Among posts cost → Among posted cost ⊎ ((a : Assignment) × Contains (least_collected end) a × CostsAtMost model.goal cost a)) →
+      AreLeastRuns model options b after posts (runs ++ (number, end) ∷ [])
+  least_run_more seen after posted posts runs number end h all own by = record {
+    each = λ other end2 there. elim (Contains-append_cases runs ((number, end) ∷ []) (other, end2) there) [
+      | inl l ↦ least_result_kept seen after all other end2 (h.each other end2 l)
+      | inr r ↦ let same : (number, end) ≡ (other, end2) = the_one (number, end) (other, end2) r in
+          subst (λ (run : ℕ × LeastEnd). HasResult model options.depth b (IsLeastRun model options after) run.0 run.1) same own
+    ];
+    reached = λ cost there. elim (by cost there) [
+      | inl l ↦ reached_left runs ((number, end) ∷ []) cost (h.reached cost l)
+      | inr (a, here, costs) ↦ (number, end, a, it_is_there runs (number, end), here, costs)
+    ];
+  }
+
+-- ---- what a run posts
+
+module _ (goal : Goal) where
+  -- the costs fall
+  abbrev pub Falls : List Assignment → Type 0
+  Falls found = AllPairs (λ a b. (c d : ℤ) → cost_of goal a ≡ Some c → cost_of goal b ≡ Some d → d <ℤ c) found
+
+  falls_tail : (x : Assignment) (xs : List Assignment) → Falls (x ∷ xs) → Falls xs
+  falls_tail x xs h i j d l k = h (suc i) (suc j) d (omega arith) (omega arith)
+
+  falls_head : (x y : Assignment) (xs : List Assignment) → Falls (x ∷ xs) → Contains xs y → (c d : ℤ) → cost_of goal x ≡ Some c → cost_of goal y ≡ Some d → d <ℤ c
+  falls_head x y xs h (k, l, e) c d p q = h 0 (suc k) y (omega arith) (omega arith) c d p (ap (cost_of goal) e ∙ q)
+
+  -- the last costs as much as each at most
+  pub last_least : (found : List Assignment) (cost : ℤ) → ((a : Assignment) → (c : ℤ) × (cost_of goal a ≡ Some c)) → Falls found → (a : Assignment) → Contains found a → cost_of goal a ≡ Some cost →
+      (z : Assignment) × (last_of found ≡ Some z) × Contains found z × CostsAtMost goal cost z
+  last_least [] cost costs falls a there e = absurd (nothing_there a there)
+  last_least (x ∷ []) cost costs falls a there e =
+      let same : x ≡ a = the_one x a there in
+      (x, refl, (0, omega arith, refl), (cost, ap (cost_of goal) same ∙ e, omega (arith, ints)))
+  last_least (x ∷ y ∷ ys) cost costs falls a (suc k, l, h) e =
+      let z = last_least (y ∷ ys) cost costs (falls_tail x (y ∷ ys) falls) a (k, omega arith, h) e in
+      (z.0, z.1, contains_later x (y ∷ ys) z.0 z.2, z.3)
+  last_least (x ∷ y ∷ ys) cost costs falls a (zero, l, h) e =
+      let c = costs y in
+      let z = last_least (y ∷ ys) c.0 costs (falls_tail x (y ∷ ys) falls) y (0, omega arith, refl) c.1 in
+      let lower = falls_head x y (y ∷ ys) falls (0, omega arith, refl) cost c.0 (ap (cost_of goal) h ∙ e) c.1 in
+      (z.0, z.1, contains_later x (y ∷ ys) z.0 z.2, (z.3.0, z.3.1, at_most z.3.0 c.0 cost z.3.2 lower))
+    where
+      at_most : (p q r : ℤ) → p ≤ℤ q → q <ℤ r → p ≤ℤ r
+      at_most p q r h k = omega (arith, ints)
+
+  -- each cost of the one list is that of an entry of the other
+  pub cost_there : (found : List Assignment) (costs : List ℤ) → map (cost_of goal) found ≡ map (λ (c : ℤ). Some c) costs → (cost : ℤ) → Contains costs cost → (a : Assignment) × Contains found a × (cost_of goal a ≡ Some cost)
+  cost_there [] [] e cost there = absurd (nothing_there cost there)
+  cost_there [] (c ∷ cs) e cost there = absurd cc
+  cost_there (a ∷ xs) [] e cost there = absurd cc
+  cost_there (a ∷ xs) (c ∷ cs) e cost (zero, l, h) =
+      let same : cost_of goal a ≡ Some c = cc in (a, (0, omega arith, refl), same ∙ ap (λ (z : ℤ). Some z) h)
+  cost_there (a ∷ xs) (c ∷ cs) e cost (suc k, l, h) =
+      let rest : map (cost_of goal) xs ≡ map (λ (z : ℤ). Some z) cs = cc in
+      let there = cost_there xs cs rest cost (k, omega arith, h) in
+      (there.0, contains_later a xs there.0 there.1, there.2)

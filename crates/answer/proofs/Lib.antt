@@ -1,0 +1,15 @@
+pub mod AlongLaws
+pub mod HeadLaws
+pub mod ObjectiveLaws
+pub mod ListedLaws
+pub mod PathBoxes
+pub mod SolveLaws
+pub mod OneFinished
+pub mod RunLists
+pub mod LeastRunLists
+pub mod CoverLaws
+pub mod BestLaws
+pub mod JobLaws
+pub mod LeastJobLaws
+pub mod GivenLaws
+pub mod NumberLaws

@@ -1,0 +1,52 @@
+use Rattle.std.proofs.Common.{◌≡◌, ℤ, ℕ, List, length, All, Any, flat_map, get_or, Option, None, Some, [], false, Bool, refl, sym, ap, subst, ◌∙◌}
+use Rattle.search.specs.declared.ends.LeastEnd.{LeastEnd}
+use Rattle.answer.specs.Results.{listed, least_collected, IsLeastSpent}
+use Rattle.answer.specs.Unfinished.{IsBestOf}
+use Rattle.fzn_print.specs.declared.marks.Mark.{Mark}
+use Rattle.answer.specs.Given.{mark_for}
+use Rattle.answer.proofs.ListedLaws.{is_program}
+use Rattle.answer.proofs.NumberLaws.{objective_of}
+use Rattle.answer.proofs.GivenLaws.{least_spent, least_nothing, best_known, whole_solve}
+use Rattle.answer.proofs.answering.least_answer.Goals as goal
+
+pub best_of-best-requires-clause-lengths : goal.best_of-best-requires-clause-lengths
+best_of-best-requires-clause-lengths g c = λ k d l.
+    let run = c.args.run.now in
+    let is = c.requires.set_up in
+    let model = run.model.now in
+    objective_of model (get_or (flat_map least_collected c.in_ok-ends.ends) k d) c.requires.objective is.is_run.model.objective
+    (whole_solve c.law_inside_order.ensures c.law_one_list.ensures c.law_every_list.ensures c.law_paths.ensures c.law_cuts.ensures c.law_solutions_listed.ensures
+        c.law_in_declaration_order.ensures c.law_records_solutions.ensures model is.is_run.model.search is.is_run.model.objective (is_program model run.program.now is.is_run.program) c.args.options
+        (record { solutions = []; mark = Mark.Plain }) c.in_ok-ends.ends c.in_ok-ends.ensures k d l)
+
+pub returns-then-is_spent : goal.returns-then-is_spent
+returns-then-is_spent g c =
+    let run = c.args.run.now in
+    let is = c.requires.set_up in
+    let model = run.model.now in
+    least_spent c.law_inside_order.ensures c.law_one_list.ensures c.law_every_list.ensures c.law_paths.ensures c.law_cuts.ensures c.law_solutions_listed.ensures
+    c.law_in_declaration_order.ensures c.law_records_solutions.ensures model is.is_run.model.search is.is_run.model.objective (is_program model run.program.now is.is_run.program) c.args.options
+    (record { solutions = c.in_ok-solutions.solutions; mark = c.mark_of-mark.result }) c.requires.objective c.in_ok-ends.ends c.in_ok-ends.ensures c.best_of-best.result c.best_of-best.ensures
+    c.in_ok-solutions.ensures (subst (λ (rs : List LeastEnd). Any IsLeastSpent rs) c.as_slice.ensures c.if-is_spent.ensures.spent) c.mark_of-mark.ensures
+
+pub optimum-requires-clause-best : goal.optimum-requires-clause-best
+optimum-requires-clause-best g c = λ lifetimes outlive.
+    let run = c.args.run.now in
+    let is = c.requires.set_up in
+    let model = run.model.now in
+    best_known c.law_inside_order.ensures c.law_one_list.ensures c.law_every_list.ensures c.law_paths.ensures c.law_cuts.ensures c.law_solutions_listed.ensures
+    c.law_in_declaration_order.ensures c.law_records_solutions.ensures model is.is_run.model.search is.is_run.model.objective (is_program model run.program.now is.is_run.program) c.args.options
+    (record { solutions = []; mark = Mark.Plain }) c.requires.objective c.in_ok-ends.ends c.in_ok-ends.ensures
+    (subst (λ (rs : List LeastEnd). All (λ end. IsLeastSpent end → ⊥) rs) c.as_slice.ensures c.if-is_spent.ensures.unspent) c.in-Some.values
+    (subst (λ (o : Option (List ℤ)). IsBestOf model.goal (flat_map least_collected c.in_ok-ends.ends) o) c.in-Some.is c.best_of-best.ensures)
+
+pub returns-in-None : goal.returns-in-None
+returns-in-None g c =
+    let run = c.args.run.now in
+    let is = c.requires.set_up in
+    let model = run.model.now in
+    least_nothing c.law_inside_order.ensures c.law_one_list.ensures c.law_every_list.ensures c.law_paths.ensures c.law_cuts.ensures c.law_solutions_listed.ensures
+    c.law_in_declaration_order.ensures c.law_records_solutions.ensures model is.is_run.model.search is.is_run.model.objective (is_program model run.program.now is.is_run.program) c.args.options
+    (record { solutions = c.new.result; mark = Mark.Unsatisfiable }) c.requires.objective c.in_ok-ends.ends c.in_ok-ends.ensures c.best_of-best.result c.best_of-best.ensures
+    (c.new.ensures ∙ sym (ap listed c.in-None.is)) (subst (λ (rs : List LeastEnd). All (λ end. IsLeastSpent end → ⊥) rs) c.as_slice.ensures c.if-is_spent.ensures.unspent) c.in-None.is
+    (sym (ap (λ (xs : List (List ℤ)). mark_for false xs Mark.Complete) c.new.ensures))

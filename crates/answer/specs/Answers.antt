@@ -1,0 +1,11 @@
+-- The answer of a model.
+use Rattle.std.specs.Prelude.{◌⊎◌, Bool}
+use Rattle.constraint_model.specs.declared.model.FznModel.{FznModel}
+use Rattle.answer.specs.declared.options.Options.{Options}
+use Rattle.answer.specs.declared.options.Answer.{Answer}
+use Rattle.answer.specs.Finished.{IsFinished}
+use Rattle.answer.specs.Unfinished.{IsUnfinished}
+
+-- the answer of the whole search, or what is known where a limit stopped a part of it
+abbrev pub IsAnswer : FznModel → Options → Answer → Type 0
+IsAnswer model options answer = IsFinished model options.all answer ⊎ IsUnfinished model options answer

@@ -1,0 +1,61 @@
+-- What jobs say of seats, of what a worker keeps, and of runs.
+use Rattle.std.specs.Prelude.{◌≡◌, ◌≢◌, ℕ, ◌^◌, List}
+use Rattle.best_bound.specs.declared.seat.FoundSeat.{FoundSeat}
+use Rattle.best_bound.specs.declared.seat.BestSeat.{BestSeat}
+use Rattle.best_bound.specs.Seats.{IsFoundSeatOf, found_parts, numbers_seen, numbers_posted, IsBestSeatOf, best_parts, costs_seen, costs_posted}
+use Rattle.constraint_model.specs.declared.model.Goal.{Goal}
+use Rattle.subproblem_walk.specs.declared.walk.Walk.{Walk}
+use Rattle.subproblem_walk.specs.Walks.{IsWalkFrom}
+use Rattle.search.specs.declared.ends.FirstEnd.{FirstEnd}
+use Rattle.search.specs.declared.ends.AllEnd.{AllEnd}
+use Rattle.search.specs.declared.ends.LeastEnd.{LeastEnd}
+use Rattle.answer.specs.declared.plan.Plan.{Plan}
+use Rattle.answer.specs.declared.first_job.FirstJob.{FirstJob}
+use Rattle.answer.specs.declared.all_job.AllJob.{AllJob}
+use Rattle.answer.specs.declared.least_job.LeastJob.{LeastJob}
+use Rattle.answer.specs.Plans.{IsPlan, model_of, kernels_in}
+use Rattle.answer.specs.Runs.{AreFirstRuns, AreAllRuns, AreLeastRuns}
+
+-- how many numbers there are
+abbrev pub numbers_of : {L : Type 0} → Plan L → ℕ
+numbers_of plan = 2 ^ plan.options.depth
+
+-- a worker may keep a walk of its own from the box
+abbrev pub Owns : {L : Type 0} → Plan L → Walk → Type 0
+Owns plan walk = IsWalkFrom (model_of plan) (kernels_in plan) plan.start.now walk
+
+-- ---- for the first solution
+
+abbrev pub FirstFits : {L : Type 0} → FirstJob L → FoundSeat → Type 0
+FirstFits job seat = IsPlan job.plan.now × IsFoundSeatOf job.found.now seat
+
+abbrev pub FirstParts : FoundSeat → ℕ → Type 0
+FirstParts seat n = found_parts seat ≡ n
+
+abbrev pub FirstStands : {L : Type 0} → FirstJob L → FoundSeat → List (ℕ × FirstEnd) → Type 0
+FirstStands job seat runs = AreFirstRuns (model_of job.plan.now) job.plan.now.options job.plan.now.start.now (numbers_seen seat) (numbers_posted seat) runs
+
+-- ---- for all solutions
+
+abbrev pub AllFits : {L : Type 0} → AllJob L → Unit {0} → Type 0
+AllFits job seat = IsPlan job.plan.now
+
+abbrev pub AllParts : Unit {0} → ℕ → Type 0
+AllParts seat n = Unit {0}
+
+abbrev pub AllStands : {L : Type 0} → AllJob L → Unit {0} → List (ℕ × AllEnd) → Type 0
+AllStands job seat runs = AreAllRuns (model_of job.plan.now) job.plan.now.options job.plan.now.start.now runs
+
+-- ---- for the least cost
+
+-- the job's model has an objective
+pub record LeastFits {L M : Type 0} (job : LeastJob L M) (seat : BestSeat) : Type 0 where
+  pub plan : IsPlan job.plan.now
+  pub seat_of : IsBestSeatOf job.best.now seat
+  pub objective : (model_of job.plan.now).goal ≢ Goal.Satisfy
+
+abbrev pub LeastParts : BestSeat → ℕ → Type 0
+LeastParts seat n = best_parts seat ≡ n
+
+abbrev pub LeastStands : {L M : Type 0} → LeastJob L M → BestSeat → List (ℕ × LeastEnd) → Type 0
+LeastStands job seat runs = AreLeastRuns (model_of job.plan.now) job.plan.now.options job.plan.now.start.now (costs_seen seat) (costs_posted seat) runs

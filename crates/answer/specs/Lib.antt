@@ -1,0 +1,13 @@
+pub mod Least
+pub mod Cuts
+pub mod Lists
+pub mod Finished
+pub mod Places
+pub mod Results
+pub mod Unfinished
+pub mod Answers
+pub mod Given
+pub mod Plans
+pub mod Runs
+pub mod Jobs
+pub mod Laws

@@ -1,0 +1,21 @@
+-- What all runs of one job share.
+use Rattle.std.specs.Prelude.{◌≡◌, ◌≤◌, List}
+use Rattle.interval.specs.Boxes.{IsInside}
+use Rattle.guarded_tell.specs.declared.kernel.Kernel.{Kernel}
+use Rattle.constraint_model.specs.declared.model.FznModel.{FznModel}
+use Rattle.search.specs.Premises.{IsRun}
+use Rattle.answer.specs.declared.plan.Plan.{Plan}
+
+abbrev pub model_of : {L : Type 0} → Plan L → FznModel
+model_of plan = plan.run.now.model.now
+
+abbrev pub kernels_in : {L : Type 0} → Plan L → List Kernel
+kernels_in plan = plan.run.now.program.now.kernels
+
+-- the run is one, it has the limits of the options, and the box lies in the start of the model's program
+pub record IsPlan {L : Type 0} (plan : Plan L) : Type 0 where
+  pub run : IsRun plan.run.now
+  pub node_limit : plan.run.now.node_limit ≡ plan.options.node_limit
+  pub round_limit : plan.run.now.round_limit ≡ plan.options.round_limit
+  pub depth : plan.options.depth ≤ 16
+  pub inside : IsInside plan.start.now plan.run.now.program.now.start

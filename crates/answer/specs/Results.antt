@@ -1,0 +1,107 @@
+-- What the searches of all subproblems give, where each has its own limits: one result for each number.
+use Rattle.std.specs.Prelude.{◌≡◌, ℕ, ◌<◌, ℤ, ◌≤ℤ◌, List, [], ◌∷◌, flat_map, Option, Some, None, All, Any, Contains}
+use Rattle.interval.specs.Boxes.{Bounds}
+use Rattle.constraint_model.specs.declared.model.Goal.{Goal}
+use Rattle.constraint_model.specs.declared.model.FznModel.{FznModel}
+use Rattle.constraint_model.specs.Relations.{cost_of}
+use Rattle.decompose.specs.declared.program.Program.{Program}
+use Rattle.decompose.specs.Kernels.{kernels_of}
+use Rattle.decompose.specs.Program.{start_of}
+use Rattle.search.specs.declared.kind.Kind.{Kind}
+use Rattle.search.specs.declared.ends.FirstEnd.{FirstEnd}
+use Rattle.search.specs.declared.ends.AllEnd.{AllEnd}
+use Rattle.search.specs.Machine.{Search}
+use Rattle.search.specs.Ends.{search_of, EndsSpent, IsFirstDone, IsAllEnd}
+use Rattle.search.specs.declared.ends.LeastEnd.{LeastEnd}
+use Rattle.search.specs.LeastEnds.{least_of, EndsLeast, IsCost}
+use Rattle.answer.specs.declared.options.Options.{Options}
+use Rattle.answer.specs.Lists.{Assignment}
+use Rattle.answer.specs.Places.{StandsAt, AreResults}
+
+-- the program of a model
+abbrev pub program_of : FznModel → Program
+program_of model = record { start = start_of model; kernels = kernels_of model }
+
+-- a list of one solution, or of none
+abbrev pub listed : Option Assignment → List Assignment
+listed None = []
+listed (Some a) = a ∷ []
+
+-- ---- for the first solution
+
+abbrev pub first_of : FznModel → Options → Bounds → Search
+first_of model options sub = search_of model (program_of model) options.node_limit options.round_limit Kind.First sub
+
+-- The result of a number: none where there is no subproblem, else an end of its limited search; or the search was
+-- cancelled, since a lesser number's result is a solution.
+abbrev pub IsFirstResult : FznModel → Options → List FirstEnd → ℕ → Option Bounds → FirstEnd → Type 0
+IsFirstResult model options results number None end = end ≡ FirstEnd.Done None
+IsFirstResult model options results number (Some sub) (FirstEnd.Done answer) = IsFirstDone (first_of model options sub) answer
+IsFirstResult model options results number (Some sub) (FirstEnd.Spent nodes why) = EndsSpent (first_of model options sub) why nodes []
+IsFirstResult model options results number (Some sub) (FirstEnd.Cut lesser) =
+    (a : Assignment) × (lesser < number) × StandsAt results lesser (FirstEnd.Done (Some a))
+
+abbrev pub AreFirstResults : FznModel → Options → Bounds → List FirstEnd → Type 0
+AreFirstResults model options b results = AreResults model options.depth b (IsFirstResult model options results) results
+
+-- the solutions that it collected
+abbrev pub first_collected : FirstEnd → List Assignment
+first_collected (FirstEnd.Done answer) = listed answer
+first_collected (FirstEnd.Spent nodes why) = []
+first_collected (FirstEnd.Cut lesser) = []
+
+abbrev pub IsFirstSpent : FirstEnd → Type 0
+IsFirstSpent (FirstEnd.Done answer) = ⊥
+IsFirstSpent (FirstEnd.Spent nodes why) = Unit {0}
+IsFirstSpent (FirstEnd.Cut lesser) = ⊥
+
+-- ---- for all solutions
+
+abbrev pub all_of : FznModel → Options → Bounds → Search
+all_of model options sub = search_of model (program_of model) options.node_limit options.round_limit Kind.All sub
+
+abbrev pub IsAllResult : FznModel → Options → ℕ → Option Bounds → AllEnd → Type 0
+IsAllResult model options number None end = end ≡ AllEnd.Done []
+IsAllResult model options number (Some sub) end = IsAllEnd (all_of model options sub) end
+
+abbrev pub AreAllResults : FznModel → Options → List AllEnd → Type 0
+AreAllResults model options results = AreResults model options.depth (start_of model) (IsAllResult model options) results
+
+abbrev pub all_collected : AllEnd → List Assignment
+all_collected (AllEnd.Done found) = found
+all_collected (AllEnd.Spent nodes why found) = found
+
+abbrev pub IsAllSpent : AllEnd → Type 0
+IsAllSpent (AllEnd.Done found) = ⊥
+IsAllSpent (AllEnd.Spent nodes why found) = Unit {0}
+
+-- ---- for the least cost
+
+-- an end of the limited search that may use these posted costs
+abbrev pub IsLeastResult : FznModel → Options → List ℤ → ℕ → Option Bounds → LeastEnd → Type 0
+IsLeastResult model options posted number None end = end ≡ LeastEnd.Done None
+IsLeastResult model options posted number (Some sub) end =
+    (found : List Assignment) × EndsLeast (least_of model (program_of model) options.node_limit options.round_limit posted sub) found end
+
+abbrev pub least_collected : LeastEnd → List Assignment
+least_collected (LeastEnd.Done answer) = listed answer
+least_collected (LeastEnd.Spent nodes why so_far) = listed so_far
+
+abbrev pub IsLeastSpent : LeastEnd → Type 0
+IsLeastSpent (LeastEnd.Done answer) = ⊥
+IsLeastSpent (LeastEnd.Spent nodes why so_far) = Unit {0}
+
+-- the solution costs so much at most
+abbrev pub CostsAtMost : Goal → ℤ → Assignment → Type 0
+CostsAtMost goal most a = (cost : ℤ) × (cost_of goal a ≡ Some cost) × (cost ≤ℤ most)
+
+-- a cost that the searches may have posted: that of a solution, and not below all that were collected
+pub record MayBePosted (model : FznModel) (collected : List Assignment) (cost : ℤ) : Type 0 where
+  pub is_cost : IsCost model cost
+  pub reached : Any (CostsAtMost model.goal cost) collected
+
+-- the searches use costs that one of them posted
+pub record AreLeastResults (model : FznModel) (options : Options) (results : List LeastEnd) : Type 0 where
+  pub posted : List ℤ
+  pub may_be : (cost : ℤ) → Contains posted cost → MayBePosted model (flat_map least_collected results) cost
+  pub are : AreResults model options.depth (start_of model) (IsLeastResult model options posted) results

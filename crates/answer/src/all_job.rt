@@ -1,0 +1,107 @@
+//! The search of all subproblems for all solutions.
+
+ghost use Rattle.std.specs.Prelude.{◌<◌, [], IfOk};
+ghost use Rattle.crew.specs.AtWork.{IsRun};
+ghost use Rattle.crew.specs.Ends.{AreEndsOf};
+ghost use Rattle.answer.specs.Plans.{IsPlan, model_of};
+ghost use Rattle.answer.specs.Places.{AreResults};
+ghost use Rattle.answer.specs.Results.{IsAllResult};
+ghost use Rattle.answer.specs.Jobs.{numbers_of, Owns, AllFits, AllParts, AllStands};
+
+use crate::plan::{Plan, numbers_to, subproblem};
+use crew::{Gate as CrewGate, Job, Workers, run_numbers};
+use interval::NoMemory;
+use list_of::ListOf;
+use rounds::Gate;
+use search::{AllEnd, run_all};
+use std::alloc::Global;
+use std::thread::Threads;
+use subproblem_walk::Walk;
+
+/// The runs share nothing.
+#[derive(Drop)]
+pub(crate) struct AllJob<'a, L> {
+    /// What is searched.
+    pub(crate) plan: &'a Plan<'a, L>,
+}
+
+impl<L> Job<(), Walk, AllEnd> for AllJob<'_, L> {
+    ghost use Rattle.answer.specs.Jobs.{numbers_of, Owns, AllFits, AllParts, AllStands};
+
+    ghost count = { λ job. numbers_of job.plan.now };
+
+    ghost fits = { λ job. AllFits job };
+
+    ghost has_parts = { AllParts };
+
+    ghost owns = { λ job. Owns job.plan.now };
+
+    ghost stands = { λ job. AllStands job };
+
+    fn own(&self, alloc: Global) -> Result<Walk, NoMemory> {
+        Ok(Walk::new(alloc))
+    }
+
+    fn split(&self, _seat: &mut ()) {}
+
+    fn join_back(&self, _seat: &mut (), _other: ()) {}
+}
+
+/// Searches the subproblem of a number for all its solutions.
+fn run_number<R: Threads + Sync, L: Gate + Sync>(
+    rt: &R,
+    alloc: Global,
+    job: &AllJob<'_, L>,
+    own: &mut Walk,
+    number: u32,
+) -> Result<AllEnd, NoMemory>
+    requires number { number < numbers_of job.now.plan.now }
+    requires owns { Owns job.now.plan.now own.old }
+    requires plan { IsPlan job.now.plan.now }
+    ensures { IsRun (AllFits job.now) AllParts (Owns job.now.plan.now) (AllStands job.now) own.new tt tt number result }
+{
+    match subproblem(alloc, job.plan, own, number)? {
+        None => Ok(AllEnd::Done(ListOf::new(alloc))),
+        Some(sub) => {
+            let end = run_all(rt, alloc, job.plan.run, &sub)?;
+            Ok(end)
+        }
+    }
+}
+
+/// Runs all numbers, each once.
+fn run_each<R: Threads + Sync, C: CrewGate + Sync, L: Gate + Sync>(
+    rt: &R,
+    alloc: Global,
+    crew: &mut Workers,
+    job: &AllJob<'_, L>,
+    gate: &C,
+) -> Result<ListOf<AllEnd>, NoMemory>
+    requires { IsPlan job.now.plan.now }
+    ensures { IfOk result (AreEndsOf (numbers_of job.now.plan.now) (AllStands job.now tt)) }
+{
+    let run = |own: &mut Walk, _seat: &mut (), number: u32| -> Result<AllEnd, NoMemory>
+        requires { (number < numbers_of job.now.plan.now) × Owns job.now.plan.now own.now × IsPlan job.now.plan.now }
+        ensures { IsRun (AllFits job.entry.now) AllParts (Owns job.entry.now.plan.now) (AllStands job.entry.now) own.exit.now tt tt number result }
+    { run_number(rt, alloc, job, own, number) };
+    let count = numbers_to(job.plan.options.depth);
+    let mut seat = ();
+    let ends = run_numbers(rt, alloc, crew, job, &run, count, gate, &mut seat)?;
+    Ok(ends)
+}
+
+/// The ends of the searches of all numbers for all solutions.
+pub(crate) fn all_ends<R: Threads + Sync, C: CrewGate + Sync, L: Gate + Sync>(
+    rt: &R,
+    alloc: Global,
+    crew: &mut Workers,
+    plan: &Plan<'_, L>,
+    gate: &C,
+) -> Result<ListOf<AllEnd>, NoMemory>
+    requires { IsPlan plan.now }
+    ensures { IfOk result (AreResults (model_of plan.now) plan.now.options.depth plan.now.start.now (IsAllResult (model_of plan.now) plan.now.options)) }
+{
+    let job = AllJob { plan: &*plan };
+    let ends = run_each(rt, alloc, crew, &job, gate)?;
+    Ok(ends)
+}

@@ -1,0 +1,279 @@
+//! The answer of a model.
+
+ghost use Rattle.std.specs.Prelude.{◌≡◌, ◌≢◌, ◌≤◌, ◌++◌, ℤ, List, [], ◌∷◌, take, false, true, All, Some, IfOk};
+ghost use Rattle.std.specs.Bool.{OnTrue, OnFalse};
+ghost use Rattle.constraint_model.specs.declared.model.Goal.TheVariants.{Satisfy};
+ghost use Rattle.constraint_model.specs.Relations.{cost_of, IsSolution};
+ghost use Rattle.constraint_model.specs.WellFormed.{IsWellFormed};
+ghost use Rattle.answer.specs.Results.{listed};
+ghost use Rattle.answer.specs.Finished.{IsFinished};
+ghost use Rattle.answer.specs.Answers.{IsAnswer};
+ghost use Rattle.answer.specs.Given.{mark_for, IsSetUp, IsBestKnown, IsGiven};
+
+use crate::all_job::all_ends;
+use crate::collecting::{all_of, first_of, is_any_spent, list_of_one};
+use crate::first_job::first_ends;
+use crate::least_job::least_ends;
+use crate::objective::{best_of, cut_to_value};
+use crate::options::{Answer, Options};
+use crate::plan::Plan;
+use branching::{law_every_list, law_one_list};
+use constraint_model::{FznModel, Goal};
+use crew::{Gate as CrewGate, Workers};
+use decompose::compile;
+use fzn_print::Mark;
+use interval::{NoMemory, law_inside_order};
+use list_of::ListOf;
+use moved_set::Masks;
+use rounds::Gate;
+use search::{Run, law_records_solutions};
+use solution_lists::{law_in_declaration_order, law_solutions_listed};
+use std::alloc::Global;
+use std::thread::Threads;
+use subproblems::{law_cuts, law_paths};
+
+/// The mark behind some solutions: `whole` is that of a search that no limit stopped.
+fn mark_of(is_spent: bool, given: &ListOf<ListOf<i64>>, whole: Mark) -> Mark
+    ensures { result ≡ mark_for is_spent given.now whole }
+{
+    match (is_spent, given.is_empty()) {
+        (true, true) => Mark::Unknown,
+        (true, false) => Mark::Plain,
+        (false, true) => Mark::Unsatisfiable,
+        (false, false) => whole,
+    }
+}
+
+/// The first solution.
+fn first_answer<R: Threads + Sync, C: CrewGate + Sync, L: Gate + Sync>(
+    rt: &R,
+    alloc: Global,
+    run: &Run<'_, L>,
+    options: Options,
+    crew: &mut Workers,
+    gate: &C,
+) -> Result<Answer, NoMemory>
+    requires set_up { IsSetUp run.now options }
+    requires satisfy { run.now.model.now.goal ≡ Satisfy }
+    requires first { options.all ≡ false }
+    ensures { IfOk result (IsGiven run.now.model.now options) }
+{
+    law_inside_order();
+    law_one_list();
+    law_every_list();
+    law_paths();
+    law_cuts();
+    law_solutions_listed();
+    law_in_declaration_order();
+    law_records_solutions();
+    let plan = Plan {
+        run: &*run,
+        options,
+        start: &run.program.start,
+    };
+    let ends = first_ends(rt, alloc, crew, &plan, gate)?;
+    let is_spent = is_any_spent(ends.as_slice());
+    let solutions = list_of_one(alloc, first_of(ends))?;
+    let mark = mark_of(is_spent, &solutions, Mark::Plain);
+    Ok(Answer { solutions, mark })
+}
+
+/// All solutions.
+fn all_answer<R: Threads + Sync, C: CrewGate + Sync, L: Gate + Sync>(
+    rt: &R,
+    alloc: Global,
+    run: &Run<'_, L>,
+    options: Options,
+    crew: &mut Workers,
+    gate: &C,
+) -> Result<Answer, NoMemory>
+    requires set_up { IsSetUp run.now options }
+    requires satisfy { run.now.model.now.goal ≡ Satisfy }
+    requires all { options.all ≡ true }
+    ensures { IfOk result (IsGiven run.now.model.now options) }
+{
+    law_inside_order();
+    law_one_list();
+    law_every_list();
+    law_paths();
+    law_cuts();
+    law_solutions_listed();
+    law_in_declaration_order();
+    law_records_solutions();
+    let plan = Plan {
+        run: &*run,
+        options,
+        start: &run.program.start,
+    };
+    let ends = all_ends(rt, alloc, crew, &plan, gate)?;
+    let is_spent = is_any_spent(ends.as_slice());
+    let solutions = all_of(alloc, ends)?;
+    let mark = mark_of(is_spent, &solutions, Mark::Complete);
+    Ok(Answer { solutions, mark })
+}
+
+/// The first of a solution and another.
+fn or_best(first: Option<ListOf<i64>>, best: ListOf<i64>) -> Option<ListOf<i64>>
+    ensures { (found : List (List ℤ)) → listed first ≡ take 1 found → listed result ≡ take 1 (found ++ best ∷ []) }
+{
+    match first {
+        Some(values) => Some(values),
+        None => Some(best),
+    }
+}
+
+/// The mark of the second phase.
+fn second_mark(is_spent: bool) -> Mark
+    ensures spent { OnTrue is_spent (result ≡ Mark.Plain) }
+    ensures unspent { OnFalse is_spent (result ≡ Mark.Complete) }
+{
+    if is_spent { Mark::Plain } else { Mark::Complete }
+}
+
+/// The first solution that costs as much as the best one, where none costs less.
+fn optimum<R: Threads + Sync, C: CrewGate + Sync, L: Gate + Sync>(
+    rt: &R,
+    alloc: Global,
+    run: &Run<'_, L>,
+    options: Options,
+    crew: &mut Workers,
+    gate: &C,
+    best: ListOf<i64>,
+) -> Result<Answer, NoMemory>
+    requires set_up { IsSetUp run.now options }
+    requires objective { run.now.model.now.goal ≢ Satisfy }
+    requires best { IsBestKnown run.now.model.now options best }
+    ensures { IfOk result (IsGiven run.now.model.now options) }
+{
+    law_inside_order();
+    law_one_list();
+    law_every_list();
+    law_paths();
+    law_cuts();
+    law_solutions_listed();
+    law_in_declaration_order();
+    law_records_solutions();
+    let mut cut = run.program.start.copy(alloc)?;
+    cut_to_value(run.model.goal, best.as_slice(), &mut cut);
+    let plan = Plan {
+        run: &*run,
+        options,
+        start: &cut,
+    };
+    let ends = first_ends(rt, alloc, crew, &plan, gate)?;
+    let is_spent = is_any_spent(ends.as_slice());
+    let solutions = list_of_one(alloc, or_best(first_of(ends), best))?;
+    let mark = second_mark(is_spent);
+    Ok(Answer { solutions, mark })
+}
+
+/// A solution of least cost.
+fn least_answer<R: Threads + Sync, C: CrewGate + Sync, L: Gate + Sync>(
+    rt: &R,
+    alloc: Global,
+    run: &Run<'_, L>,
+    options: Options,
+    crew: &mut Workers,
+    gate: &C,
+) -> Result<Answer, NoMemory>
+    requires set_up { IsSetUp run.now options }
+    requires objective { run.now.model.now.goal ≢ Satisfy }
+    ensures { IfOk result (IsGiven run.now.model.now options) }
+{
+    law_inside_order();
+    law_one_list();
+    law_every_list();
+    law_paths();
+    law_cuts();
+    law_solutions_listed();
+    law_in_declaration_order();
+    law_records_solutions();
+    let plan = Plan {
+        run: &*run,
+        options,
+        start: &run.program.start,
+    };
+    let ends = least_ends(rt, alloc, crew, &plan, gate)?;
+    let is_spent = is_any_spent(ends.as_slice());
+    let best = best_of(run.model.goal, ends);
+    if is_spent {
+        let solutions = list_of_one(alloc, best)?;
+        let mark = mark_of(true, &solutions, Mark::Complete);
+        return Ok(Answer { solutions, mark });
+    }
+    match best {
+        None => Ok(Answer {
+            solutions: ListOf::new(alloc),
+            mark: Mark::Unsatisfiable,
+        }),
+        Some(values) => optimum(rt, alloc, run, options, crew, gate, values),
+    }
+}
+
+/// The answer of a set up run.
+fn answer_of<R: Threads + Sync, C: CrewGate + Sync, L: Gate + Sync>(
+    rt: &R,
+    alloc: Global,
+    run: &Run<'_, L>,
+    options: Options,
+    crew: &mut Workers,
+    gate: &C,
+) -> Result<Answer, NoMemory>
+    requires { IsSetUp run.now options }
+    ensures { IfOk result (IsGiven run.now.model.now options) }
+{
+    match run.model.goal {
+        Goal::Satisfy => {
+            if options.all {
+                all_answer(rt, alloc, run, options, crew, gate)
+            } else {
+                first_answer(rt, alloc, run, options, crew, gate)
+            }
+        }
+        Goal::Minimize(_) | Goal::Maximize(_) => least_answer(rt, alloc, run, options, crew, gate),
+    }
+}
+
+/// What may hold the workers and the lanes up. They change no answer.
+#[derive(Drop)]
+pub struct Gates<'a, C, L> {
+    /// Is passed by each worker before it asks for a number.
+    pub crew: &'a C,
+    /// Is passed by each lane before it runs a propagator.
+    pub lanes: &'a L,
+}
+
+/// The answer of a model: its first solution in the order of the search tree, all solutions, or the first of those of least
+/// cost; where a limit stopped a part of the search, what is known.
+pub fn answer<R: Threads + Sync, C: CrewGate + Sync, L: Gate + Sync>(
+    rt: &R,
+    alloc: Global,
+    model: &FznModel,
+    options: &Options,
+    gates: &Gates<'_, C, L>,
+) -> Result<Answer, NoMemory>
+    requires model { IsWellFormed model.now }
+    requires some_workers { 1 ≤ options.now.workers }
+    requires most_workers { options.now.workers ≤ 64 }
+    requires some_lanes { 1 ≤ options.now.lanes }
+    requires most_lanes { options.now.lanes ≤ 64 }
+    requires depth { options.now.depth ≤ 16 }
+    ensures answer { IfOk result (IsAnswer model.now options.now) }
+    ensures whole { options.now.node_limit ≡ 0 → options.now.round_limit ≡ 0 → IfOk result (IsFinished model.now options.now.all) }
+    ensures solve { IfOk result (λ answer. All (IsSolution model.now) answer.solutions) }
+{
+    let program = compile(alloc, model)?;
+    let masks = Masks::new(alloc, program.kernels.as_slice(), program.start.len())?;
+    let run = Run {
+        model: &*model,
+        program: &program,
+        masks: &masks,
+        lanes: options.lanes,
+        node_limit: options.node_limit,
+        round_limit: options.round_limit,
+        gate: &*gates.lanes,
+    };
+    let mut crew = Workers::new(alloc, options.workers)?;
+    let answer = answer_of(rt, alloc, &run, *options, &mut crew, gates.crew)?;
+    Ok(answer)
+}

@@ -1,0 +1,131 @@
+//! The search of all subproblems for the first solution.
+
+ghost use Rattle.std.specs.Prelude.{◌<◌, [], IfOk};
+ghost use Rattle.crew.specs.AtWork.{IsRun};
+ghost use Rattle.crew.specs.Ends.{AreEndsOf};
+ghost use Rattle.answer.specs.Plans.{IsPlan, model_of};
+ghost use Rattle.answer.specs.Results.{AreFirstResults};
+ghost use Rattle.answer.specs.Jobs.{numbers_of, Owns, FirstFits, FirstParts, FirstStands};
+
+use crate::plan::{Plan, numbers_to, subproblem};
+use best_bound::{Found, FoundSeat, Numbers};
+use crew::{Gate as CrewGate, Job, Workers, run_numbers};
+use interval::NoMemory;
+use list_of::ListOf;
+use rounds::Gate;
+use search::{FirstEnd, run_first};
+use std::alloc::Global;
+use std::thread::Threads;
+use subproblem_walk::Walk;
+
+/// Any number may be posted; which numbers were is known from the runs.
+pub(crate) struct AnyNumber;
+
+impl Numbers for AnyNumber {
+    ghost has_solution = { λ _. Unit {0} };
+}
+
+/// The runs share the least number of a subproblem that has a solution.
+#[derive(Drop)]
+pub(crate) struct FirstJob<'a, L> {
+    /// What is searched.
+    pub(crate) plan: &'a Plan<'a, L>,
+    /// The least number so far.
+    pub(crate) found: &'a Found<AnyNumber>,
+}
+
+impl<L> Job<FoundSeat, Walk, FirstEnd> for FirstJob<'_, L> {
+    ghost use Rattle.answer.specs.Jobs.{numbers_of, Owns, FirstFits, FirstParts, FirstStands};
+
+    ghost count = { λ job. numbers_of job.plan.now };
+
+    ghost fits = { λ job. FirstFits job };
+
+    ghost has_parts = { FirstParts };
+
+    ghost owns = { λ job. Owns job.plan.now };
+
+    ghost stands = { λ job. FirstStands job };
+
+    fn own(&self, alloc: Global) -> Result<Walk, NoMemory> {
+        Ok(Walk::new(alloc))
+    }
+
+    fn split(&self, seat: &mut FoundSeat) -> FoundSeat {
+        self.found.split(seat)
+    }
+
+    fn join_back(&self, seat: &mut FoundSeat, other: FoundSeat) {
+        self.found.join_back(seat, other);
+    }
+}
+
+/// Searches the subproblem of a number for its first solution, unless a lesser number has one.
+fn run_number<R: Threads + Sync, L: Gate + Sync>(
+    rt: &R,
+    alloc: Global,
+    job: &FirstJob<'_, L>,
+    own: &mut Walk,
+    seat: &mut FoundSeat,
+    number: u32,
+) -> Result<FirstEnd, NoMemory>
+    requires number { number < numbers_of job.now.plan.now }
+    requires owns { Owns job.now.plan.now own.old }
+    requires fits { FirstFits job.now seat.old }
+    ensures { IsRun (FirstFits job.now) FirstParts (Owns job.now.plan.now) (FirstStands job.now) own.new seat.old seat.new number result }
+{
+    match subproblem(alloc, job.plan, own, number)? {
+        None => Ok(FirstEnd::Done(None)),
+        Some(sub) => {
+            let end = run_first(rt, alloc, job.plan.run, &sub, number, job.found, seat)?;
+            Ok(end)
+        }
+    }
+}
+
+/// Runs all numbers, each once.
+fn run_all<R: Threads + Sync, C: CrewGate + Sync, L: Gate + Sync>(
+    rt: &R,
+    alloc: Global,
+    crew: &mut Workers,
+    job: &FirstJob<'_, L>,
+    gate: &C,
+    seat: &mut FoundSeat,
+) -> Result<ListOf<FirstEnd>, NoMemory>
+    requires fits { FirstFits job.now seat.old }
+    requires parts { FirstParts seat.old 1024 }
+    requires none { FirstStands job.now seat.old [] }
+    ensures ends { IfOk result (AreEndsOf (numbers_of job.now.plan.now) (FirstStands job.now seat.new)) }
+    ensures fits { FirstFits job.now seat.new }
+    ensures parts { FirstParts seat.new 1024 }
+{
+    let run = |own: &mut Walk, seat: &mut FoundSeat, number: u32| -> Result<FirstEnd, NoMemory>
+        requires { (number < numbers_of job.now.plan.now) × Owns job.now.plan.now own.now × FirstFits job.now seat.now }
+        ensures { IsRun (FirstFits job.entry.now) FirstParts (Owns job.entry.now.plan.now) (FirstStands job.entry.now) own.exit.now seat.entry.now seat.exit.now number result }
+    { run_number(rt, alloc, job, own, seat, number) };
+    let count = numbers_to(job.plan.options.depth);
+    let ends = run_numbers(rt, alloc, crew, job, &run, count, gate, seat)?;
+    Ok(ends)
+}
+
+/// The ends of the searches of all numbers for the first solution.
+pub(crate) fn first_ends<R: Threads + Sync, C: CrewGate + Sync, L: Gate + Sync>(
+    rt: &R,
+    alloc: Global,
+    crew: &mut Workers,
+    plan: &Plan<'_, L>,
+    gate: &C,
+) -> Result<ListOf<FirstEnd>, NoMemory>
+    requires { IsPlan plan.now }
+    ensures { IfOk result (AreFirstResults (model_of plan.now) plan.now.options plan.now.start.now) }
+{
+    let (found, mut seat) = Found::<AnyNumber>::new(alloc)?;
+    let job = FirstJob {
+        plan: &*plan,
+        found: &found,
+    };
+    let ends = run_all(rt, alloc, crew, &job, gate, &mut seat)?;
+    // the look shows that all numbers that were seen were posted
+    found.seen(&mut seat);
+    Ok(ends)
+}

@@ -1,0 +1,185 @@
+//! The search of all subproblems for the least cost.
+
+ghost use Rattle.std.specs.Prelude.{◌≡◌, ◌≢◌, ◌<◌, ◌↔◌, ℤ, [], IfOk};
+ghost use Rattle.constraint_model.specs.declared.model.Goal.TheVariants.{Satisfy};
+ghost use Rattle.search.specs.LeastEnds.{IsCost};
+ghost use Rattle.crew.specs.AtWork.{IsRun};
+ghost use Rattle.crew.specs.Ends.{AreEndsOf};
+ghost use Rattle.decompose.specs.Program.{start_of};
+ghost use Rattle.answer.specs.Plans.{IsPlan, model_of};
+ghost use Rattle.answer.specs.Runs.{AreWholeResults};
+ghost use Rattle.answer.specs.Jobs.{numbers_of, Owns, LeastFits, LeastParts, LeastStands};
+
+use crate::plan::{Plan, numbers_to, subproblem};
+use best_bound::{Best, BestSeat, Costs};
+use branching::law_every_list;
+use crew::{Gate as CrewGate, Job, Workers, run_numbers};
+use interval::{NoMemory, law_inside_order};
+use list_of::ListOf;
+use rounds::Gate;
+use search::{LeastEnd, law_costs_fall, law_more_posted, run_least};
+use solution_lists::law_solutions_listed;
+use std::alloc::Global;
+use std::marker::{Brand, PhantomData};
+use std::thread::Threads;
+use subproblem_walk::Walk;
+use subproblems::{law_cuts, law_paths};
+
+/// The costs of a model's solutions, for contracts alone.
+pub(crate) trait OfModel {
+    ghost use Rattle.std.specs.Prelude.{ℤ};
+
+    ghost is_cost: { ℤ → Type 0 };
+}
+
+impl OfModel for Brand {
+    ghost is_cost = { λ _. Unit {0} };
+}
+
+/// The same costs, as what may be posted.
+pub(crate) struct CostsOf<M> {
+    model: PhantomData<M>,
+}
+
+impl<M: OfModel> Costs for CostsOf<M> {
+    ghost is_cost = { M.is_cost };
+}
+
+/// The runs share the best cost.
+#[derive(Drop)]
+pub(crate) struct LeastJob<'a, L, M: OfModel> {
+    /// What is searched.
+    pub(crate) plan: &'a Plan<'a, L>,
+    /// The best cost so far.
+    pub(crate) best: &'a Best<CostsOf<M>>,
+}
+
+impl<L, M: OfModel> Job<BestSeat, Walk, LeastEnd> for LeastJob<'_, L, M> {
+    ghost use Rattle.answer.specs.Jobs.{numbers_of, Owns, LeastFits, LeastParts, LeastStands};
+
+    ghost count = { λ job. numbers_of job.plan.now };
+
+    ghost fits = { λ job. LeastFits job };
+
+    ghost has_parts = { LeastParts };
+
+    ghost owns = { λ job. Owns job.plan.now };
+
+    ghost stands = { λ job. LeastStands job };
+
+    fn own(&self, alloc: Global) -> Result<Walk, NoMemory> {
+        Ok(Walk::new(alloc))
+    }
+
+    fn split(&self, seat: &mut BestSeat) -> BestSeat {
+        self.best.split(seat)
+    }
+
+    fn join_back(&self, seat: &mut BestSeat, other: BestSeat) {
+        law_more_posted();
+        self.best.join_back(seat, other);
+    }
+}
+
+/// Searches the subproblem of a number for the least cost.
+fn run_number<R: Threads + Sync, L: Gate + Sync, M: OfModel>(
+    rt: &R,
+    alloc: Global,
+    job: &LeastJob<'_, L, M>,
+    own: &mut Walk,
+    seat: &mut BestSeat,
+    number: u32,
+) -> Result<LeastEnd, NoMemory>
+    requires number { number < numbers_of job.now.plan.now }
+    requires owns { Owns job.now.plan.now own.old }
+    requires fits { LeastFits job.now seat.old }
+    requires costs { (cost : ℤ) → M.is_cost cost ↔ IsCost (model_of job.now.plan.now) cost }
+    ensures { IsRun (LeastFits job.now) LeastParts (Owns job.now.plan.now) (LeastStands job.now) own.new seat.old seat.new number result }
+{
+    law_more_posted();
+    law_costs_fall();
+    law_inside_order();
+    law_cuts();
+    match subproblem(alloc, job.plan, own, number)? {
+        None => Ok(LeastEnd::Done(None)),
+        Some(sub) => {
+            // its contract says that the bounds are in range
+            let _length = sub.len();
+            let end = run_least(rt, alloc, job.plan.run, &sub, job.best, seat)?;
+            Ok(end)
+        }
+    }
+}
+
+/// Runs all numbers, each once.
+fn run_all<R: Threads + Sync, C: CrewGate + Sync, L: Gate + Sync, M: OfModel + Sync>(
+    rt: &R,
+    alloc: Global,
+    crew: &mut Workers,
+    job: &LeastJob<'_, L, M>,
+    gate: &C,
+    seat: &mut BestSeat,
+) -> Result<ListOf<LeastEnd>, NoMemory>
+    requires fits { LeastFits job.now seat.old }
+    requires parts { LeastParts seat.old 1024 }
+    requires none { LeastStands job.now seat.old [] }
+    requires costs { (cost : ℤ) → M.is_cost cost ↔ IsCost (model_of job.now.plan.now) cost }
+    ensures ends { IfOk result (AreEndsOf (numbers_of job.now.plan.now) (LeastStands job.now seat.new)) }
+    ensures fits { LeastFits job.now seat.new }
+    ensures parts { LeastParts seat.new 1024 }
+{
+    let run = |own: &mut Walk, seat: &mut BestSeat, number: u32| -> Result<LeastEnd, NoMemory>
+        requires { (number < numbers_of job.now.plan.now) × Owns job.now.plan.now own.now × LeastFits job.now seat.now × ((cost : ℤ) → M.is_cost cost ↔ IsCost (model_of job.now.plan.now) cost) }
+        ensures { IsRun (LeastFits job.entry.now) LeastParts (Owns job.entry.now.plan.now) (LeastStands job.entry.now) own.exit.now seat.entry.now seat.exit.now number result }
+    { run_number(rt, alloc, job, own, seat, number) };
+    let count = numbers_to(job.plan.options.depth);
+    let ends = run_numbers(rt, alloc, crew, job, &run, count, gate, seat)?;
+    Ok(ends)
+}
+
+/// The same, where the test of costs has a name.
+fn ends_of<R: Threads + Sync, C: CrewGate + Sync, L: Gate + Sync, M: OfModel + Sync>(
+    rt: &R,
+    alloc: Global,
+    crew: &mut Workers,
+    plan: &Plan<'_, L>,
+    gate: &C,
+    _model: PhantomData<M>,
+) -> Result<ListOf<LeastEnd>, NoMemory>
+    requires plan { IsPlan plan.now }
+    requires start { plan.now.start.now ≡ start_of (model_of plan.now) }
+    requires objective { (model_of plan.now).goal ≢ Satisfy }
+    requires costs { (cost : ℤ) → M.is_cost cost ↔ IsCost (model_of plan.now) cost }
+    ensures { IfOk result (AreWholeResults (model_of plan.now) plan.now.options) }
+{
+    law_inside_order();
+    law_every_list();
+    law_paths();
+    law_cuts();
+    law_solutions_listed();
+    let (best, mut seat) = Best::<CostsOf<M>>::new(alloc)?;
+    let job = LeastJob {
+        plan: &*plan,
+        best: &best,
+    };
+    let ends = run_all(rt, alloc, crew, &job, gate, &mut seat)?;
+    // the look shows that all costs that were seen were posted, and are those of solutions
+    best.seen(&mut seat);
+    Ok(ends)
+}
+
+/// The ends of the searches of all numbers for the least cost.
+pub(crate) fn least_ends<R: Threads + Sync, C: CrewGate + Sync, L: Gate + Sync>(
+    rt: &R,
+    alloc: Global,
+    crew: &mut Workers,
+    plan: &Plan<'_, L>,
+    gate: &C,
+) -> Result<ListOf<LeastEnd>, NoMemory>
+    requires plan { IsPlan plan.now }
+    requires start { plan.now.start.now ≡ start_of (model_of plan.now) }
+    requires objective { (model_of plan.now).goal ≢ Satisfy }
+    ensures { IfOk result (AreWholeResults (model_of plan.now) plan.now.options) }
+{
+    ends_of(rt, alloc, crew, plan, gate, PhantomData::<Brand>)
+}

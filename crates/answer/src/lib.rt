@@ -1,0 +1,16 @@
+//! The answer of a model: its subproblems are searched by workers, and their results put together.
+#![tactic(auto)]
+
+mod all_job;
+mod answering;
+mod collecting;
+mod first_job;
+mod laws;
+mod least_job;
+mod objective;
+mod options;
+mod plan;
+
+pub use answering::{Gates, answer};
+pub use laws::law_one_finished;
+pub use options::{Answer, Options};

@@ -1,0 +1,30 @@
+//! What is asked of the solver, and what it answers.
+
+use fzn_print::Mark;
+use list_of::ListOf;
+
+/// How a model is solved.
+#[derive(Debug, Clone, Copy, PartialEq, Eq)]
+pub struct Options {
+    /// Whether all solutions are asked for; it makes no difference where there is an objective.
+    pub all: bool,
+    /// How many workers run subproblems, 1 to 64.
+    pub workers: u32,
+    /// How many lanes each worker propagates with, 1 to 64.
+    pub lanes: u32,
+    /// How deep the search tree is cut: there are at most 2 to this power subproblems. At most 16.
+    pub depth: u32,
+    /// The most nodes of a subproblem's search; 0 is no limit.
+    pub node_limit: u64,
+    /// The most rounds of one propagation; 0 is no limit.
+    pub round_limit: u64,
+}
+
+/// What is answered.
+#[derive(Drop)]
+pub struct Answer {
+    /// The solutions that are given, one number for each declared variable.
+    pub solutions: ListOf<ListOf<i64>>,
+    /// What is known besides.
+    pub mark: Mark,
+}

@@ -1,5 +1,5 @@
 -- The rows of products, quotients, remainders and absolute values.
-use Rattle.std.proofs.Common.{◌≡◌, ◌≢◌, ◌↔◌, ℤ, pos, ◌-ℤ◌, ◌*ℤ◌, unsigned_abs, false, List, [], ◌∷◌, length, refl, sym, ap, ◌∙◌}
+use Rattle.std.proofs.Common.{◌≡◌, ◌≢◌, ◌↔◌, ℤ, pos, ◌*ℤ◌, unsigned_abs, false, List, [], ◌∷◌, length, refl, sym, ap, ◌∙◌}
 use Rattle.guarded_tell.specs.declared.kernel.Kernel.{Kernel}
 use Rattle.guarded_tell.specs.Kernels.{vars_of, HasNumbers, Holds as KernelHolds}
 use Rattle.guarded_tell.specs.Division.{quotient_of}

@@ -1,12 +1,11 @@
 -- What is written of a solution for an item is well-formed.
-use Rattle.std.proofs.Common.{◌≡◌, ℕ, ◌≤◌, List, [], ◌∷◌, length, map, Bool, true, false, cond, ◌&&◌, nat_le, Option, Some, None, refl, ap, ◌∙◌, sym, subst, arith, ℤ}
+use Rattle.std.proofs.Common.{◌≡◌, ℕ, ◌≤◌, List, [], ◌∷◌, length, map, Bool, true, false, cond, ◌&&◌, nat_le, Option, Some, None, refl, subst, arith, ℤ}
 use Rattle.std.specs.Prelude.{option_map, option_and_then, codes}
 use Rattle.std.specs.List.{AllByRecursion as Each, list_all}
 use Rattle.std.specs.Option.{IfSome, option_or}
 use Rattle.std.proofs.lemmas.Bool.{and_parts, leb-true}
 use Rattle.std.proofs.lemmas.List.{length-map}
 use Rattle.std.proofs.lemmas.List.Elements.{All-from_recursion, recursion_from_All}
-use Rattle.fzn_lexer.specs.declared.Token.{Token}
 use Rattle.fzn_parser.specs.declared.tree.SetLit.{SetLit}
 use Rattle.fzn_parser.specs.declared.tree.Shape.{Shape}
 use Rattle.fzn_parser.specs.Notes.{ArgTree, set_arg, row_arg, AnnTree, bare, called, ArgTrees, no_args, more_args}

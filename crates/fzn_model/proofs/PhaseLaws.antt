@@ -4,7 +4,6 @@ use Rattle.std.specs.Prelude.{option_map, All, codes}
 use Rattle.std.specs.List.{AllByRecursion as Each, cons_option, range_with_len}
 use Rattle.std.specs.Option.{IfSome}
 use Rattle.std.proofs.lemmas.List.Elements.{All-from_recursion, recursion_from_All}
-use Rattle.fzn_lexer.specs.declared.Token.{Token}
 use Rattle.fzn_parser.specs.Notes.{ArgTree, note_arg, row_arg, AnnTree, bare, called, ArgTrees, no_args, more_args}
 use Rattle.fzn_parser.specs.Texts.{spelling}
 use Rattle.constraint_model.specs.declared.model.Term.{Term}

@@ -23,7 +23,7 @@ use Rattle.constraint_model.specs.Numbers.{largest}
 use Rattle.constraint_model.specs.Ranges.{Range}
 use Rattle.fzn_model.specs.Scopes.{Scope, set_at, number_at, expr_meaning}
 use Rattle.fzn_model.specs.declared.effect.Effect.{Effect}
-use Rattle.constraint_model.specs.Fits.{named, constraint_on, constant_of, constants_in, goal_constants, add_once, kernels_of}
+use Rattle.constraint_model.specs.Fits.{named, constraint_on, constants_in, goal_constants, add_once, kernels_of}
 use Rattle.fzn_model.specs.Outputs.{has_output_var, output_ranges}
 use Rattle.constraint_model.specs.Searches.{last_phase}
 use Rattle.fzn_model.specs.Searches.{phases_of}

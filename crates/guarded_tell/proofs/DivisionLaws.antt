@@ -1,17 +1,16 @@
 -- The division: monotone, exact at a point, its tells on its own variables, and these alone.
-use Rattle.std.proofs.Common.{◌≡◌, ◌≢◌, ◌≤◌, ℕ, List, [], ◌∷◌, ◌++◌, true, ℤ, pos, negsuc, neg_ℤ, ◌+ℤ◌, ◌-ℤ◌, ◌*ℤ◌, ◌≤ℤ◌, ◌<ℤ◌, unsigned_abs, sym, ap, subst, ◌∙◌, arith}
-use Rattle.std.proofs.lemmas.Int.{ints, clamps}
+use Rattle.std.proofs.Common.{◌≡◌, ◌≢◌, ◌≤◌, ℕ, List, [], ◌∷◌, ◌++◌, true, ℤ, pos, negsuc, neg_ℤ, ◌+ℤ◌, ◌-ℤ◌, ◌*ℤ◌, ◌≤ℤ◌, ◌<ℤ◌, unsigned_abs, sym, subst, ◌∙◌, arith}
+use Rattle.std.proofs.lemmas.Int.{ints}
 use Rattle.std.proofs.lemmas.List.Elements.{All-append}
 use Rattle.std.specs.Int.RustNames.{int_lt}
 use Rattle.std.specs.Ordering.{int_eq}
 use Rattle.std.specs.List.{All}
 use Rattle.guarded_tell.specs.declared.tell.Tell.{Tell}
-use Rattle.interval.specs.Limits.{IsNumber, ClampOrder}
+use Rattle.interval.specs.Limits.{ClampOrder}
 use Rattle.interval.specs.Quotients.{QuotientOrder}
 use Rattle.interval.specs.Corners.{Range, IsOneSided, CornerOrder, least_product, greatest_product}
 use Rattle.interval.specs.Boxes.{Bounds, low_of, high_of}
 use Rattle.guarded_tell.specs.Words.{low_tell, high_tell, when, Keeps, value_of, point_of, AreVariables, AgreeIn, SameValuesIn, IsProperIn, IsInsideIn}
-use Rattle.guarded_tell.specs.Absolute.{greatest_absolute}
 use Rattle.guarded_tell.specs.Times.{range_of, excludes_zero}
 use Rattle.guarded_tell.specs.Division.{quotient_of, least_quotient, greatest_quotient, size_of, divisor_tells, shrinking_tells, corner_tells, truncated_tells, rest_tells, dividend_tells, div_tells, IsQuotient}
 use Rattle.guarded_tell.specs.Remainder.{remainder_of}
@@ -20,7 +19,7 @@ use Rattle.guarded_tell.proofs.LiteralLaws.{value-point}
 use Rattle.guarded_tell.proofs.BoundLaws.{keeps_low, keeps_high}
 use Rattle.guarded_tell.proofs.PlaceLaws.{IsPlaced, low_placed, high_placed}
 use Rattle.guarded_tell.proofs.TimesLaws.{IsWithin, IsFixed, within, under_four, over_four, least_of_same, greatest_of_same, least_product_rises, greatest_product_falls, least_product_point, greatest_product_point, one_sided, excluded, within_one_sided, high_number}
-use Rattle.guarded_tell.proofs.TruncationLaws.{IsRest, quotients_from, quotients_to, quotient_small, quotient_and_remainder, remainder_is_rest}
+use Rattle.guarded_tell.proofs.TruncationLaws.{quotients_from, quotients_to, quotient_small, quotient_and_remainder, remainder_is_rest}
 use Rattle.guarded_tell.proofs.DivisorLaws.{divisor_along, divisor_kept, divisor_placed, some_size, size_falls, size_point, low_not_zero, excluded_point}
 
 -- ---- monotone

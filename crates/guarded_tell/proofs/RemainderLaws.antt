@@ -1,5 +1,5 @@
 -- The remainder: monotone, exact at a point, its tells on its own variables, and these alone.
-use Rattle.std.proofs.Common.{◌≡◌, ◌≢◌, ℕ, ◌<◌, List, [], ◌∷◌, ◌++◌, Bool, true, false, not, ◌&&◌, ℤ, pos, negsuc, neg_ℤ, ◌-ℤ◌, ◌*ℤ◌, ◌≤ℤ◌, ◌<ℤ◌, unsigned_abs, refl, sym, ap, subst, ◌∙◌, arith}
+use Rattle.std.proofs.Common.{◌≡◌, ◌≢◌, ℕ, List, [], ◌∷◌, ◌++◌, true, not, ◌&&◌, ℤ, pos, negsuc, ◌≤ℤ◌, ◌<ℤ◌, unsigned_abs, refl, sym, subst, ◌∙◌, arith}
 use Rattle.std.proofs.lemmas.Int.{ints, clamps, by_lt_z}
 use Rattle.std.proofs.lemmas.Bool.{and_parts, and_from, not_from_false, true≢false}
 use Rattle.std.proofs.lemmas.Bool.Decides.{Decides-int_eq}
@@ -8,14 +8,13 @@ use Rattle.std.specs.Int.RustNames.{int_lt}
 use Rattle.std.specs.Ordering.{int_eq}
 use Rattle.std.specs.List.{All}
 use Rattle.guarded_tell.specs.declared.tell.Tell.{Tell}
-use Rattle.interval.specs.Limits.{IsNumber, ClampOrder}
+use Rattle.interval.specs.Limits.{ClampOrder}
 use Rattle.interval.specs.Quotients.{QuotientOrder}
 use Rattle.interval.specs.Corners.{Range}
 use Rattle.interval.specs.Boxes.{Bounds, low_of, high_of}
 use Rattle.guarded_tell.specs.Words.{low_tell, high_tell, when, Keeps, value_of, point_of, AreVariables, AgreeIn, SameValuesIn, IsProperIn, IsInsideIn}
-use Rattle.guarded_tell.specs.Absolute.{greatest_absolute}
 use Rattle.guarded_tell.specs.Times.{range_of}
-use Rattle.guarded_tell.specs.Division.{quotient_of, size_of, divisor_tells}
+use Rattle.guarded_tell.specs.Division.{size_of, divisor_tells}
 use Rattle.guarded_tell.specs.Remainder.{remainder_of, least_remainder, greatest_remainder, between_tells, reach_tells, is_one, have_remainder, remainder_tells, fixed_tells, mod_tells, IsRemainder}
 use Rattle.guarded_tell.proofs.Lists.{All-left, All-right, All-two, two-All, All-when, when-All}
 use Rattle.guarded_tell.proofs.LiteralLaws.{value-point, by_bool, not_true}

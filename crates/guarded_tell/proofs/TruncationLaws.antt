@@ -1,6 +1,6 @@
 -- The quotient that is rounded toward zero: what it leaves, and that it lies between the corner quotients.
-use Rattle.std.proofs.Common.{◌≡◌, ◌≢◌, ℕ, zero, suc, ◌+◌, ◌*◌, ◌/◌, ◌%◌, ◌<◌, ◌≤◌, ℤ, pos, negsuc, neg_ℤ, ◌+ℤ◌, ◌-ℤ◌, ◌*ℤ◌, ◌≤ℤ◌, ◌<ℤ◌, inl, inr, ◌⊎◌, ⊎_elim, refl, unsigned_abs, int_div, int_rem, arith}
-use Rattle.std.proofs.lemmas.Int.{ints, clamps, by_lt_z, quot-rem, rem_below}
+use Rattle.std.proofs.Common.{◌≡◌, ◌≢◌, ℕ, zero, suc, ◌*◌, ◌/◌, ◌<◌, ◌≤◌, ℤ, pos, negsuc, ◌+ℤ◌, ◌*ℤ◌, ◌≤ℤ◌, ◌<ℤ◌, ⊎_elim, refl, unsigned_abs, int_rem, arith}
+use Rattle.std.proofs.lemmas.Int.{ints, clamps, quot-rem, rem_below}
 use Rattle.std.proofs.lemmas.Nat.{le-div}
 use Rattle.std.proofs.Math.Nat.{mod-le, div-le_self, div-mul-le_self, mul-le-mul_left}
 use Rattle.std.specs.Int.{int_min, int_max}

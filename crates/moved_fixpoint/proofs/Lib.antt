@@ -8,3 +8,4 @@ pub mod Widths
 pub mod QuietLaws
 pub mod Asking
 pub mod Examples
+pub mod SmallKernels

@@ -1,6 +1,10 @@
 //! Propagation that asks what moved: kernels whose variables haven't moved are passed over.
 #![tactic(auto)]
 
+#[cfg(test)]
+mod drawn;
+#[cfg(test)]
+mod drawn_tests;
 mod joiner;
 mod laws;
 mod round;

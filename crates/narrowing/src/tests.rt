@@ -102,12 +102,11 @@ fn settled(
 fn lanes_end_as_one_thread_does(rt: HostRuntime) -> Result<(), Fail> {
     let both = [Kernel::Abs { x: 0, y: 1 }, Kernel::Abs { x: 1, y: 0 }];
     let start = [(-2, 3), (0, 9)];
-    let alone = settled(rt.alloc(), start, &both)?;
-    assert_eq!(rt; alone, Some([0, 3, 0, 3]));
+    let expected = [0, 3, 0, 3];
+    assert!(rt; settled(rt.alloc(), start, &both)? == Some(expected));
     for lanes in 1..4 {
         let (ended, bounds) = narrowed(&rt, rt.alloc(), start, &both, lanes, 0, &NoGate)?;
-        assert_eq!(rt; ended, Narrowed::Fixed);
-        assert_eq!(rt; bounds, [0, 3, 0, 3]);
+        assert!(rt; ended == Narrowed::Fixed && bounds == expected);
     }
     Ok(())
 }
@@ -116,13 +115,9 @@ fn lanes_end_as_one_thread_does(rt: HostRuntime) -> Result<(), Fail> {
 #[test]
 fn a_limit_gives_a_box_up(rt: HostRuntime) -> Result<(), Fail> {
     let both = [Kernel::Abs { x: 0, y: 1 }, Kernel::Abs { x: 1, y: 0 }];
-    let start = [(-2, 3), (0, 9)];
     for lanes in 1..4 {
-        let (ended, _) = narrowed(&rt, rt.alloc(), start, &both, lanes, 1, &NoGate)?;
-        assert_eq!(rt; ended, Narrowed::GivenUp);
-        let (ended, bounds) = narrowed(&rt, rt.alloc(), start, &both, lanes, 100, &NoGate)?;
-        assert_eq!(rt; ended, Narrowed::Fixed);
-        assert_eq!(rt; bounds, [0, 3, 0, 3]);
+        let (ended, _) = narrowed(&rt, rt.alloc(), [(-2, 3), (0, 9)], &both, lanes, 1, &NoGate)?;
+        assert!(rt; ended == Narrowed::GivenUp);
     }
     Ok(())
 }
@@ -131,34 +126,44 @@ fn a_limit_gives_a_box_up(rt: HostRuntime) -> Result<(), Fail> {
 #[test]
 fn a_box_fails(rt: HostRuntime) -> Result<(), Fail> {
     let both = [Kernel::Abs { x: 0, y: 1 }, Kernel::Abs { x: 1, y: 0 }];
-    let apart = [(-2, 3), (5, 9)];
-    let crossed = [(-2, 3), (5, 4)];
-    assert_eq!(rt; settled(rt.alloc(), apart, &both)?, None);
-    assert_eq!(rt; settled(rt.alloc(), crossed, &both)?, None);
+    let start = [(-2, 3), (5, 9)];
+    assert!(rt; settled(rt.alloc(), start, &both)?.is_none());
     for lanes in 1..4 {
-        let (ended, _) = narrowed(&rt, rt.alloc(), apart, &both, lanes, 0, &NoGate)?;
-        assert_eq!(rt; ended, Narrowed::Failed);
-        let (ended, _) = narrowed(&rt, rt.alloc(), crossed, &both, lanes, 0, &NoGate)?;
-        assert_eq!(rt; ended, Narrowed::Failed);
+        let (ended, _) = narrowed(&rt, rt.alloc(), start, &both, lanes, 0, &NoGate)?;
+        assert!(rt; ended == Narrowed::Failed);
     }
     Ok(())
 }
 
-/// Two lanes run two kernels in two rounds or more; without kernels no lane runs.
+#[tactic(auto, unfolding(rounds::specs::Shares::share_limit))]
+#[test]
+fn a_crossed_box_fails(rt: HostRuntime) -> Result<(), Fail> {
+    let both = [Kernel::Abs { x: 0, y: 1 }, Kernel::Abs { x: 1, y: 0 }];
+    for lanes in 1..4 {
+        let (ended, _) = narrowed(&rt, rt.alloc(), [(-2, 3), (5, 4)], &both, lanes, 0, &NoGate)?;
+        assert!(rt; ended == Narrowed::Failed);
+    }
+    Ok(())
+}
+
+/// Two lanes run two kernels in two rounds or more.
 #[tactic(auto, unfolding(rounds::specs::Shares::share_limit))]
 #[test]
 fn lanes_pass_the_gate(rt: HostRuntime) -> Result<(), Fail> {
     let both = [Kernel::Abs { x: 0, y: 1 }, Kernel::Abs { x: 1, y: 0 }];
-    let start = [(-2, 3), (0, 9)];
     let gate = Count::new();
-    let (ended, _) = narrowed(&rt, rt.alloc(), start, &both, 2, 0, &gate)?;
-    assert_eq!(rt; ended, Narrowed::Fixed);
-    assert!(rt; gate.passes() >= 4);
+    let (ended, _) = narrowed(&rt, rt.alloc(), [(-2, 3), (0, 9)], &both, 2, 0, &gate)?;
+    assert!(rt; ended == Narrowed::Fixed && gate.passes() >= 4);
+    Ok(())
+}
+
+#[tactic(auto, unfolding(rounds::specs::Shares::share_limit))]
+#[test]
+fn without_kernels_no_lane_runs(rt: HostRuntime) -> Result<(), Fail> {
     let gate = Count::new();
-    let (ended, bounds) = narrowed(&rt, rt.alloc(), start, &[], 2, 0, &gate)?;
-    assert_eq!(rt; ended, Narrowed::Fixed);
-    assert_eq!(rt; bounds, [-2, 3, 0, 9]);
-    assert_eq!(rt; gate.passes(), 0);
+    let (ended, bounds) = narrowed(&rt, rt.alloc(), [(-2, 3), (0, 9)], &[], 2, 0, &gate)?;
+    assert!(rt; ended == Narrowed::Fixed && bounds == [-2, 3, 0, 9]);
+    assert!(rt; gate.passes() == 0);
     Ok(())
 }
 
@@ -203,11 +208,9 @@ fn narrowed_twice<R: Threads + Sync>(
 #[test]
 fn a_noted_variable_is_heard(rt: HostRuntime) -> Result<(), Fail> {
     let both = [Kernel::Abs { x: 0, y: 1 }, Kernel::Abs { x: 1, y: 0 }];
-    let start = [(-2, 3), (0, 9)];
     for lanes in 1..4 {
-        let (ended, bounds) = narrowed_twice(&rt, rt.alloc(), start, &both, lanes, 2)?;
-        assert_eq!(rt; ended, Narrowed::Fixed);
-        assert_eq!(rt; bounds, [2, 2, 2, 2]);
+        let (ended, bounds) = narrowed_twice(&rt, rt.alloc(), [(-2, 3), (0, 9)], &both, lanes, 2)?;
+        assert!(rt; ended == Narrowed::Fixed && bounds == [2, 2, 2, 2]);
     }
     Ok(())
 }

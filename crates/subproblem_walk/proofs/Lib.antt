@@ -1,2 +1,4 @@
+pub mod CutterLemmas
+pub mod StartLemmas
 pub mod WalkLemmas
 pub mod Examples

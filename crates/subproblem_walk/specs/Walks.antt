@@ -8,6 +8,7 @@ use Rattle.subproblems.specs.declared.cutting.Cut.TheVariants.{Failed, Fixed, Pa
 use Rattle.subproblem_walk.specs.declared.walk.Level.{Level}
 use Rattle.subproblem_walk.specs.declared.walk.Walk.{Walk}
 use Rattle.subproblems.specs.Cuts.{IsCutInto}
+use Rattle.subproblem_walk.specs.Nodes.{cut_of, IsNodeOf}
 
 -- the part on the side of a turn
 abbrev pub side_of : Bool → Bounds → Bounds → Bounds
@@ -19,14 +20,14 @@ side_of true left right = right
 pub data AreLevelsBelow : FznModel → List Kernel → Bounds → List Level → Type 0 where
   nothing : (model : FznModel) (kernels : List Kernel) (b : Bounds) (levels : List Level) → levels ≡ [] → AreLevelsBelow model kernels b levels
   level : (model : FznModel) (kernels : List Kernel) (b : Bounds) (levels lower : List Level) (top : Level) → levels ≡ lower ++ top ∷ [] →
-      IsCutInto model kernels b top.cut →
-      ((left right : Bounds) → top.cut ≡ Parted left right → AreLevelsBelow model kernels (side_of top.goes_right left right) lower) →
+      IsNodeOf model kernels b top.node →
+      ((left right : Bounds) → cut_of top.node ≡ Parted left right → AreLevelsBelow model kernels (side_of top.goes_right left right) lower) →
       AreLevelsBelow model kernels b levels
 
 -- what is known of the cut of a box, with the levels below it
 pub record IsTop (model : FznModel) (kernels : List Kernel) (b : Bounds) (top : Level) (lower : List Level) : Type 0 where
-  pub is_cut : IsCutInto model kernels b top.cut
-  pub below : (left right : Bounds) → top.cut ≡ Parted left right → AreLevelsBelow model kernels (side_of top.goes_right left right) lower
+  pub is_node : IsNodeOf model kernels b top.node
+  pub below : (left right : Bounds) → cut_of top.node ≡ Parted left right → AreLevelsBelow model kernels (side_of top.goes_right left right) lower
 
 -- the walk goes down from this box
 abbrev pub IsWalkFrom : FznModel → List Kernel → Bounds → Walk → Type 0
@@ -44,5 +45,5 @@ GoesOn (Parted left right) turn half Way number lower =
 abbrev pub IsWayTo : FznModel → List Kernel → ℕ → Bounds → ℕ → List Level → Type 0
 IsWayTo model kernels zero b number levels = Unit {0}
 IsWayTo model kernels (suc depth) b number levels =
-    (lower : List Level) × (top : Level) × (levels ≡ lower ++ top ∷ []) × IsCutInto model kernels b top.cut ×
-    GoesOn top.cut top.goes_right (2 ^ depth) (IsWayTo model kernels depth) number lower
+    (lower : List Level) × (top : Level) × (levels ≡ lower ++ top ∷ []) × IsCutInto model kernels b (cut_of top.node) ×
+    GoesOn (cut_of top.node) top.goes_right (2 ^ depth) (IsWayTo model kernels depth) number lower

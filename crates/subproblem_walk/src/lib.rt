@@ -1,6 +1,7 @@
 //! Numbered subproblems, asked for one after another.
 #![tactic(auto)]
 
+mod cutter;
 #[cfg(test)]
 mod tests;
 mod walk;

@@ -1,9 +1,10 @@
 //! A walk over a model of one variable 0..3, beside the paths alone.
 
-ghost use Rattle.std.specs.Prelude.{◌≡◌, ◌<◌, ◌≤◌, ◌^◌, IfOk};
+ghost use Rattle.std.specs.Prelude.{◌≡◌, ◌<◌, ◌≤◌, ◌^◌, length, IfOk};
 ghost use Rattle.constraint_model.specs.Searches.{last_phase, IsSearchOf};
 ghost use Rattle.constraint_model.specs.WellFormed.{IsWellFormed};
 ghost use Rattle.decompose.specs.Program.{IsProgramOf};
+ghost use Rattle.moved_fixpoint.specs.Moved.{AreMasksOf};
 ghost use Rattle.subproblems.specs.Examples.{small_variable, small_model};
 ghost use Rattle.subproblem_walk.specs.Walks.{IsWalkFrom};
 
@@ -12,6 +13,7 @@ use constraint_model::{FznModel, Goal, Phase, ValSel, VarDecl, VarSel};
 use decompose::{Program, compile};
 use interval::{BoxOf, NoMemory};
 use list_of::ListOf;
+use moved_set::Masks;
 use std::alloc::{AllocError, Global};
 use std::test::Fail;
 use subproblems::path_box;
@@ -85,18 +87,20 @@ fn asked(
     alloc: Global,
     model: &FznModel,
     program: &Program,
+    masks: &Masks,
     walk: &mut Walk,
     depth: u32,
     number: u32,
 ) -> Result<[Option<(i64, i64)>; 2], NoMemory>
     requires program { IsProgramOf model.now program.now }
+    requires masks { AreMasksOf program.now.kernels (length program.now.start) masks.now }
     requires phases { IsSearchOf model.now }
     requires depth { depth ≤ 16 }
     requires number { number < 2 ^ depth }
     requires walk { IsWalkFrom model.now program.now.kernels program.now.start walk.old }
     ensures { IsWalkFrom model.now program.now.kernels program.now.start walk.new }
 {
-    let walked = walk.path_box(alloc, model, program, &program.start, depth, number)?;
+    let walked = walk.path_box(alloc, model, program, masks, &program.start, depth, number)?;
     let alone = path_box(alloc, model, program, &program.start, depth, number)?;
     Ok([bounds_in(&walked), bounds_in(&alone)])
 }
@@ -106,25 +110,26 @@ fn a_walk_gives_what_the_path_alone_gives(rt: HostRuntime) -> Result<(), Fail> {
     let alloc = rt.alloc();
     let model = one_variable(alloc)?;
     let program = compile(alloc, &model)?;
+    let masks = Masks::new(alloc, program.kernels.as_slice(), program.start.len())?;
     let mut walk = Walk::new(alloc);
     assert_eq!(rt;
-        asked(alloc, &model, &program, &mut walk, 3, 5)?,
+        asked(alloc, &model, &program, &masks, &mut walk, 3, 5)?,
         [None, None]
     );
     assert_eq!(rt;
-        asked(alloc, &model, &program, &mut walk, 3, 2)?,
+        asked(alloc, &model, &program, &masks, &mut walk, 3, 2)?,
         [None, None]
     );
     assert_eq!(rt;
-        asked(alloc, &model, &program, &mut walk, 3, 7)?,
+        asked(alloc, &model, &program, &masks, &mut walk, 3, 7)?,
         [Some((3, 3)), Some((3, 3))]
     );
     assert_eq!(rt;
-        asked(alloc, &model, &program, &mut walk, 3, 7)?,
+        asked(alloc, &model, &program, &masks, &mut walk, 3, 7)?,
         [Some((3, 3)), Some((3, 3))]
     );
     assert_eq!(rt;
-        asked(alloc, &model, &program, &mut walk, 3, 0)?,
+        asked(alloc, &model, &program, &masks, &mut walk, 3, 0)?,
         [Some((0, 0)), Some((0, 0))]
     );
     Ok(())
@@ -135,21 +140,22 @@ fn a_walk_goes_to_another_depth(rt: HostRuntime) -> Result<(), Fail> {
     let alloc = rt.alloc();
     let model = one_variable(alloc)?;
     let program = compile(alloc, &model)?;
+    let masks = Masks::new(alloc, program.kernels.as_slice(), program.start.len())?;
     let mut walk = Walk::new(alloc);
     assert_eq!(rt;
-        asked(alloc, &model, &program, &mut walk, 3, 6)?,
+        asked(alloc, &model, &program, &masks, &mut walk, 3, 6)?,
         [Some((2, 2)), Some((2, 2))]
     );
     assert_eq!(rt;
-        asked(alloc, &model, &program, &mut walk, 2, 3)?,
+        asked(alloc, &model, &program, &masks, &mut walk, 2, 3)?,
         [Some((2, 3)), Some((2, 3))]
     );
     assert_eq!(rt;
-        asked(alloc, &model, &program, &mut walk, 0, 0)?,
+        asked(alloc, &model, &program, &masks, &mut walk, 0, 0)?,
         [Some((0, 3)), Some((0, 3))]
     );
     assert_eq!(rt;
-        asked(alloc, &model, &program, &mut walk, 3, 4)?,
+        asked(alloc, &model, &program, &masks, &mut walk, 3, 4)?,
         [Some((1, 1)), Some((1, 1))]
     );
     Ok(())

@@ -6,21 +6,25 @@ ghost use Rattle.guarded_tell.specs.declared.kernel.Kernel.{Kernel};
 ghost use Rattle.constraint_model.specs.declared.model.FznModel.{FznModel};
 ghost use Rattle.constraint_model.specs.Searches.{IsSearchOf};
 ghost use Rattle.decompose.specs.Program.{IsProgramOf};
+ghost use Rattle.moved_fixpoint.specs.Moved.{AreMasksOf};
 ghost use Rattle.subproblems.specs.Cuts.{CanBeCut};
 ghost use Rattle.subproblems.specs.Paths.{LeadsTo};
+ghost use Rattle.subproblem_walk.specs.Nodes.{IsMadeBy, IsBenchFor};
 ghost use Rattle.subproblem_walk.specs.Walks.{AreLevelsBelow, IsTop, IsWalkFrom, IsWayTo};
 
+use crate::cutter::{Bench, Node, cut_changed};
 use constraint_model::FznModel;
 use decompose::Program;
 use guarded_tell::Kernel;
 use interval::{BoxOf, NoMemory};
+use moved_set::Masks;
 use std::alloc::{AllocError, Global};
-use subproblems::{Cut, cut_box, law_cuts, law_paths};
+use subproblems::{law_cuts, law_paths};
 
 /// What a box on the way is cut into, and whether the way goes on to the right.
 #[derive(Drop)]
 pub struct Level {
-    cut: Cut,
+    node: Node,
     goes_right: bool,
 }
 
@@ -36,20 +40,27 @@ fn top_level(
     alloc: Global,
     model: &FznModel,
     kernels: &[Kernel],
+    masks: &Masks,
     b: &BoxOf,
+    changed: Option<u32>,
+    bench: &mut Bench,
     levels: &mut Vec<Level>,
 ) -> Result<Level, NoMemory>
     requires cut { CanBeCut model.now kernels.now b.now }
+    requires masks { AreMasksOf kernels.now (length b.now) masks.now }
+    requires changed { IsMadeBy changed kernels.now b.now }
+    requires bench { IsBenchFor bench.old (length b.now) }
     requires levels { AreLevelsBelow model.now kernels.now b.now levels.old.items }
-    ensures { IfOk result (λ top. IsTop model.now kernels.now b.now top levels.new.items) }
+    ensures top { IfOk result (λ top. IsTop model.now kernels.now b.now top levels.new.items) }
+    ensures bench { IsBenchFor bench.new (length b.now) }
 {
     match levels.pop() {
         Some(level) => Ok(level),
         None => {
             let whole = b.copy(alloc)?;
-            let cut = cut_box(alloc, model, kernels, whole)?;
+            let node = cut_changed(alloc, model, kernels, masks, whole, changed, bench)?;
             Ok(Level {
-                cut,
+                node,
                 goes_right: false,
             })
         }
@@ -98,13 +109,19 @@ fn lead(
     alloc: Global,
     model: &FznModel,
     kernels: &[Kernel],
+    masks: &Masks,
     b: &BoxOf,
+    changed: Option<u32>,
     depth: u32,
     number: u32,
+    bench: &mut Bench,
     levels: &mut Vec<Level>,
 ) -> Result<Option<BoxOf>, NoMemory>
     requires cut { CanBeCut model.now kernels.now b.now }
+    requires masks { AreMasksOf kernels.now (length b.now) masks.now }
+    requires changed { IsMadeBy changed kernels.now b.now }
     requires depth { depth ≤ 16 }
+    requires bench { IsBenchFor bench.old (length b.now) }
     requires levels { AreLevelsBelow model.now kernels.now b.now levels.old.items }
     ensures path { IfOk result (LeadsTo model.now kernels.now depth b.now number) }
     ensures levels { OnOk result (AreLevelsBelow model.now kernels.now b.now levels.new.items) }
@@ -115,38 +132,51 @@ fn lead(
         let whole = b.copy(alloc)?;
         return Ok(Some(whole));
     }
-    let Level { cut, goes_right } = top_level(alloc, model, kernels, b, levels)?;
-    match cut {
-        Cut::Failed => {
+    let Level { node, goes_right } = top_level(
+        alloc, model, kernels, masks, b, changed, bench, levels,
+    )?;
+    match node {
+        Node::Failed => {
             put(
                 levels,
                 Level {
-                    cut: Cut::Failed,
+                    node: Node::Failed,
                     goes_right,
                 },
             )?;
             Ok(None)
         }
-        Cut::Fixed(closed) => {
+        Node::Fixed(closed) => {
             let found = solution(alloc, &closed, number)?;
             put(
                 levels,
                 Level {
-                    cut: Cut::Fixed(closed),
+                    node: Node::Fixed(closed),
                     goes_right,
                 },
             )?;
             Ok(found)
         }
-        Cut::Parted(left, right) => {
+        Node::Parted { pair, left, right } => {
             let half = numbers_to(depth - 1);
             if number < half {
                 take_turn(levels, goes_right, false);
-                let found = lead(alloc, model, kernels, &left, depth - 1, number, levels)?;
+                let found = lead(
+                    alloc,
+                    model,
+                    kernels,
+                    masks,
+                    &left,
+                    Some(pair),
+                    depth - 1,
+                    number,
+                    bench,
+                    levels,
+                )?;
                 put(
                     levels,
                     Level {
-                        cut: Cut::Parted(left, right),
+                        node: Node::Parted { pair, left, right },
                         goes_right: false,
                     },
                 )?;
@@ -157,15 +187,18 @@ fn lead(
                 alloc,
                 model,
                 kernels,
+                masks,
                 &right,
+                Some(pair),
                 depth - 1,
                 number - half,
+                bench,
                 levels,
             )?;
             put(
                 levels,
                 Level {
-                    cut: Cut::Parted(left, right),
+                    node: Node::Parted { pair, left, right },
                     goes_right: true,
                 },
             )?;
@@ -191,11 +224,13 @@ impl Walk {
         alloc: Global,
         model: &FznModel,
         program: &Program,
+        masks: &Masks,
         start: &BoxOf,
         depth: u32,
         number: u32,
     ) -> Result<Option<BoxOf>, NoMemory>
         requires program { IsProgramOf model.now program.now }
+        requires masks { AreMasksOf program.now.kernels (length program.now.start) masks.now }
         requires phases { IsSearchOf model.now }
         requires length { length start.now ≡ length program.now.start }
         requires depth { depth ≤ 16 }
@@ -210,13 +245,17 @@ impl Walk {
         // its contract says that the bounds are in range
         let _length = start.len();
         let kernels = program.kernels.as_slice();
+        let mut bench = Bench::new(alloc, start)?;
         match lead(
             alloc,
             model,
             kernels,
+            masks,
             start,
+            None,
             depth,
             number,
+            &mut bench,
             &mut self.levels,
         ) {
             Ok(found) => Ok(found),

@@ -1,8 +1,7 @@
 -- The corner products are small.
-use Rattle.std.proofs.Common.{◌≡◌, ◌≤◌, ℤ, sym, subst, unsigned_abs, arith}
+use Rattle.std.proofs.Common.{arith}
 use Rattle.std.proofs.lemmas.Int.{ints}
 use Rattle.interval.specs.Limits.{bound_limit, largest_number}
-use Rattle.interval.specs.Corners.{least_product, greatest_product}
 use Rattle.guarded_tell.proofs.DivisionCode.{square, least_product_small, greatest_product_small}
 use Rattle.guarded_tell.proofs.division.dividends.Goals as goal
 

@@ -1,18 +1,18 @@
 use Rattle.std.proofs.Common.{false, sym, subst, ◌∙◌}
 use Rattle.std.proofs.lemmas.List.{nil_from_length}
 use Rattle.interval.specs.Boxes.{Bounds}
-use Rattle.subproblems.specs.Cuts.{IsCutInto}
+use Rattle.subproblem_walk.specs.Nodes.{IsNodeOf}
 use Rattle.subproblem_walk.specs.Walks.{nothing, side_of}
 use Rattle.subproblem_walk.proofs.WalkLemmas.{top_of}
 use Rattle.subproblem_walk.proofs.walk.top_level.Goals as goal
 
-pub returns-in-Some : goal.returns-in-Some
-returns-in-Some c =
+pub returns-in-Some-clause-top : goal.returns-in-Some-clause-top
+returns-in-Some-clause-top c =
     top_of c.args.model.now c.args.kernels.now c.args.b.now c.args.levels.now.items c.pop.new.self.items c.in-Some.level c.requires.levels c.in-Some.ensures.items
 
-pub returns-in_ok-cut-in-None : goal.returns-in_ok-cut-in-None
-returns-in_ok-cut-in-None c = record {
-  is_cut = subst (λ (b : Bounds). IsCutInto c.args.model.now c.args.kernels.now b c.in_ok-cut-in-None.cut) c.in_ok-whole-in-None.ensures c.in_ok-cut-in-None.ensures;
+pub returns-in_ok-node-in-None-clause-top : goal.returns-in_ok-node-in-None-clause-top
+returns-in_ok-node-in-None-clause-top c = record {
+  is_node = subst (λ (b : Bounds). IsNodeOf c.args.model.now c.args.kernels.now b c.in_ok-node-in-None.node) c.in_ok-whole-in-None.ensures c.in_ok-node-in-None.ensures.node;
   below = λ left right e.
       nothing c.args.model.now c.args.kernels.now (side_of false left right) c.pop.new.self.items (nil_from_length c.pop.new.self.items (sym c.pop.new.self.ok.0 ∙ c.in-None.ensures.cases.1));
 }

@@ -1,0 +1,64 @@
+-- How boxes on a way are cut.
+use Rattle.std.proofs.Common.{◌≡◌, ℕ, ℤ, true, false, ◌<◌, ◌∷◌, List, length, replicate, refl, sym, subst, ap, ◌∙◌, arith, Result, Ok, Err, IfOk, Option, None, Some}
+use Rattle.std.specs.Prelude.{slice_set}
+use Rattle.std.specs.List.{All}
+use Rattle.std.proofs.lemmas.List.{get_or-replicate, length-set}
+use Rattle.interval.specs.Boxes.{Bounds, put_of, low_of, high_of}
+use Rattle.guarded_tell.specs.declared.kernel.Kernel.{Kernel}
+use Rattle.guarded_tell.specs.Kernels.{IsKernel}
+use Rattle.fixpoint_laws.specs.Fixpoints.{IsGreatest, Fails}
+use Rattle.fixpoint_laws.specs.LimitedEnds.{IfFixedIn, IfFailedIn, IfSpent}
+use Rattle.fixpoint_laws.specs.declared.limited.Limited.{Limited}
+use Rattle.fixpoint_laws.specs.declared.limited.Limited.TheVariants.{Fixed, Failed, RoundsSpent}
+use Rattle.constraint_model.specs.declared.model.FznModel.{FznModel}
+use Rattle.branching.specs.Tree.{AreFixed}
+use Rattle.moved_set.specs.Sets.{IsIn}
+use Rattle.moved_fixpoint.specs.Moved.{Set, count_of, AreMovedOrQuiet, QuietUnlessMoved}
+use Rattle.moved_fixpoint.specs.Ends.{HasEnded, AreSpent}
+use Rattle.subproblem_walk.specs.declared.cutter.Node.{Node}
+use Rattle.subproblem_walk.specs.Nodes.{IsMadeAt, IsNodeOf, IsKeptOrParted, IsPartedAt}
+
+-- a variable of a closed box is noted
+pub one_noted : QuietUnlessMoved → (old new : Set) (pair : ℕ) → new ≡ slice_set old pair true → pair < count_of old →
+    (kernels : List Kernel) (b : Bounds) → length b ≡ count_of old → All (IsKernel (length b)) kernels → IsMadeAt kernels pair b → AreMovedOrQuiet new b kernels
+one_noted law old new pair is h kernels b e are made =
+    let same : length b ≡ length made.closed = ap (λ (x : Bounds). length x) made.is_put ∙ length-set made.closed pair (made.low, made.high) in
+    let before : AreMovedOrQuiet old made.closed kernels = law.closed made.closed kernels old made.is_closed in
+    let after : AreMovedOrQuiet (slice_set old pair true) (put_of made.closed pair made.low made.high) kernels =
+    law.put made.closed kernels old pair made.low made.high (subst (λ (n : ℕ). All (IsKernel n) kernels) same are) h before in
+    subst (λ (s : Set). AreMovedOrQuiet s b kernels) (sym is) (subst (λ (x : Bounds). AreMovedOrQuiet (slice_set old pair true) x kernels) (sym made.is_put) after)
+
+-- all are noted
+pub all_noted : QuietUnlessMoved → (old new : Set) → new ≡ replicate (length old) true →
+    (kernels : List Kernel) (b : Bounds) → length b ≡ count_of old → All (IsKernel (length b)) kernels → AreMovedOrQuiet new b kernels
+all_noted law old new is kernels b e are =
+    law.all b kernels new are (λ v h. subst (λ (s : Set). IsIn s v) (sym is) (get_or-replicate (length old) v true false (omega arith)))
+
+-- how propagation without a limit on its rounds ends
+module _ (kernels : List Kernel) (start after : Bounds) (ending : Limited) (ended : HasEnded kernels 0 start after ending) (rounds : ℕ) where
+  pub ended_fixed : ending ≡ Fixed rounds → IsGreatest after start kernels
+  ended_fixed e = subst (λ (x : Limited). IfFixedIn x (λ r. IsGreatest after start kernels)) e ended.fixed
+
+  pub ended_failed : ending ≡ Failed rounds → Fails start kernels
+  ended_failed e = subst (λ (x : Limited). IfFailedIn x (λ r. Fails start kernels)) e ended.failed
+
+  pub never_spent : ending ≡ RoundsSpent rounds → ⊥
+  never_spent e =
+      let spent : AreSpent kernels 0 start after rounds = subst (λ (x : Limited). IfSpent x (AreSpent kernels 0 start after)) e ended.spent in
+      spent.limited refl
+
+-- a closed box that is kept or parted is what the box around it is cut into
+pub node_of_closed : (model : FznModel) (kernels : List Kernel) (b closed : Bounds) → IsGreatest closed b kernels → (node : Node) →
+    IsKeptOrParted model closed node → IsNodeOf model kernels b node
+node_of_closed model kernels b closed greatest Node.Failed h = absurd h
+node_of_closed model kernels b closed greatest (Node.Fixed kept) h = record {
+  is_cut = (subst (λ (x : Bounds). IsGreatest x b kernels) (sym h.0) greatest, subst (AreFixed model) (sym h.0) h.1);
+  parts = tt;
+}
+node_of_closed model kernels b closed greatest (Node.Parted pair left right) h = record {
+  is_cut = record { closed = closed; greatest = greatest; branch = h.branch };
+  parts = (
+    record { closed = closed; is_closed = greatest.closed; in_box = h.in_box; low = h.left_put.0; high = h.left_put.1; is_put = h.left_put.2 },
+    record { closed = closed; is_closed = greatest.closed; in_box = h.in_box; low = h.right_put.0; high = h.right_put.1; is_put = h.right_put.2 },
+  );
+}

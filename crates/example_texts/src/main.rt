@@ -1,8 +1,9 @@
-//! Solves each example text that its words name, and says of each whether what is written is the answer that lies beside it.
+//! Solves each example text that its words name, with the options that lie beside it, and says of each whether what is
+//! written is the answer that lies there.
 #![tactic(auto)]
 
 use fzn_io::{FileSource, MemSink, read_named};
-use solver_top::{Status, solve_main};
+use solver_top::{Gates, NoGate, Status, solve_main};
 
 /// The most bytes of an answer that is compared.
 const LONGEST_ANSWER: usize = 1_000_000;
@@ -25,13 +26,14 @@ fn compare(rt: &HostRuntime, name: &str) -> anyhow::Result<&'static str> {
     let Ok(answer) = read_named(alloc, &mut files, beside.as_str(), LONGEST_ANSWER) else {
         return Ok("its answer can't be read");
     };
-    let words = vec![in alloc;
-        String::from_str(alloc, "turbofzn")?,
-        format!(in alloc; "{name}.fzn")?,
-    ]?;
+    let words = words_of(rt, name)?;
     let mut out = MemSink::new(alloc, LONGEST_ANSWER, Vec::new(alloc));
     let mut err = MemSink::new(alloc, LONGEST_ANSWER, Vec::new(alloc));
-    let status = solve_main(alloc, &words, &mut files, &mut out, &mut err);
+    let gates = Gates {
+        crew: &NoGate,
+        lanes: &NoGate,
+    };
+    let status = solve_main(rt, alloc, &words, &mut files, &mut out, &mut err, &gates);
     Ok(if status != Status::Answered {
         "not answered"
     } else if out.bytes() != answer.as_slice() {
@@ -39,4 +41,20 @@ fn compare(rt: &HostRuntime, name: &str) -> anyhow::Result<&'static str> {
     } else {
         "its answer"
     })
+}
+
+/// The words for a text: the program's name, those in the file `.words` beside the text, one a line, and the text's file.
+fn words_of(rt: &HostRuntime, name: &str) -> anyhow::Result<Vec<String>> {
+    let alloc = rt.alloc();
+    let mut words = vec![in alloc; String::from_str(alloc, "turbofzn")?]?;
+    let mut files = FileSource::new(rt);
+    let beside = format!(in alloc; "{name}.words")?;
+    if let Ok(bytes) = read_named(alloc, &mut files, beside.as_str(), LONGEST_ANSWER) {
+        let text = String::from_utf8(bytes)?;
+        for word in text.lines() {
+            words.push(String::from_str(alloc, word)?)?;
+        }
+    }
+    words.push(format!(in alloc; "{name}.fzn")?)?;
+    Ok(words)
 }

@@ -1,41 +1,89 @@
--- The answer of a model, and its text.
+-- What is written of an answer.
 --
--- Source: the FlatZinc chapter of the MiniZinc Handbook, its search annotations and its section on output.
-use Rattle.std.specs.Prelude.{◌≡◌, ◌↔◌, ℕ, ℤ, List, [], ◌∷◌, ◌++◌, Contains, Option, Some, None}
+-- Source: the FlatZinc chapter of the MiniZinc Handbook, its section on output. The line of a made text is this program's own.
+use Rattle.std.specs.Prelude.{◌≡◌, ◌⊎◌, ℕ, ℤ, List, [], ◌∷◌, ◌++◌, flat_map, Option, Some, None}
 use Rattle.constraint_model.specs.declared.model.FznModel.{FznModel}
-use Rattle.constraint_model.specs.Relations.{IsSolution}
-use Rattle.decompose.specs.Kernels.{kernels_of}
-use Rattle.decompose.specs.Program.{start_of}
-use Rattle.branching.specs.Tree.{SolutionsIn, AreDistinct}
-use Rattle.solution_lists.specs.Order.{IsPlainSearch, BeginsWithLeast}
+use Rattle.constraint_model.specs.declared.model.Goal.{Goal}
+use Rattle.constraint_model.specs.Relations.{value}
 use Rattle.fzn_print.specs.AnswerText.{solution_text, mark_text_of}
 use Rattle.fzn_print.specs.declared.marks.Mark.{Mark}
+use Rattle.command_line.specs.declared.words.Options.{Options}
+use Rattle.answer.specs.declared.options.Options.{Options as SearchOptions}
+use Rattle.answer.specs.declared.options.Answer.{Answer}
+use Rattle.answer.specs.Lists.{Assignment}
+use Rattle.answer.specs.Finished.{IsFinished}
+use Rattle.answer.specs.Unfinished.{IsUnfinished}
+use Rattle.answer.specs.Answers.{IsAnswer}
+use Rattle.made_model.specs.Made.{made, summary}
+use Rattle.solver_top.specs.Texts.{IsTextOf}
 
--- a value for each declared variable, in order
-abbrev pub Assignment : Type 0
-Assignment = List ℤ
+-- the options of the words as the search takes them
+abbrev pub search_options : Options → SearchOptions
+search_options o = record {
+  all = o.all;
+  workers = o.workers;
+  lanes = o.lanes;
+  depth = o.depth;
+  node_limit = o.node_limit;
+  round_limit = o.round_limit;
+}
 
--- This is the list of a model's solutions in the order of its search tree: that of propagation and branching alone. It has
--- each assignment that solves the model once, and nothing else; and where no search annotation asks for anything it begins
--- with the lexicographically smallest in the order of the declarations.
-pub record IsListOfSolutions (model : FznModel) (found : List Assignment) : Type 0 where
-  pub in_order : SolutionsIn model (kernels_of model) (start_of model) found
-  pub each : (a : Assignment) → Contains found a ↔ IsSolution model a
-  pub once : AreDistinct found
-  pub plain : IsPlainSearch model → BeginsWithLeast model found
+-- neither limit is set
+abbrev pub HasNoLimit : Options → Type 0
+HasNoLimit o = (o.node_limit ≡ 0) × (o.round_limit ≡ 0)
 
--- the first of a list, or none
-abbrev pub head_of : List Assignment → Option Assignment
-head_of [] = None
-head_of (a ∷ others) = Some a
+-- an answer of the model, that of the whole search where no limit is set
+pub record IsAnswerWith (options : Options) (model : FznModel) (answer : Answer) : Type 0 where
+  pub is_answer : IsAnswer model (search_options options) answer
+  pub whole : options.node_limit ≡ 0 → options.round_limit ≡ 0 → IsFinished model options.all answer
 
--- what the solver answers: the first of the solutions in the order of the search tree, or none where there is none
-pub record IsAnswer (model : FznModel) (answer : Option Assignment) : Type 0 where
-  pub found : List Assignment
-  pub solutions : IsListOfSolutions model found
-  pub is_head : answer ≡ head_of found
+-- ---- the text of an answer
 
--- the whole answer
-abbrev pub answer_text : FznModel → Option Assignment → List ℕ
-answer_text model (Some a) = solution_text model a
-answer_text model None = mark_text_of Mark.Unsatisfiable
+-- the solutions, each with its end, and the mark
+abbrev pub answer_text : FznModel → Answer → List ℕ
+answer_text model answer = flat_map (solution_text model) answer.solutions ++ mark_text_of answer.mark
+
+-- these bytes are an answer of the text's model
+pub record IsAnswerOf (options : Options) (text bytes : List ℕ) : Type 0 where
+  pub model : FznModel
+  pub is_model : IsTextOf text model
+  pub answer : Answer
+  pub is_answer : IsAnswerWith options model answer
+  pub printed : bytes ≡ answer_text model answer
+
+-- ---- the line of a made text
+
+-- the number of the objective in a solution, where there is an objective
+abbrev pub objective_in : Goal → Assignment → Option ℤ
+objective_in Goal.Satisfy a = None
+objective_in (Goal.Minimize t) a = Some (value a t)
+objective_in (Goal.Maximize t) a = Some (value a t)
+
+-- that in the first solution of a list
+abbrev pub first_objective : Goal → List Assignment → Option ℤ
+first_objective goal [] = None
+first_objective goal (a ∷ others) = objective_in goal a
+
+-- and that in an answer whose mark says that the search is complete
+abbrev pub known_at : Mark → Option ℤ → Option ℤ
+known_at Mark.Complete objective = objective
+known_at _ objective = None
+
+abbrev pub known_objective : Goal → Answer → Option ℤ
+known_objective goal answer = known_at answer.mark (first_objective goal answer.solutions)
+
+-- what is said of the objective: its number in the solution that is given, where the search came to its end, and else nothing
+abbrev pub IsKnown : FznModel → Options → Answer → Option ℤ → Type 0
+IsKnown model options answer objective =
+    (IsFinished model options.all answer × (objective ≡ first_objective model.goal answer.solutions))
+    ⊎ (IsUnfinished model (search_options options) answer × (objective ≡ None))
+
+-- these bytes are the line of the made text of `n` variables, and of an answer of its model
+pub record IsLineOf (options : Options) (n : ℕ) (text bytes : List ℕ) : Type 0 where
+  pub model : FznModel
+  pub is_model : IsTextOf text model
+  pub answer : Answer
+  pub is_answer : IsAnswerWith options model answer
+  pub objective : Option ℤ
+  pub known : IsKnown model options answer objective
+  pub printed : bytes ≡ summary n objective

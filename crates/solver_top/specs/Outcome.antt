@@ -1,68 +1,91 @@
 -- What the top call owes: its statuses, each with its cause, and what it writes.
 --
--- The statuses and their lines are this program's own; the answer is that of `IsAnswer` and `answer_text`.
-use Rattle.std.specs.Prelude.{◌≡◌, ℕ, ◌≤◌, List, [], ◌∷◌, ◌++◌, length, take, slice_index_or, codes, Option, Some, None}
+-- The statuses and their lines are this program's own.
+use Rattle.std.specs.Prelude.{◌≡◌, ℕ, ◌≤◌, List, [], ◌∷◌, ◌++◌, length, take, codes, Option, Some, None}
+use Rattle.std.specs.Option.{option_map_or}
 use Rattle.fzn_io.specs.Faults.{CountRose}
 use Rattle.fzn_io.specs.Streams.{Adds, IsHeld}
 use Rattle.std.specs.Fmt.{decimal}
 use Rattle.constraint_model.specs.declared.model.FznModel.{FznModel}
-use Rattle.solver_top.specs.Texts.{IsTextOf, HasFaultOn}
+use Rattle.fzn_model.specs.FaultKinds.{kind_name as name_of, kind_numbered}
 use Rattle.fzn_print.specs.AnswerText.{line_end}
-use Rattle.solver_top.specs.Answers.{Assignment, IsAnswer, answer_text}
+use Rattle.command_line.specs.declared.words.Options.{Options}
+use Rattle.command_line.specs.CommandLine.{InputOf, file, made as made_of}
+use Rattle.made_model.specs.Made.{made}
+use Rattle.solver_top.specs.Texts.{IsTextOf, HasFaultOn}
+use Rattle.solver_top.specs.Answers.{IsAnswerOf, IsLineOf}
 use Rattle.solver_top.specs.declared.status.Status.{Status}
 use Rattle.solver_top.specs.declared.status.Status.TheVariants.{Answered, Usage, Refused, ReadFault, WriteFault, NoMemory}
 
--- These bytes are the answer of the text: they print the first solution of its model in the order of the search tree, or
--- that there is none.
-pub record IsAnswerOf (text bytes : List ℕ) : Type 0 where
-  pub model : FznModel
-  pub is_model : IsTextOf text model
-  pub answer : Option Assignment
-  pub is_answer : IsAnswer model answer
-  pub printed : bytes ≡ answer_text model answer
+-- What the words ask for: how the search is to be made, and of what.
+abbrev pub Asked : Type 0
+Asked = Options × InputOf
 
--- What a source tells of the file that the words name: nothing (`None`), that it isn't there (`Some None`), or its bytes.
-abbrev pub held_under : (List ℕ → Option (Option (List ℕ))) → Option (List ℕ) → Option (Option (List ℕ))
-held_under held None = None
-held_under held (Some name) = held name
+-- What a source tells of each name: nothing (`None`), that it isn't there (`Some None`), or its bytes.
+abbrev pub Told : Type 0
+Told = List ℕ → Option (Option (List ℕ))
 
--- These bytes are the answer of the file's text.
-pub record IsAnswerOfFile (held : Option (Option (List ℕ))) (bytes : List ℕ) : Type 0 where
+-- What is told of the text that is asked for. A made text is always known.
+abbrev pub told_of : Told → InputOf → Option (Option (List ℕ))
+told_of held (file name) = held name
+told_of held (made_of n) = Some (Some (made n))
+
+abbrev pub told_text : Told → Option Asked → Option (Option (List ℕ))
+told_text held None = None
+told_text held (Some asked) = told_of held asked.1
+
+-- These bytes are what is to be written of the text: of a file an answer, of a made text its line.
+abbrev pub IsWritten : Options → InputOf → (text bytes : List ℕ) → Type 0
+IsWritten options (file name) text bytes = IsAnswerOf options text bytes
+IsWritten options (made_of n) text bytes = IsLineOf options n text bytes
+
+-- The same of the text that is asked for.
+pub record IsAnswerOfInput (held : Told) (options : Options) (input : InputOf) (bytes : List ℕ) : Type 0 where
   pub text : List ℕ
-  pub told : IsHeld held text
-  pub answers : IsAnswerOf text bytes
+  pub told : IsHeld (told_of held input) text
+  pub written : IsWritten options input text bytes
 
--- The answer of the file's text was written whole.
-pub record WroteAnswer (held : Option (Option (List ℕ))) (before after : Option (List ℕ)) : Type 0 where
+abbrev pub IsAnswerOfWords : Told → Option Asked → List ℕ → Type 0
+IsAnswerOfWords held None bytes = ⊥
+IsAnswerOfWords held (Some asked) bytes = IsAnswerOfInput held asked.0 asked.1 bytes
+
+-- It was written whole.
+pub record WroteAnswer (held : Told) (asked : Option Asked) (before after : Option (List ℕ)) : Type 0 where
   pub bytes : List ℕ
-  pub answers : IsAnswerOfFile held bytes
+  pub answers : IsAnswerOfWords held asked bytes
   pub added : Adds before after bytes
 
--- A front of the answer of the file's text was written.
-pub record WroteFront (held : Option (Option (List ℕ))) (before after : Option (List ℕ)) : Type 0 where
+-- A front of it was written.
+pub record WroteFront (held : Told) (asked : Option Asked) (before after : Option (List ℕ)) : Type 0 where
   pub bytes : List ℕ
-  pub answers : IsAnswerOfFile held bytes
+  pub answers : IsAnswerOfWords held asked bytes
   pub count : ℕ
   pub within : count ≤ length bytes
   pub added : Adds before after (take count bytes)
 
--- The file's text has a fault of this kind on this line.
-pub record IsFaultOfFile (held : Option (Option (List ℕ))) (kind line : ℕ) : Type 0 where
+-- The text that is told of has a fault of this kind on this line.
+pub record IsFaultOfTold (held : Option (Option (List ℕ))) (kind line : ℕ) : Type 0 where
   pub text : List ℕ
   pub told : IsHeld held text
   pub fault : HasFaultOn text kind line
 
--- The source tells the file's text, and that text has a fault of this kind on this line.
+-- The text is known, and has a fault of this kind on this line.
 abbrev pub ToldHasFault : Option (Option (List ℕ)) → ℕ → ℕ → Type 0
 ToldHasFault None kind line = ⊥
 ToldHasFault (Some None) kind line = ⊥
 ToldHasFault (Some (Some text)) kind line = HasFaultOn text kind line
 
--- The source tells the file's text, and that text has a model.
+-- The text is known, and has a model.
 abbrev pub ToldHasModel : Option (Option (List ℕ)) → Type 0
 ToldHasModel None = ⊥
 ToldHasModel (Some None) = ⊥
 ToldHasModel (Some (Some text)) = (model : FznModel) × IsTextOf text model
+
+-- The words name a file that is to be read.
+abbrev pub ReadsFile : Option Asked → Type 0
+ReadsFile None = ⊥
+ReadsFile (Some (options, file name)) = Unit {0}
+ReadsFile (Some (options, made_of n)) = ⊥
 
 -- Where a source tells the names that it may be asked for, they are this file's alone.
 abbrev pub IsFileAlone : Option (List (List ℕ)) → List ℕ → Type 0
@@ -70,9 +93,14 @@ IsFileAlone None name = Unit {0}
 IsFileAlone (Some names) name = names ≡ name ∷ []
 
 -- The source may be asked for the file that the words name.
-abbrev pub CanOpen : Option (List (List ℕ)) → Option (List ℕ) → Type 0
-CanOpen names None = Unit {0}
-CanOpen names (Some name) = IsFileAlone names name
+abbrev pub IsAskedAlone : List (List ℕ) → Option Asked → Type 0
+IsAskedAlone names None = Unit {0}
+IsAskedAlone names (Some (options, file name)) = names ≡ name ∷ []
+IsAskedAlone names (Some (options, made_of n)) = Unit {0}
+
+abbrev pub CanOpen : Option (List (List ℕ)) → Option Asked → Type 0
+CanOpen None asked = Unit {0}
+CanOpen (Some names) asked = IsAskedAlone names asked
 
 -- Why a text may have no answer.
 abbrev pub IsTextCause : List ℕ → Status → Type 0
@@ -82,10 +110,24 @@ IsTextCause text _ = ⊥
 
 -- Why a file may have no answer; its counts of faults before and after.
 abbrev pub IsFileCause : Option (Option (List ℕ)) → ℕ → ℕ → Status → Type 0
-IsFileCause held before after (Refused kind line) = IsFaultOfFile held kind line
+IsFileCause held before after (Refused kind line) = IsFaultOfTold held kind line
 IsFileCause held before after ReadFault = CountRose before after
 IsFileCause held before after NoMemory = Unit {0}
 IsFileCause held before after _ = ⊥
+
+-- Why words may have no answer.
+abbrev pub IsInputCause : Told → InputOf → ℕ → ℕ → Status → Type 0
+IsInputCause held (file name) before after status = IsFileCause (held name) before after status
+IsInputCause held (made_of n) before after status = IsTextCause (made n) status
+
+abbrev pub IsUsageOrMemory : Status → Type 0
+IsUsageOrMemory Usage = Unit {0}
+IsUsageOrMemory NoMemory = Unit {0}
+IsUsageOrMemory _ = ⊥
+
+abbrev pub IsWordsCause : Told → Option Asked → ℕ → ℕ → Status → Type 0
+IsWordsCause held None before after status = IsUsageOrMemory status
+IsWordsCause held (Some asked) before after status = IsInputCause held asked.1 before after status
 
 abbrev pub IsRefused : Status → Type 0
 IsRefused status = (kind : ℕ) × (line : ℕ) × (status ≡ Refused kind line)
@@ -101,17 +143,12 @@ status_code NoMemory = 5
 
 -- The name of a kind of fault.
 abbrev pub kind_name : ℕ → List ℕ
-kind_name kind = slice_index_or kind_names kind []
-  where
-    kind_names : List (List ℕ)
-    kind_names =
-        [] ∷ codes "Lex" ∷ codes "Syntax" ∷ codes "NameTwice" ∷ codes "NameUnknown" ∷ codes "UnknownConstraint" ∷ codes "WrongArgument"
-        ∷ codes "Unsupported" ∷ codes "OutOfRange" ∷ codes "TooMany" ∷ codes "NoSolve" ∷ codes "AfterSolve" ∷ codes "TooLong" ∷ []
+kind_name kind = option_map_or name_of (kind_numbered kind) []
 
 -- The line that goes to standard error with a status.
 abbrev pub status_line : Status → List ℕ
 status_line Answered = []
-status_line Usage = codes "usage: turbofzn [-a] [-p N] [--lanes N] [--depth D] [--node-limit N] (FILE or --make N)" ++ line_end
+status_line Usage = codes "usage: turbofzn [-a] [-p N] [--lanes N] [--depth D] [--node-limit N] [--round-limit N] (FILE or --make N)" ++ line_end
 status_line (Refused kind line) = codes "refused " ++ decimal kind ++ codes " " ++ kind_name kind ++ codes " line " ++ decimal line ++ line_end
 status_line ReadFault = codes "read fault" ++ line_end
 status_line WriteFault = codes "write fault" ++ line_end

@@ -5,6 +5,8 @@ use Rattle.fzn_lexer.specs.declared.Token.{Token}
 use Rattle.fzn_lexer.specs.Lexing.{LexesAs, FaultsAt as IsNoToken}
 use Rattle.fzn_parser.specs.Parsing.{ItemTree, ReadsAs, FaultsAt as IsNoItem}
 use Rattle.constraint_model.specs.declared.model.FznModel.{FznModel}
+use Rattle.fzn_model.specs.declared.fault_kinds.FaultKind.{FaultKind}
+use Rattle.fzn_model.specs.FaultKinds.{kind_number}
 use Rattle.fzn_model.specs.Resolving.{IsModelOf, HasFault}
 use Rattle.solver_top.specs.declared.reader.TextError.{TextError}
 
@@ -14,13 +16,13 @@ most_bytes = 67108864
 -- ---- the kinds of fault that the first steps find
 
 abbrev pub no_token : ℕ
-no_token = 1
+no_token = kind_number FaultKind.Lex
 
 abbrev pub no_item : ℕ
-no_item = 2
+no_item = kind_number FaultKind.Syntax
 
 abbrev pub too_long : ℕ
-too_long = 12
+too_long = kind_number FaultKind.TooLong
 
 -- the text's tokens read as these items
 pub record HasItems (text : List ℕ) (items : List ItemTree) : Type 0 where

@@ -3,11 +3,9 @@
 ghost use Rattle.std.specs.Prelude.{◌≡◌, ◌⊎◌, ℕ, List};
 ghost use Rattle.constraint_model.specs.declared.model.FznModel.{FznModel};
 ghost use Rattle.solver_top.specs.Texts.{IsTextOf, IsFaultOf};
-ghost use Rattle.solver_top.specs.Outcome.{IsAnswerOf};
 
-use branching::law_one_list;
 use fzn_lexer::law_one_reading as law_one_lexing;
-use fzn_model::{law_one_model, law_well_formed};
+use fzn_model::law_one_model;
 use fzn_parser::laws::law_one_reading as law_one_parsing;
 
 /// Every text has one model or one fault, and never both. It does nothing.
@@ -20,13 +18,4 @@ pub fn law_one_text()
     law_one_lexing();
     law_one_parsing();
     law_one_model();
-}
-
-/// A text has at most one answer. It does nothing.
-pub fn law_one_answer()
-    ensures { (text bytes others : List ℕ) → IsAnswerOf text bytes → IsAnswerOf text others → bytes ≡ others }
-{
-    law_one_text();
-    law_well_formed();
-    law_one_list();
 }

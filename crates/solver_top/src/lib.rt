@@ -1,4 +1,4 @@
-//! From the bytes of a text to the bytes of its answer.
+//! From the words of the command line and the bytes of a text to the bytes of its answer.
 #![tactic(auto)]
 
 #[cfg(test)]
@@ -7,14 +7,19 @@ mod boolean_tests;
 mod constraint_tests;
 #[cfg(test)]
 mod corner_tests;
+#[cfg(test)]
+mod gate_tests;
 mod laws;
 #[cfg(test)]
 mod limit_tests;
+mod printing;
 #[cfg(test)]
 mod program_tests;
 pub mod reader;
 #[cfg(test)]
 mod refusal_tests;
+#[cfg(test)]
+mod search_tests;
 mod solving;
 mod status;
 #[cfg(test)]
@@ -22,9 +27,9 @@ mod tests;
 #[cfg(test)]
 mod text_tests;
 mod top;
-mod words;
 
-pub use laws::{law_one_answer, law_one_text};
+pub use answer::{Gate, Gates, NoGate};
+pub use laws::law_one_text;
 pub use reader::{TextError, line_of, read_model};
 pub use status::{Status, report};
 pub use top::solve_main;

@@ -5,10 +5,11 @@ use crate::tests::run_text;
 use std::alloc::{AllocError, Global};
 use std::process::Abort;
 use std::test::Fail;
+use std::thread::Threads;
 
 /// The text has a model and a solution.
-fn assert_solved(rt: &impl Abort, alloc: Global, text: &[u8]) -> Result<(), Fail> {
-    let outcome = run_text(alloc, text)?;
+fn assert_solved(rt: &(impl Abort + Threads + Sync), alloc: Global, text: &[u8]) -> Result<(), Fail> {
+    let outcome = run_text(rt, alloc, text)?;
     assert_eq!(rt; outcome.status, Status::Answered);
     assert_eq!(rt; outcome.out.as_slice(), b"----------\n".as_slice());
     assert!(rt; outcome.err.is_empty());
@@ -17,13 +18,13 @@ fn assert_solved(rt: &impl Abort, alloc: Global, text: &[u8]) -> Result<(), Fail
 
 /// The text is refused, and this is told.
 fn assert_refused(
-    rt: &impl Abort,
+    rt: &(impl Abort + Threads + Sync),
     alloc: Global,
     text: &[u8],
     status: Status,
     told: &str,
 ) -> Result<(), Fail> {
-    let outcome = run_text(alloc, text)?;
+    let outcome = run_text(rt, alloc, text)?;
     assert_eq!(rt; outcome.status, status);
     assert!(rt; outcome.out.is_empty());
     assert_eq!(rt; outcome.err.as_slice(), told.as_bytes());

@@ -7,7 +7,7 @@ ghost use Rattle.constraint_model.specs.declared.model.FznModel.{FznModel};
 ghost use Rattle.solver_top.specs.Texts.{most_bytes, HasItems, IsTextOf, IsFaultOf, IsCause, LacksModel, line_at};
 
 use fzn_lexer::{LexError, Token, lex};
-use fzn_model::{FznModel, ModelError, resolve};
+use fzn_model::{FaultKind, FznModel, ModelError, resolve};
 use fzn_parser::tree::Item;
 use fzn_parser::{ParseError, parse};
 use std::alloc::Global;
@@ -15,13 +15,6 @@ use thiserror::Error;
 
 /// The most bytes of a text.
 pub const MOST_BYTES: usize = 67_108_864;
-
-const NO_TOKEN: u8 = 1;
-
-const NO_ITEM: u8 = 2;
-
-/// The kind of fault of a text that is too long.
-pub(crate) const TOO_LONG: u8 = 12;
 
 /// Why a text has no model.
 #[derive(Debug, Clone, Copy, PartialEq, Eq, Drop, Error)]
@@ -42,7 +35,10 @@ fn tokens_of(alloc: Global, text: &[u8]) -> Result<Vec<Token>, TextError>
 {
     match lex(alloc, text) {
         Ok(tokens) => Ok(tokens),
-        Err(LexError::Lex { at }) => Err(TextError::Refused { kind: NO_TOKEN, at }),
+        Err(LexError::Lex { at }) => Err(TextError::Refused {
+            kind: FaultKind::Lex.number(),
+            at,
+        }),
         Err(LexError::NoMemory) => Err(TextError::NoMemory),
     }
 }
@@ -59,7 +55,10 @@ fn items_of(alloc: Global, text: &[u8]) -> Result<Vec<Item>, TextError>
     };
     match parse(alloc, text, tokens.as_slice()) {
         Ok(items) => Ok(items),
-        Err(ParseError::Syntax { at }) => Err(TextError::Refused { kind: NO_ITEM, at }),
+        Err(ParseError::Syntax { at }) => Err(TextError::Refused {
+            kind: FaultKind::Syntax.number(),
+            at,
+        }),
         Err(ParseError::NoMemory) => Err(TextError::NoMemory),
     }
 }
@@ -70,7 +69,7 @@ pub fn read_model(alloc: Global, text: &[u8]) -> Result<FznModel, TextError>
 {
     if text.len() > MOST_BYTES {
         return Err(TextError::Refused {
-            kind: TOO_LONG,
+            kind: FaultKind::TooLong.number(),
             at: 0,
         });
     }

@@ -1,72 +1,231 @@
-//! The first solution of a model.
+//! What is written of the words, before it is written.
 
-ghost use Rattle.std.specs.Prelude.{◌≡◌, IfOk};
-ghost use Rattle.constraint_model.specs.Searches.{IsSearchOf};
+ghost use Rattle.std.specs.Prelude.{◌≡◌, ◌≤◌, Some, IfOk, IfErr};
+ghost use Rattle.fzn_io.specs.Streams.{IsHeld};
 ghost use Rattle.constraint_model.specs.WellFormed.{IsWellFormed};
-ghost use Rattle.decompose.specs.Program.{IsProgramOf};
-ghost use Rattle.solver_top.specs.Answers.{IsAnswer, answer_text};
+ghost use Rattle.command_line.specs.CommandLine.{AreOptions, IsConfig, config_meant, config_of, file, input_meant};
+ghost use Rattle.made_model.specs.Made.{made};
+ghost use Rattle.solver_top.specs.Texts.{IsCause, IsTextOf, fault_line};
+ghost use Rattle.solver_top.specs.Answers.{IsAnswerOf, IsAnswerWith, IsLineOf, search_options};
+ghost use Rattle.solver_top.specs.Outcome.{CanOpen, IsAnswerOfInput, IsAnswerOfWords, IsFileAlone, IsFileCause, IsInputCause, IsTextCause, IsWordsCause, ReadsFile};
 
-use decompose::{Program, compile};
-use fzn_model::FznModel;
-use fzn_print::{Mark, mark_text, print_solution};
-use interval::{NoMemory, law_inside_order};
-use list_of::ListOf;
-use search::{FirstEnd, Run, Why, run_first};
-use solution_lists::{law_least_first, law_solutions_listed};
+use crate::printing::{known_objective, print_answer};
+use crate::reader::{MOST_BYTES, TextError, line_of, read_model};
+use crate::status::Status;
+use answer::{Answer, Gate, Gates, answer, law_unfinished_marks};
+use command_line::{Config, Input, Options, WordsError, read_words};
+use fzn_io::{ReadError as FileError, Source, read_named};
+use fzn_model::{FaultKind, FznModel, law_well_formed};
+use interval::NoMemory;
+use made_model::{made_summary, made_text};
 use std::alloc::Global;
+use std::thread::Threads;
 
-/// The first solution of the model in the order of its search tree, or none where it has none.
-pub(crate) fn solve(alloc: Global, model: &FznModel) -> Result<Option<ListOf<i64>>, NoMemory>
-    requires { IsWellFormed model.now }
-    ensures { IfOk result (λ answer. IsAnswer model.now answer) }
-{
-    let program = compile(alloc, model)?;
-    first_solution(alloc, model, &program)
-}
-
-/// The same, where the model's program is there.
-fn first_solution(
+/// What is to be written of the words.
+pub(crate) fn answer_of_words<R: Threads + Sync, S: Source, C: Gate + Sync, L: Gate + Sync>(
+    rt: &R,
     alloc: Global,
-    model: &FznModel,
-    program: &Program,
-) -> Result<Option<ListOf<i64>>, NoMemory>
-    requires search { IsSearchOf model.now }
-    requires program { IsProgramOf model.now program.now }
-    ensures { IfOk result (λ answer. IsAnswer model.now answer) }
+    words: &[String],
+    files: &mut S,
+    gates: &Gates<C, L>,
+) -> Result<Vec<u8>, Status>
+    requires { CanOpen (S.names files.old) (config_of words.now) }
+    ensures ok { IfOk result (λ bytes. IsAnswerOfWords (S.held files.old) (config_of words.now) bytes.items) }
+    ensures cause { IfErr result (IsWordsCause (S.held files.old) (config_of words.now) (S.faults files.old) (S.faults files.new)) }
+    ensures unread { (ReadsFile (config_of words.now) → ⊥) → files.new ≡ files.old }
 {
-    law_inside_order();
-    law_solutions_listed();
-    law_least_first();
-    let run = Run {
-        model,
-        program,
-        node_limit: 0,
-        round_limit: 0,
-    };
-    match run_first(alloc, &run, &program.start)? {
-        FirstEnd::Done(answer) => Ok(answer),
-        // Without limits no search is stopped by one.
-        FirstEnd::Spent {
-            why: Why::Nodes,
-            ..
-        } => unreachable!(),
-        FirstEnd::Spent {
-            why: Why::Rounds,
-            ..
-        } => unreachable!(),
+    match read_words(alloc, words) {
+        Ok(config) => answer_of_input(rt, alloc, &config, files, gates),
+        Err(WordsError::NotTaken) => Err(Status::Usage),
+        Err(WordsError::NoMemory) => Err(Status::NoMemory),
     }
 }
 
-/// The text of an answer: a solution of the model, or that none exists.
-pub(crate) fn print_answer(
+/// What is to be written of a file or of a made text.
+fn answer_of_input<R: Threads + Sync, S: Source, C: Gate + Sync, L: Gate + Sync>(
+    rt: &R,
+    alloc: Global,
+    config: &Config<'_>,
+    files: &mut S,
+    gates: &Gates<C, L>,
+) -> Result<Vec<u8>, Status>
+    requires config { IsConfig config.now }
+    requires open { CanOpen (S.names files.old) (Some (config_meant config.now)) }
+    ensures ok { IfOk result (λ bytes. IsAnswerOfInput (S.held files.old) config.now.options (input_meant config.now.input) bytes.items) }
+    ensures cause { IfErr result (IsInputCause (S.held files.old) (input_meant config.now.input) (S.faults files.old) (S.faults files.new)) }
+    ensures unread { (ReadsFile (Some (config_meant config.now)) → ⊥) → files.new ≡ files.old }
+{
+    match config.input {
+        Input::File(name) => answer_of_file(rt, alloc, name, &config.options, files, gates),
+        Input::Made(n) => line_of_made(rt, alloc, n, &config.options, gates),
+    }
+}
+
+/// The answer of the text of a file.
+fn answer_of_file<R: Threads + Sync, S: Source, C: Gate + Sync, L: Gate + Sync>(
+    rt: &R,
+    alloc: Global,
+    name: &str,
+    options: &Options,
+    files: &mut S,
+    gates: &Gates<C, L>,
+) -> Result<Vec<u8>, Status>
+    requires options { AreOptions options.now }
+    requires open { IsFileAlone (S.names files.old) name.now }
+    ensures ok { IfOk result (λ bytes. IsAnswerOfInput (S.held files.old) options.now (file name.now) bytes.items) }
+    ensures cause { IfErr result (IsFileCause (S.held files.old name.now) (S.faults files.old) (S.faults files.new)) }
+{
+    let text = text_of_file(alloc, name, files)?;
+    answer_of_text(rt, alloc, &text, options, gates)
+}
+
+/// The text of a file.
+fn text_of_file<S: Source>(alloc: Global, name: &str, files: &mut S) -> Result<Vec<u8>, Status>
+    requires { IsFileAlone (S.names files.old) name.now }
+    ensures ok { IfOk result (λ text. IsHeld (S.held files.old name.now) text.items) }
+    ensures cause { IfErr result (IsFileCause (S.held files.old name.now) (S.faults files.old) (S.faults files.new)) }
+{
+    match read_named(alloc, files, name, MOST_BYTES) {
+        Ok(text) => Ok(text),
+        Err(FileError::ReadFault) => Err(Status::ReadFault),
+        Err(FileError::TooLong) => Err(Status::Refused {
+            kind: FaultKind::TooLong.number(),
+            line: 0,
+        }),
+        Err(FileError::NoMemory) => Err(Status::NoMemory),
+    }
+}
+
+/// The answer of a text.
+fn answer_of_text<R: Threads + Sync, C: Gate + Sync, L: Gate + Sync>(
+    rt: &R,
+    alloc: Global,
+    text: &[u8],
+    options: &Options,
+    gates: &Gates<C, L>,
+) -> Result<Vec<u8>, Status>
+    requires options { AreOptions options.now }
+    ensures ok { IfOk result (λ bytes. IsAnswerOf options.now text.now bytes.items) }
+    ensures cause { IfErr result (IsTextCause text.now) }
+{
+    let model = model_of(alloc, text)?;
+    let Ok(answer) = search(rt, alloc, &model, options, gates) else {
+        return Err(Status::NoMemory);
+    };
+    match print_answer(alloc, &model, &answer) {
+        Ok(bytes) => Ok(bytes),
+        Err(_) => Err(Status::NoMemory),
+    }
+}
+
+/// The line of the made text of `n` variables, 2 to 2000.
+fn line_of_made<R: Threads + Sync, C: Gate + Sync, L: Gate + Sync>(
+    rt: &R,
+    alloc: Global,
+    n: u32,
+    options: &Options,
+    gates: &Gates<C, L>,
+) -> Result<Vec<u8>, Status>
+    requires count { (2 ≤ n) × (n ≤ 2000) }
+    requires options { AreOptions options.now }
+    ensures ok { IfOk result (λ bytes. IsLineOf options.now n (made n) bytes.items) }
+    ensures cause { IfErr result (IsTextCause (made n)) }
+{
+    match made_text(alloc, n) {
+        Ok(text) => line_of_text(rt, alloc, n, &text, options, gates),
+        Err(_) => Err(Status::NoMemory),
+    }
+}
+
+/// The line of a text of `n` variables.
+fn line_of_text<R: Threads + Sync, C: Gate + Sync, L: Gate + Sync>(
+    rt: &R,
+    alloc: Global,
+    n: u32,
+    text: &[u8],
+    options: &Options,
+    gates: &Gates<C, L>,
+) -> Result<Vec<u8>, Status>
+    requires count { n ≤ 2000 }
+    requires options { AreOptions options.now }
+    ensures ok { IfOk result (λ bytes. IsLineOf options.now n text.now bytes.items) }
+    ensures cause { IfErr result (IsTextCause text.now) }
+{
+    let model = model_of(alloc, text)?;
+    let Ok(answer) = search(rt, alloc, &model, options, gates) else {
+        return Err(Status::NoMemory);
+    };
+    law_unfinished_marks();
+    match made_summary(alloc, n, known_objective(&model, &answer)) {
+        Ok(line) => Ok(line),
+        Err(_) => Err(Status::NoMemory),
+    }
+}
+
+/// The model of a text.
+fn model_of(alloc: Global, text: &[u8]) -> Result<FznModel, Status>
+    ensures ok { IfOk result (IsTextOf text.now) }
+    ensures well_formed { IfOk result IsWellFormed }
+    ensures cause { IfErr result (IsTextCause text.now) }
+{
+    law_well_formed();
+    match read_model(alloc, text) {
+        Ok(model) => Ok(model),
+        Err(error) => Err(status_of(text, error)),
+    }
+}
+
+/// An answer of a model.
+fn search<R: Threads + Sync, C: Gate + Sync, L: Gate + Sync>(
+    rt: &R,
     alloc: Global,
     model: &FznModel,
-    answer: &Option<ListOf<i64>>,
-) -> Result<Vec<u8>, NoMemory>
-    ensures { IfOk result (λ text. text.items ≡ answer_text model.now answer.now) }
+    options: &Options,
+    gates: &Gates<C, L>,
+) -> Result<Answer, NoMemory>
+    requires model { IsWellFormed model.now }
+    requires options { AreOptions options.now }
+    ensures { IfOk result (IsAnswerWith options.now model.now) }
 {
-    match answer {
-        Some(values) => print_solution(alloc, model, values.as_slice()),
-        None => Ok(Vec::from_slice(alloc, mark_text(Mark::Unsatisfiable).as_bytes())?),
+    let options = search_options(options);
+    answer(rt, alloc, model, &options, gates)
+}
+
+/// The options of the words as the search takes them.
+fn search_options(options: &Options) -> answer::Options
+    ensures { result ≡ search_options options.now }
+{
+    answer::Options {
+        all: options.all,
+        workers: options.workers,
+        lanes: options.lanes,
+        depth: options.depth,
+        node_limit: options.node_limit,
+        round_limit: options.round_limit,
+    }
+}
+
+/// The status where a text has no model.
+fn status_of(text: &[u8], error: TextError) -> Status
+    requires { IsCause text.now error }
+    ensures { IsTextCause text.now result }
+{
+    match error {
+        TextError::Refused { kind, at } => Status::Refused {
+            kind,
+            line: told_line(text, kind, at),
+        },
+        TextError::NoMemory => Status::NoMemory,
+    }
+}
+
+/// The line that is told of a fault; 0 where the text is too long.
+fn told_line(text: &[u8], kind: u8, at: usize) -> u64
+    ensures { result ≡ fault_line text.now kind at }
+{
+    if kind == FaultKind::TooLong.number() {
+        0
+    } else {
+        line_of(text, at)
     }
 }

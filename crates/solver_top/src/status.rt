@@ -7,6 +7,7 @@ ghost use Rattle.solver_top.specs.declared.status.Status.{Status};
 ghost use Rattle.solver_top.specs.Outcome.{IsRefused, kind_name, status_code, status_line};
 
 use fzn_io::{Sink, write_all};
+use fzn_model::FaultKind;
 use itoa::Buffer;
 use std::alloc::{AllocError, Global};
 
@@ -15,7 +16,7 @@ use std::alloc::{AllocError, Global};
 pub enum Status {
     /// The answer is written whole.
     Answered,
-    /// The words are not the program's name and a file.
+    /// The command doesn't take the words.
     Usage,
     /// The text has a fault of this kind, from 1 to 12, on this line, counted from 1; line 0 where the text is too long.
     Refused { kind: u8, line: u64 },
@@ -44,29 +45,18 @@ impl Status {
 }
 
 const USAGE: &[u8] =
-    b"usage: turbofzn [-a] [-p N] [--lanes N] [--depth D] [--node-limit N] (FILE or --make N)\n";
+    b"usage: turbofzn [-a] [-p N] [--lanes N] [--depth D] [--node-limit N] [--round-limit N] (FILE or --make N)\n";
 
 /// What is written where memory is refused.
 const OUT_OF_MEMORY: &[u8] = b"out of memory\n";
 
 /// The name of a kind of fault.
-fn name_of_kind(kind: u8) -> &'static [u8]
+fn name_of_kind(kind: u8) -> &'static str
     ensures { result.now ≡ kind_name kind }
 {
-    match kind {
-        1 => b"Lex",
-        2 => b"Syntax",
-        3 => b"NameTwice",
-        4 => b"NameUnknown",
-        5 => b"UnknownConstraint",
-        6 => b"WrongArgument",
-        7 => b"Unsupported",
-        8 => b"OutOfRange",
-        9 => b"TooMany",
-        10 => b"NoSolve",
-        11 => b"AfterSolve",
-        12 => b"TooLong",
-        _ => b"",
+    match FaultKind::numbered(kind) {
+        Some(kind) => kind.name(),
+        None => "",
     }
 }
 
@@ -78,7 +68,7 @@ fn refusal(alloc: Global, kind: u8, line: u64) -> Result<Vec<u8>, AllocError>
     let mut bytes = Vec::from_slice(alloc, b"refused ")?;
     bytes.extend_from_slice(number.format(kind).as_bytes())?;
     bytes.extend_from_slice(b" ")?;
-    bytes.extend_from_slice(name_of_kind(kind))?;
+    bytes.extend_from_slice(name_of_kind(kind).as_bytes())?;
     bytes.extend_from_slice(b" line ")?;
     bytes.extend_from_slice(number.format(line).as_bytes())?;
     bytes.extend_from_slice(b"\n")?;

@@ -1,11 +1,12 @@
 //! The top call on files and streams that are lists of bytes: its words, and faults of the file and of the streams. Tables of
 //! texts stand in the other files of tests.
 
-use crate::{Status, solve_main};
+use crate::{Gate, Gates, NoGate, Status, solve_main};
 use fzn_io::{HonestSource, MemSink, MemSource, Named};
 use std::alloc::{AllocError, Global};
 use std::process::Abort;
 use std::test::Fail;
+use std::thread::Threads;
 
 /// The text whose least solution is `x = 2`.
 const BOUNDS: &str = "var 1..3: x :: output_var; constraint int_le(2,x); solve satisfy;";
@@ -18,30 +19,23 @@ pub(crate) struct Outcome {
     pub(crate) err: Vec<u8>,
 }
 
-/// Runs the program on a file that holds `text`, or that isn't there. Of the calls on the file and of those on standard
-/// output, each of at most `chunk` bytes, the ones with these numbers fail; 0 is none.
-pub(crate) fn run(
+/// Runs the program on these words, with a blank between each two, and a file that holds the text, where tests hold up its
+/// workers and lanes by these gates.
+pub(crate) fn run_gated<C: Gate + Sync, L: Gate + Sync>(
+    rt: &(impl Threads + Sync),
     alloc: Global,
-    text: Option<Vec<u8>>,
-    chunk: usize,
-    failing_read: u64,
-    failing_write: u64,
+    words: &str,
+    text: &[u8],
+    gates: &Gates<C, L>,
 ) -> Result<Outcome, AllocError> {
-    let name = "m.fzn";
-    let words = vec![in alloc;
-        String::from_str(alloc, "turbofzn")?,
-        String::from_str(alloc, name)?,
-    ]?;
-    let file = Named {
-        name: String::from_str(alloc, name)?,
-        bytes: text,
-    };
-    let failing_reads = vec![in alloc; failing_read]?;
-    let mut files = MemSource::new(vec![in alloc; file]?, 1024, failing_reads);
-    let failing_writes = vec![in alloc; failing_write]?;
-    let mut out = MemSink::new(alloc, chunk, failing_writes);
+    let mut list = Vec::new(alloc);
+    for word in words.split(' ') {
+        list.push(String::from_str(alloc, word)?)?;
+    }
+    let mut files = HonestSource::new(Vec::from_slice(alloc, text)?);
+    let mut out = MemSink::new(alloc, 1024, Vec::new(alloc));
     let mut err = MemSink::new(alloc, 1024, Vec::new(alloc));
-    let status = solve_main(alloc, &words, &mut files, &mut out, &mut err);
+    let status = solve_main(rt, alloc, &list, &mut files, &mut out, &mut err, gates);
     Ok(Outcome {
         status,
         out: Vec::from_slice(alloc, out.bytes())?,
@@ -49,19 +43,87 @@ pub(crate) fn run(
     })
 }
 
+/// Runs the program on a file that holds the bytes, or that isn't there. Of the calls on the file and of those on standard
+/// output, each of at most `chunk` bytes, the ones with these numbers fail; 0 is none.
+fn run_faulty(
+    rt: &(impl Threads + Sync),
+    alloc: Global,
+    bytes: Option<Vec<u8>>,
+    chunk: usize,
+    failing_read: u64,
+    failing_write: u64,
+) -> Result<Outcome, AllocError> {
+    let words = vec![in alloc;
+        String::from_str(alloc, "turbofzn")?,
+        String::from_str(alloc, "m.fzn")?,
+    ]?;
+    let file = Named {
+        name: String::from_str(alloc, "m.fzn")?,
+        bytes,
+    };
+    let failing_reads = vec![in alloc; failing_read]?;
+    let mut files = MemSource::new(vec![in alloc; file]?, 1024, failing_reads);
+    let failing_writes = vec![in alloc; failing_write]?;
+    let mut out = MemSink::new(alloc, chunk, failing_writes);
+    let mut err = MemSink::new(alloc, 1024, Vec::new(alloc));
+    let gates = Gates {
+        crew: &NoGate,
+        lanes: &NoGate,
+    };
+    let status = solve_main(rt, alloc, &words, &mut files, &mut out, &mut err, &gates);
+    Ok(Outcome {
+        status,
+        out: Vec::from_slice(alloc, out.bytes())?,
+        err: Vec::from_slice(alloc, err.bytes())?,
+    })
+}
+
+/// Runs the program.
+pub(crate) fn run(
+    rt: &(impl Threads + Sync),
+    alloc: Global,
+    words: &str,
+    text: &[u8],
+) -> Result<Outcome, AllocError> {
+    let gates = Gates {
+        crew: &NoGate,
+        lanes: &NoGate,
+    };
+    run_gated(rt, alloc, words, text, &gates)
+}
+
 /// Runs the program on a file that holds these bytes.
-pub(crate) fn run_text(alloc: Global, text: &[u8]) -> Result<Outcome, AllocError> {
-    run(alloc, Some(Vec::from_slice(alloc, text)?), 1024, 0, 0)
+pub(crate) fn run_text(
+    rt: &(impl Threads + Sync),
+    alloc: Global,
+    text: &[u8],
+) -> Result<Outcome, AllocError> {
+    run(rt, alloc, "turbofzn m.fzn", text)
+}
+
+/// Each list of words has its answer on its text, and nothing goes to standard error.
+pub(crate) fn assert_calls(
+    rt: &(impl Abort + Threads + Sync),
+    alloc: Global,
+    table: &[(&str, &str, &str)],
+) -> Result<(), Fail> {
+    for (words, text, answer) in table {
+        let outcome = run(rt, alloc, words, text.as_bytes())?;
+        assert_eq!(rt; outcome.status, Status::Answered, "at {words} on {text}");
+        assert_eq!(rt; outcome.out.as_slice(), answer.as_bytes(), "at {words} on {text}");
+        assert!(rt; outcome.err.is_empty(), "at {words} on {text}");
+    }
+    Ok(())
 }
 
 /// Each text has its answer, and nothing goes to standard error.
 pub(crate) fn assert_answers(
-    rt: &impl Abort,
+    rt: &(impl Abort + Threads + Sync),
     alloc: Global,
     table: &[(&str, &str)],
 ) -> Result<(), Fail> {
     for (text, answer) in table {
-        let outcome = run_text(alloc, text.as_bytes())?;
+        let outcome = run_text(rt, alloc, text.as_bytes())?;
         assert_eq!(rt; outcome.status, Status::Answered, "at {text}");
         assert_eq!(rt; outcome.out.as_slice(), answer.as_bytes(), "at {text}");
         assert!(rt; outcome.err.is_empty(), "at {text}");
@@ -71,12 +133,12 @@ pub(crate) fn assert_answers(
 
 /// Each text is refused with its kind, its line and what goes to standard error, and nothing goes to standard output.
 pub(crate) fn assert_refusals(
-    rt: &impl Abort,
+    rt: &(impl Abort + Threads + Sync),
     alloc: Global,
     table: &[(&str, u8, u64, &str)],
 ) -> Result<(), Fail> {
     for (text, kind, line, told) in table {
-        let outcome = run_text(alloc, text.as_bytes())?;
+        let outcome = run_text(rt, alloc, text.as_bytes())?;
         let (kind, line) = (*kind, *line);
         assert_eq!(rt; outcome.status, Status::Refused { kind, line }, "at {text}");
         assert!(rt; outcome.out.is_empty(), "at {text}");
@@ -88,16 +150,16 @@ pub(crate) fn assert_refusals(
 #[test]
 fn faults_have_their_status(rt: HostRuntime) -> Result<(), Fail> {
     let bytes = Vec::from_slice(rt.alloc(), BOUNDS.as_bytes())?;
-    let outcome = run(rt.alloc(), Some(bytes), 4, 0, 2)?;
+    let outcome = run_faulty(&rt, rt.alloc(), Some(bytes), 4, 0, 2)?;
     assert_eq!(rt; outcome.status, Status::WriteFault);
     assert_eq!(rt; outcome.out.as_slice(), b"x = ".as_slice());
     assert_eq!(rt; outcome.err.as_slice(), b"write fault\n".as_slice());
     let bytes = Vec::from_slice(rt.alloc(), BOUNDS.as_bytes())?;
-    let outcome = run(rt.alloc(), Some(bytes), 1024, 2, 0)?;
+    let outcome = run_faulty(&rt, rt.alloc(), Some(bytes), 1024, 2, 0)?;
     assert_eq!(rt; outcome.status, Status::ReadFault);
     assert!(rt; outcome.out.is_empty());
     assert_eq!(rt; outcome.err.as_slice(), b"read fault\n".as_slice());
-    let outcome = run(rt.alloc(), None, 1024, 0, 0)?;
+    let outcome = run_faulty(&rt, rt.alloc(), None, 1024, 0, 0)?;
     assert_eq!(rt;
         outcome.status,
         Status::ReadFault,
@@ -110,19 +172,18 @@ fn faults_have_their_status(rt: HostRuntime) -> Result<(), Fail> {
 #[test]
 fn other_words_get_the_usage_line(rt: HostRuntime) -> Result<(), Fail> {
     let usage =
-        b"usage: turbofzn [-a] [-p N] [--lanes N] [--depth D] [--node-limit N] (FILE or --make N)\n";
-    for line in ["turbofzn", "turbofzn -h", "turbofzn -p 0 f", "turbofzn "] {
-        let mut words = Vec::new(rt.alloc());
-        for word in line.split(' ') {
-            words.push(String::from_str(rt.alloc(), word)?)?;
-        }
-        let mut files = HonestSource::new(Vec::from_slice(rt.alloc(), BOUNDS.as_bytes())?);
-        let mut out = MemSink::new(rt.alloc(), 1024, Vec::new(rt.alloc()));
-        let mut err = MemSink::new(rt.alloc(), 1024, Vec::new(rt.alloc()));
-        let status = solve_main(rt.alloc(), &words, &mut files, &mut out, &mut err);
-        assert_eq!(rt; status, Status::Usage, "at {line}");
-        assert!(rt; out.bytes().is_empty(), "at {line}");
-        assert_eq!(rt; err.bytes(), usage.as_slice(), "at {line}");
+        b"usage: turbofzn [-a] [-p N] [--lanes N] [--depth D] [--node-limit N] [--round-limit N] (FILE or --make N)\n";
+    for words in [
+        "turbofzn",
+        "turbofzn -h",
+        "turbofzn --version",
+        "turbofzn -p 0 m.fzn",
+        "turbofzn --make 1",
+    ] {
+        let outcome = run(&rt, rt.alloc(), words, BOUNDS.as_bytes())?;
+        assert_eq!(rt; outcome.status, Status::Usage, "at {words}");
+        assert!(rt; outcome.out.is_empty(), "at {words}");
+        assert_eq!(rt; outcome.err.as_slice(), usage.as_slice(), "at {words}");
     }
     Ok(())
 }

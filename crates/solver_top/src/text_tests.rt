@@ -153,11 +153,11 @@ fn nested(alloc: Global, pairs: usize) -> Result<String, AllocError> {
 #[test]
 fn sixty_four_pairs_of_brackets_are_taken_and_one_more_is_not(rt: HostRuntime) -> Result<(), Fail> {
     let text = nested(rt.alloc(), 64)?;
-    let outcome = run_text(rt.alloc(), text.as_bytes())?;
+    let outcome = run_text(&rt, rt.alloc(), text.as_bytes())?;
     assert_eq!(rt; outcome.status, Status::Answered);
     assert_eq!(rt; outcome.out.as_slice(), b"----------\n".as_slice());
     let text = nested(rt.alloc(), 65)?;
-    let outcome = run_text(rt.alloc(), text.as_bytes())?;
+    let outcome = run_text(&rt, rt.alloc(), text.as_bytes())?;
     assert_eq!(rt; outcome.status, Status::Refused { kind: 2, line: 1 });
     assert!(rt; outcome.out.is_empty());
     assert_eq!(rt;

@@ -2,7 +2,7 @@
 #![tactic(auto)]
 
 use fzn_io::{FileSource, StdSink};
-use solver_top::{Status, report, solve_main};
+use solver_top::{Gates, NoGate, Status, report, solve_main};
 use std::process::ExitCode;
 use std::{env, io};
 
@@ -30,7 +30,19 @@ fn solve(rt: &HostRuntime, words: &[String]) -> Status {
     let mut files = FileSource::new(rt);
     let mut out = StdSink::new(rt.stdout());
     let mut err = StdSink::new(rt.stderr());
-    solve_main(rt.alloc(), words, &mut files, &mut out, &mut err)
+    let gates = Gates {
+        crew: &NoGate,
+        lanes: &NoGate,
+    };
+    solve_main(
+        rt,
+        rt.alloc(),
+        words,
+        &mut files,
+        &mut out,
+        &mut err,
+        &gates,
+    )
 }
 
 /// What is said where there is no memory for the words.

@@ -1,0 +1,6 @@
+use Rattle.std.proofs.Common.{◌≡◌, Result, Ok, Err, IfOk}
+use Rattle.solver_top.proofs.KnownLaws.{answered_with}
+use Rattle.solver_top.proofs.solving.search.Goals as goal
+
+pub returns : goal.returns
+returns g c = answered_with c.args.options.now c.args.model.now c.answer.result c.search_options-options.result c.search_options-options.ensures c.answer.ensures.answer c.answer.ensures.whole

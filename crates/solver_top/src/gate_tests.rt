@@ -1,0 +1,102 @@
+//! That lanes and workers run beside each other: each of two is held up until the other has come so far.
+
+use crate::tests::{Outcome, run_gated};
+use crate::{Gate, Gates, NoGate, Status};
+use std::process::Abort;
+use std::sync::atomic::{AtomicBool, Ordering};
+use std::test::Fail;
+
+/// Lets the turn 0 of number 1 end only after the turn 0 of number 0 was called, and that one only after the turn 1 of
+/// number 1 was called.
+#[derive(Drop)]
+struct Meet {
+    first: AtomicBool,
+    second: AtomicBool,
+    third: AtomicBool,
+    gave_up: AtomicBool,
+}
+
+impl Meet {
+    fn new() -> Meet {
+        Meet {
+            first: AtomicBool::new(false),
+            second: AtomicBool::new(false),
+            third: AtomicBool::new(false),
+            gave_up: AtomicBool::new(false),
+        }
+    }
+
+    // Whether all three passes were called, and no wait gave up.
+    fn was_passed(&self) -> bool {
+        let first = self.first.load(Ordering::SeqCst);
+        let second = self.second.load(Ordering::SeqCst);
+        let third = self.third.load(Ordering::SeqCst);
+        first && second && third && !self.gave_up.load(Ordering::SeqCst)
+    }
+}
+
+// Waits for the other, for so many turns.
+fn wait_for(flag: &AtomicBool, gave_up: &AtomicBool) {
+    for _ in 0..200_000_000u32 {
+        if flag.load(Ordering::SeqCst) {
+            return;
+        }
+    }
+    gave_up.store(true, Ordering::SeqCst);
+}
+
+impl Gate for Meet {
+    fn pass(&self, number: u32, turn: u64) {
+        match (number, turn) {
+            (0, 0) => {
+                self.first.store(true, Ordering::SeqCst);
+                wait_for(&self.third, &self.gave_up);
+            }
+            (1, 0) => {
+                self.second.store(true, Ordering::SeqCst);
+                wait_for(&self.first, &self.gave_up);
+            }
+            (1, 1) => self.third.store(true, Ordering::SeqCst),
+            _ => {}
+        }
+    }
+}
+
+/// The call wrote this answer.
+fn assert_answered(rt: &impl Abort, outcome: &Outcome, answer: &str) {
+    assert_eq!(rt; outcome.status, Status::Answered);
+    assert_eq!(rt; outcome.out.as_slice(), answer.as_bytes());
+}
+
+#[test]
+fn two_lanes_meet(rt: HostRuntime) -> Result<(), Fail> {
+    let text = "var 0..3: x :: output_var; var 0..3: y; \
+         constraint int_lin_le([1],[x],3); constraint int_lin_le([1],[y],3); \
+         constraint int_lin_le([1],[x],3); constraint int_lin_le([1],[y],3); solve satisfy;";
+    let gate = Meet::new();
+    let gates = Gates {
+        crew: &NoGate,
+        lanes: &gate,
+    };
+    let words = "turbofzn --lanes 2 m.fzn";
+    let outcome = run_gated(&rt, rt.alloc(), words, text.as_bytes(), &gates)?;
+    assert_answered(&rt, &outcome, "x = 0;\n----------\n");
+    assert!(rt; gate.was_passed());
+    Ok(())
+}
+
+#[test]
+fn two_workers_meet(rt: HostRuntime) -> Result<(), Fail> {
+    let text = "var 0..1: x :: output_var; var 0..1: y :: output_var; var 0..9: o :: output_var; \
+         constraint int_lin_eq([1,1],[x,y],1); constraint int_le(4,o); solve minimize o;";
+    let gate = Meet::new();
+    let gates = Gates {
+        crew: &gate,
+        lanes: &NoGate,
+    };
+    let words = "turbofzn -p 2 --depth 2 m.fzn";
+    let outcome = run_gated(&rt, rt.alloc(), words, text.as_bytes(), &gates)?;
+    assert_answered(&rt, &outcome, "x = 0;\ny = 1;\no = 4;\n----------\n==========\n");
+    assert!(rt; gate.was_passed());
+    Ok(())
+}

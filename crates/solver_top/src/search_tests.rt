@@ -1,0 +1,136 @@
+//! Whole texts with objectives, with all solutions, under limits and cut into parts.
+
+use crate::tests::assert_calls;
+use std::test::Fail;
+
+/// Two numbers whose product is given.
+const PRODUCT: &str = "var -3..3: x :: output_var; var -3..3: y :: output_var; constraint int_times(x,y,-6); solve satisfy;";
+
+/// A sum under a bound, with the greatest value of another.
+const SUMS: &str = "var 0..10: x :: output_var; var 0..10: y :: output_var; var 0..14: z :: output_var; \
+     constraint int_lin_le([1,1],[x,y],7); constraint int_lin_eq([1,2,-1],[x,y,z],0); solve maximize z;";
+
+const SUMS_ANSWER: &str = "x = 0;\ny = 7;\nz = 14;\n----------\n==========\n";
+
+/// One variable of three values.
+const THREE: &str = "var 1..3: x :: output_var; solve maximize x;";
+
+const TWO: &str = "var 1..2: x :: output_var; solve satisfy;";
+
+const FOUR: &str = "var 0..3: x :: output_var; solve satisfy;";
+
+const BOUNDS: &str = "var 1..3: x :: output_var; constraint int_le(2,x); solve satisfy;";
+
+/// Words, a text, and its answer.
+const GOALS: &[(&str, &str, &str)] = &[
+    (
+        "turbofzn -a m.fzn",
+        PRODUCT,
+        "x = -3;\ny = 2;\n----------\nx = -2;\ny = 3;\n----------\nx = 2;\ny = -3;\n----------\nx = 3;\ny = -2;\n----------\n==========\n",
+    ),
+    ("turbofzn m.fzn", PRODUCT, "x = -3;\ny = 2;\n----------\n"),
+    (
+        "turbofzn m.fzn",
+        "var -5..5: x :: output_var; constraint int_lin_le([2],[x],-3); solve maximize x;",
+        "x = -2;\n----------\n==========\n",
+    ),
+    ("turbofzn m.fzn", SUMS, SUMS_ANSWER),
+    ("turbofzn -p 2 m.fzn", SUMS, SUMS_ANSWER),
+    ("turbofzn -p 8 --lanes 3 m.fzn", SUMS, SUMS_ANSWER),
+    ("turbofzn --lanes 3 --depth 0 m.fzn", SUMS, SUMS_ANSWER),
+    ("turbofzn -a --round-limit 35 m.fzn", SUMS, SUMS_ANSWER),
+    (
+        "turbofzn -p 2 --depth 1 m.fzn",
+        "var 0..1: x :: output_var; var 0..1: y :: output_var; var 0..9: o :: output_var; \
+         constraint int_lin_eq([1,1],[x,y],1); constraint int_le(4,o); solve minimize o;",
+        "x = 0;\ny = 1;\no = 4;\n----------\n==========\n",
+    ),
+    (
+        "turbofzn m.fzn",
+        "var {1,4,9}: x :: output_var; constraint int_ne(x,1); solve minimize x;",
+        "x = 4;\n----------\n==========\n",
+    ),
+    (
+        "turbofzn -a m.fzn",
+        "var 0..5: i :: output_var; var int: c :: output_var; constraint array_int_element(i,[7,8,7],c); solve satisfy;",
+        "i = 1;\nc = 7;\n----------\ni = 2;\nc = 8;\n----------\ni = 3;\nc = 7;\n----------\n==========\n",
+    ),
+    (
+        "turbofzn m.fzn",
+        "var 1..2: x; constraint int_lt(x,x); solve minimize x;",
+        "=====UNSATISFIABLE=====\n",
+    ),
+    (
+        "turbofzn m.fzn",
+        "var 4..6: x :: output_var; solve minimize 3;",
+        "x = 4;\n----------\n==========\n",
+    ),
+];
+
+/// The same under limits.
+const LIMITS: &[(&str, &str, &str)] = &[
+    (
+        "turbofzn --depth 0 --node-limit 2 m.fzn",
+        THREE,
+        "x = 1;\n----------\n",
+    ),
+    (
+        "turbofzn -a --depth 0 --node-limit 2 m.fzn",
+        "var 1..3: x :: output_var; solve satisfy;",
+        "x = 1;\n----------\n",
+    ),
+    (
+        "turbofzn --depth 0 --node-limit 1 m.fzn",
+        TWO,
+        "=====UNKNOWN=====\n",
+    ),
+    (
+        "turbofzn --depth 0 --node-limit 0 m.fzn",
+        TWO,
+        "x = 1;\n----------\n",
+    ),
+    (
+        "turbofzn -a --depth 1 --node-limit 1 m.fzn",
+        FOUR,
+        "x = 0;\n----------\n",
+    ),
+    (
+        "turbofzn --depth 0 --round-limit 1 m.fzn",
+        BOUNDS,
+        "=====UNKNOWN=====\n",
+    ),
+    (
+        "turbofzn --round-limit 1 m.fzn",
+        BOUNDS,
+        "x = 2;\n----------\n",
+    ),
+];
+
+/// Made texts.
+const MADE: &[(&str, &str, &str)] = &[
+    (
+        "turbofzn --make 2",
+        "",
+        "variables 2 kernels 8 objective 9\n",
+    ),
+    (
+        "turbofzn --make 2 --depth 0 --node-limit 1 m.fzn",
+        "$",
+        "variables 2 kernels 8 objective unknown\n",
+    ),
+];
+
+#[test]
+fn objectives_and_all_solutions(rt: HostRuntime) -> Result<(), Fail> {
+    assert_calls(&rt, rt.alloc(), GOALS)
+}
+
+#[test]
+fn limits_leave_marks_away(rt: HostRuntime) -> Result<(), Fail> {
+    assert_calls(&rt, rt.alloc(), LIMITS)
+}
+
+#[test]
+fn made_texts_have_a_line(rt: HostRuntime) -> Result<(), Fail> {
+    assert_calls(&rt, rt.alloc(), MADE)
+}

@@ -1,5 +1,5 @@
 -- Results beside what their numbers lead to.
-use Rattle.std.proofs.Common.{◌≡◌, ℕ, zero, suc, ◌+◌, ◌<◌, ◌^◌, List, [], ◌∷◌, ◌++◌, length, get_or, All, flat_map, Option, None, Some, refl, sym, ap, subst, ◌∙◌, arith}
+use Rattle.std.proofs.Common.{◌≡◌, ℕ, suc, ◌+◌, ◌<◌, ◌^◌, List, [], ◌∷◌, length, get_or, All, flat_map, Option, None, refl, sym, subst, ◌∙◌, arith}
 use Rattle.std.proofs.lemmas.Option.{slice_get_within}
 use Rattle.std.proofs.lemmas.List.Elements.{All-nil, All-cons, All-append}
 use Rattle.interval.specs.Boxes.{Bounds}
@@ -7,7 +7,7 @@ use Rattle.constraint_model.specs.declared.model.FznModel.{FznModel}
 use Rattle.constraint_model.specs.Searches.{IsSearchOf}
 use Rattle.decompose.specs.Kernels.{kernels_of}
 use Rattle.subproblems.specs.Paths.{ArePaths, PathLaws}
-use Rattle.answer.specs.Places.{StandsAt, HasResult, AreResults}
+use Rattle.answer.specs.Places.{StandsAt, AreResults}
 
 -- each result is one of what its number leads to, from this number on
 abbrev pub Along : {E : Type 0} → (ℕ → Option Bounds → E → Type 0) → ℕ → List (Option Bounds) → List E → Type 0
@@ -54,8 +54,8 @@ pub results_along : (laws : PathLaws) (model : FznModel) → IsSearchOf model �
     {E : Type 0} (Is : ℕ → Option Bounds → E → Type 0) (results : List E) → AreResults model depth b Is results → Along Is 0 paths results
 results_along laws model rule depth b paths are {E} Is results h =
     along Is 0 paths results (are.count ∙ sym h.count) (λ (j : ℕ) (r : E) (s : StandsAt results j r).
-        let own = h.each j r s in
-        let below : j < 2 ^ depth = let e = h.count in let l = slice_get_within results j r s in omega arith in
-        let same = laws.one model (kernels_of model) depth b j own.path (get_or paths j None) rule own.leads (are.each j below) in
-        let number : j ≡ 0 + j = omega arith in
-        subst (λ (n : ℕ). Is n (get_or paths j None) r) number (subst (λ (p : Option Bounds). Is j p r) same own.is_result))
+    let own = h.each j r s in
+    let below : j < 2 ^ depth = let e = h.count in let l = slice_get_within results j r s in omega arith in
+    let same = laws.one model (kernels_of model) depth b j own.path (get_or paths j None) rule own.leads (are.each j below) in
+    let number : j ≡ 0 + j = omega arith in
+    subst (λ (n : ℕ). Is n (get_or paths j None) r) number (subst (λ (p : Option Bounds). Is j p r) same own.is_result))

@@ -1,10 +1,9 @@
 -- Each solution of the model lies in what some number leads to, so that the searches of all numbers reach its cost.
-use Rattle.std.proofs.Common.{◌≡◌, ◌≢◌, ◌↔◌, ℕ, zero, suc, ℤ, ◌+◌, ◌<◌, ◌^◌, ◌≤ℤ◌, ◌<ℤ◌, List, [], ◌∷◌, ◌++◌, length, get_or, slice_get, flat_map, All, Any, Contains, Option, None, Some, refl, sym, ap, subst, ◌∙◌, ◌⊎◌, inl, inr, arith}
+use Rattle.std.proofs.Common.{◌≡◌, ◌≢◌, ℕ, zero, suc, ℤ, ◌<◌, ◌^◌, ◌≤ℤ◌, ◌<ℤ◌, List, [], ◌∷◌, ◌++◌, length, get_or, slice_get, flat_map, All, Any, Contains, Option, None, Some, refl, sym, ap, subst, ◌∙◌, inl, inr, arith}
 use Rattle.std.proofs.lemmas.Int.{ints}
 use Rattle.std.proofs.lemmas.Option.{slice_get_within, get_or_from_slice_get, slice_get-get_or}
 use Rattle.std.proofs.lemmas.List.Elements.{Contains-append_left, Contains-append_right, Contains-append_cases}
-use Rattle.interval.specs.Boxes.{Bounds, IsInside, IsInRange, InsideOrder}
-use Rattle.guarded_tell.specs.Kernels.{IsKernel}
+use Rattle.interval.specs.Boxes.{Bounds, InsideOrder}
 use Rattle.constraint_model.specs.declared.model.Goal.{Goal}
 use Rattle.constraint_model.specs.declared.model.FznModel.{FznModel}
 use Rattle.constraint_model.specs.Relations.{cost_of, IsSolution}
@@ -14,20 +13,19 @@ use Rattle.decompose.specs.Program.{start_of, IsProgramOf}
 use Rattle.branching.specs.Tree.{EveryList, SolutionsIn}
 use Rattle.best_bound.specs.Lists.{Among}
 use Rattle.solution_lists.specs.Solutions.{SolvesInside, SolutionsAreListed, ListsSolutionsInside}
-use Rattle.subproblems.specs.Cuts.{CanBeCut, CutLaws}
-use Rattle.subproblems.specs.Paths.{LeadsTo, ArePaths, SolutionsOfAll, PathLaws}
+use Rattle.subproblems.specs.Cuts.{CutLaws}
+use Rattle.subproblems.specs.Paths.{LeadsTo, SolutionsOfAll, PathLaws}
 use Rattle.search.specs.declared.ends.LeastEnd.{LeastEnd}
 use Rattle.search.specs.LeastEnds.{IsCost, CostAtLeast}
 use Rattle.crew.specs.Ends.{AreInOrder}
 use Rattle.answer.specs.declared.options.Options.{Options}
 use Rattle.answer.specs.Lists.{Assignment}
 use Rattle.answer.specs.Least.{IsLeastCost}
-use Rattle.answer.specs.Places.{StandsAt, HasResult, AreResults}
-use Rattle.answer.specs.Results.{program_of, IsLeastResult, least_collected, IsLeastSpent, CostsAtMost, MayBePosted, AreLeastResults}
+use Rattle.answer.specs.Results.{program_of, IsLeastResult, least_collected, IsLeastSpent, CostsAtMost, AreLeastResults}
 use Rattle.answer.specs.Runs.{IsCovered, IsLeastRun, AreLeastRuns, ReachAll, AreWholeResults}
 use Rattle.answer.specs.Unfinished.{CostsMore, CostsAsMuch, IsFirstLeast}
-use Rattle.answer.proofs.RunLists.{AllAmong, nothing_there, the_one, result_kept, results_of}
-use Rattle.answer.proofs.LeastRunLists.{contains_later, contains_among, among_contains}
+use Rattle.answer.proofs.RunLists.{AllAmong, nothing_there, result_kept, results_of}
+use Rattle.answer.proofs.LeastRunLists.{contains_among}
 use Rattle.answer.proofs.ListedLaws.{lies_in_start, start_can_be_cut}
 use Rattle.answer.proofs.PathBoxes.{path_can}
 
@@ -84,7 +82,7 @@ module _ (order : InsideOrder) (every : EveryList) (laws : PathLaws) (cuts : Cut
       let within = slice_get_within paths.0 here.number (Some here.sub) here.there in
       let below : here.number < 2 ^ options.depth = let e = paths.1.count in omega arith in
       let leads : LeadsTo model (kernels_of model) options.depth start here.number (Some here.sub) =
-          subst (LeadsTo model (kernels_of model) options.depth start here.number) (get_or_from_slice_get paths.0 here.number (Some here.sub) None here.there) (paths.1.each here.number below) in
+      subst (LeadsTo model (kernels_of model) options.depth start here.number) (get_or_from_slice_get paths.0 here.number (Some here.sub) None here.there) (paths.1.each here.number below) in
       let sub_can = path_can cuts model (kernels_of model) options.depth start here.number here.sub can leads in
       let sub_in = laws.inside model (kernels_of model) options.depth start here.number here.sub can leads in
       let sub_all : ListsSolutionsInside model here.sub here.own = listed model (program_of model) here.sub here.own f rule sub_can.in_range sub_in here.listed in

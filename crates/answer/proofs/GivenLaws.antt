@@ -1,10 +1,9 @@
 -- What is put together of the results is an answer.
-use Rattle.std.proofs.Common.{◌≡◌, ◌≢◌, ℕ, zero, suc, ℤ, ◌<◌, Bool, true, false, List, [], ◌∷◌, ◌++◌, length, get_or, slice_get, take, flat_map, All, Any, Contains, Option, None, Some, refl, sym, ap, subst, subst₂, ◌∙◌, ◌⊎◌, inl, inr, arith}
+use Rattle.std.proofs.Common.{◌≡◌, ◌≢◌, ℕ, ℤ, Bool, true, false, List, [], ◌∷◌, ◌++◌, take, flat_map, All, Any, Contains, Option, None, Some, refl, sym, ap, subst, subst₂, ◌∙◌, ◌⊎◌, inl, inr, arith}
 use Rattle.std.specs.Bool.{OnTrue, OnFalse}
 use Rattle.std.proofs.lemmas.Option.{slice_get-get_or}
-use Rattle.std.proofs.lemmas.List.{get_or_default}
-use Rattle.std.proofs.lemmas.List.Elements.{All-nil, All-cons, All-append, All-head, Contains-append_right}
-use Rattle.interval.specs.Boxes.{Bounds, IsInside, IsInRange, InsideOrder}
+use Rattle.std.proofs.lemmas.List.Elements.{All-nil, All-cons, All-append, All-head}
+use Rattle.interval.specs.Boxes.{Bounds, IsInside, InsideOrder}
 use Rattle.constraint_model.specs.declared.model.Goal.{Goal}
 use Rattle.constraint_model.specs.declared.model.FznModel.{FznModel}
 use Rattle.constraint_model.specs.Relations.{cost_of, IsSolution}
@@ -29,12 +28,12 @@ use Rattle.answer.specs.declared.options.Options.{Options}
 use Rattle.answer.specs.declared.options.Answer.{Answer}
 use Rattle.answer.specs.Least.{IsLeastCost}
 use Rattle.answer.specs.Cuts.{cut_to}
-use Rattle.answer.specs.Lists.{Assignment, ListsSolutions, ListsSolutionsAt, IsSolutionAt}
+use Rattle.answer.specs.Lists.{Assignment, ListsSolutions, IsSolutionAt}
 use Rattle.answer.specs.Finished.{IsFinished, IsOptimal, Gives}
-use Rattle.answer.specs.Places.{HasResult, AreResults}
-use Rattle.answer.specs.Results.{program_of, listed, IsFirstResult, AreFirstResults, first_collected, IsFirstSpent, IsAllResult, AreAllResults, all_collected, IsAllSpent, IsLeastResult, least_collected, IsLeastSpent, AreLeastResults}
+use Rattle.answer.specs.Places.{AreResults}
+use Rattle.answer.specs.Results.{program_of, listed, IsFirstResult, AreFirstResults, first_collected, IsFirstSpent, IsAllResult, AreAllResults, all_collected, IsAllSpent, IsLeastResult, least_collected, IsLeastSpent}
 use Rattle.answer.specs.Unfinished.{mark_where, IsFirstLeast, IsBestOf, FindsBest, IsBestCollected, IsLeastCollected, GivesCollected}
-use Rattle.answer.specs.Runs.{ReachAll, AreWholeResults}
+use Rattle.answer.specs.Runs.{AreWholeResults}
 use Rattle.answer.specs.Given.{mark_for, IsBestKnown, IsGiven}
 use Rattle.answer.proofs.HeadLaws.{first_of_all, all_of_all}
 use Rattle.answer.proofs.ListedLaws.{start_can_be_cut, can_be_cut, lists_solutions, cut_in_start, cut_in_range, lists_solutions_at}
@@ -252,7 +251,7 @@ module _ (order : InsideOrder) (one : OneList) (every : EveryList) (laws : PathL
       second_unspent unspent m =
           let list = every model (kernels_of model) cut rule cut_can.long cut_can.in_range cut_can.fit in
           let done : IsFinished model options.all answer =
-              inr (optimal_given model.goal options.all objective (optimum list.0 list.1 (first_of_all one laws model options cut results list.0 cut_can h unspent list.1) m)) in
+          inr (optimal_given model.goal options.all objective (optimum list.0 list.1 (first_of_all one laws model options cut results list.0 cut_can h unspent list.1) m)) in
           record { is_answer = inl done; whole = λ n r. done; solve = second_solve }
 
 module _ (order : InsideOrder) (one : OneList) (every : EveryList) (laws : PathLaws) (cuts : CutLaws) (are : SolutionsAreListed) (declared : InDeclarationOrder) (records : RecordsSolutions)

@@ -1,6 +1,6 @@
 -- With no search stopped, what the searches for the first solution collect first is the first of all solutions, and what those
 -- for all solutions collect is all of them.
-use Rattle.std.proofs.Common.{◌≡◌, ℕ, zero, suc, ℤ, ◌+◌, ◌<◌, ◌≤◌, List, [], ◌∷◌, ◌++◌, length, take, All, flat_map, Option, None, Some, refl, sym, ap, subst, ◌∙◌, ◌⊎◌, inl, inr, arith}
+use Rattle.std.proofs.Common.{◌≡◌, ℕ, suc, ◌+◌, ◌<◌, List, [], ◌∷◌, ◌++◌, take, All, flat_map, Option, None, Some, refl, sym, ap, subst, ◌∙◌, inl, inr, arith}
 use Rattle.std.proofs.lemmas.Bool.{cases_lt}
 use Rattle.std.proofs.lemmas.List.Elements.{All-head, All-tail}
 use Rattle.interval.specs.Boxes.{Bounds}
@@ -16,7 +16,7 @@ use Rattle.search.specs.Ends.{head_of}
 use Rattle.answer.specs.declared.options.Options.{Options}
 use Rattle.answer.specs.Lists.{Assignment}
 use Rattle.answer.specs.Places.{StandsAt, AreResults}
-use Rattle.answer.specs.Results.{IsFirstResult, AreFirstResults, first_collected, IsFirstSpent, IsAllResult, AreAllResults, all_collected, IsAllSpent}
+use Rattle.answer.specs.Results.{IsFirstResult, AreFirstResults, first_collected, IsFirstSpent, IsAllResult, all_collected, IsAllSpent}
 use Rattle.answer.proofs.AlongLaws.{Along, one_entry, stands_first, stands_later, results_along}
 
 no_head : (xs : List Assignment) → None ≡ head_of xs → xs ≡ []
@@ -61,7 +61,7 @@ module _ (one : OneList) (model : FznModel) (rule : IsSearchOf model) (options :
     | inl l ↦ none j a l h
     | inr l ↦ let same : number + 0 ≡ j = omega arith in
         let e = one_entry results j (FirstEnd.Done None) (FirstEnd.Done (Some a))
-            (subst (λ (n : ℕ). StandsAt results n (FirstEnd.Done None)) same (rest 0 (FirstEnd.Done None) (stands_first (FirstEnd.Done None) rs))) h in
+        (subst (λ (n : ℕ). StandsAt results n (FirstEnd.Done None)) same (rest 0 (FirstEnd.Done None) (stands_first (FirstEnd.Done None) rs))) h in
         absurd cc
   ]
 
@@ -77,7 +77,7 @@ module _ (one : OneList) (model : FznModel) (rule : IsSearchOf model) (options :
   heads number (p ∷ ps) (FirstEnd.Done None ∷ rs) found h (own, others, is_own, are_others, e) unspent rest none =
       let empty = no_head own (done_head number p None own h.0 is_own) in
       heads (suc number) ps rs others h.1 are_others (All-tail (λ r. IsFirstSpent r → ⊥) (FirstEnd.Done None) rs unspent)
-          (rest_after number (FirstEnd.Done None) rs rest) (none_after number rs rest none)
+      (rest_after number (FirstEnd.Done None) rs rest) (none_after number rs rest none)
       ∙ ap (take 1) (sym (e ∙ ap (λ (xs : List Assignment). xs ++ others) empty))
   heads number (p ∷ ps) (FirstEnd.Done (Some a) ∷ rs) found h (own, others, is_own, are_others, e) unspent rest none =
       let head = a_head a own (done_head number p (Some a) own h.0 is_own) in
@@ -90,10 +90,10 @@ pub first_of_all : (one : OneList) (laws : PathLaws) (model : FznModel) (options
 first_of_all one laws model options b results found can are unspent s =
     let paths = laws.every model (kernels_of model) options.depth b can in
     heads one model can.search options results 0 paths.0 results found
-        (results_along laws model can.search options.depth b paths.0 paths.1 (IsFirstResult model options results) results are)
-        (laws.solutions_back model (kernels_of model) options.depth b paths.0 found can paths.1 s) unspent
-        (λ (j : ℕ) (r : FirstEnd) (h : StandsAt results j r). let same : j ≡ 0 + j = omega arith in subst (λ (n : ℕ). StandsAt results n r) same h)
-        (λ (j : ℕ) (a : Assignment) (below : j < 0) (h : StandsAt results j (FirstEnd.Done (Some a))). omega arith)
+    (results_along laws model can.search options.depth b paths.0 paths.1 (IsFirstResult model options results) results are)
+    (laws.solutions_back model (kernels_of model) options.depth b paths.0 found can paths.1 s) unspent
+    (λ (j : ℕ) (r : FirstEnd) (h : StandsAt results j r). let same : j ≡ 0 + j = omega arith in subst (λ (n : ℕ). StandsAt results n r) same h)
+    (λ (j : ℕ) (a : Assignment) (below : j < 0) (h : StandsAt results j (FirstEnd.Done (Some a))). omega arith)
 
 -- ---- all solutions
 
@@ -125,5 +125,5 @@ pub all_of_all : (one : OneList) (laws : PathLaws) (model : FznModel) (options :
 all_of_all one laws model options b results found can are unspent s =
     let paths = laws.every model (kernels_of model) options.depth b can in
     lists one model can.search options 0 paths.0 results found
-        (results_along laws model can.search options.depth b paths.0 paths.1 (IsAllResult model options) results are)
-        (laws.solutions_back model (kernels_of model) options.depth b paths.0 found can paths.1 s) unspent
+    (results_along laws model can.search options.depth b paths.0 paths.1 (IsAllResult model options) results are)
+    (laws.solutions_back model (kernels_of model) options.depth b paths.0 found can paths.1 s) unspent

@@ -1,5 +1,5 @@
 -- One run of a job.
-use Rattle.std.proofs.Common.{◌≡◌, ℕ, ℤ, ◌<◌, List, [], ◌∷◌, ◌++◌, Option, None, Some, Result, Ok, refl, sym, ap, subst, ◌∙◌, ◌⊎◌, inl, inr}
+use Rattle.std.proofs.Common.{◌≡◌, ℕ, ℤ, List, [], ◌∷◌, ◌++◌, Option, None, Some, refl, sym, subst, inr}
 use Rattle.interval.specs.Boxes.{Bounds}
 use Rattle.guarded_tell.specs.declared.kernel.Kernel.{Kernel}
 use Rattle.constraint_model.specs.declared.model.FznModel.{FznModel}
@@ -9,14 +9,11 @@ use Rattle.subproblems.specs.Paths.{LeadsTo}
 use Rattle.search.specs.declared.kind.Kind.{Kind}
 use Rattle.search.specs.declared.ends.FirstEnd.{FirstEnd}
 use Rattle.search.specs.declared.ends.AllEnd.{AllEnd}
-use Rattle.search.specs.declared.ends.LeastEnd.{LeastEnd}
 use Rattle.search.specs.Machine.{Search}
 use Rattle.search.specs.Ends.{search_of, IsFirstEnd, IsAllEnd, posts_of}
-use Rattle.search.specs.LeastEnds.{least_of}
 use Rattle.answer.specs.declared.plan.Plan.{Plan}
 use Rattle.answer.specs.Plans.{IsPlan, model_of, kernels_in}
 use Rattle.answer.specs.Places.{HasResult}
-use Rattle.answer.specs.Results.{program_of, first_of, all_of, IsAllResult}
 use Rattle.answer.specs.Runs.{IsFirstRun, AreFirstRuns, AreAllRuns}
 use Rattle.answer.proofs.RunLists.{AllAmong, first_run_more, all_run_more}
 

@@ -1,30 +1,26 @@
 -- One run for the least cost.
-use Rattle.std.proofs.Common.{◌≡◌, ◌≢◌, ℕ, ℤ, ◌+◌, ◌-◌, ◌<◌, List, [], ◌∷◌, ◌++◌, length, reverse, get_or, Contains, AllPairs, Option, None, Some, refl, sym, ap, subst, ◌∙◌, ◌⊎◌, inl, inr, arith}
+use Rattle.std.proofs.Common.{◌≡◌, ◌≢◌, ℕ, ℤ, ◌-◌, ◌<◌, List, [], ◌∷◌, ◌++◌, length, reverse, get_or, Contains, Option, None, Some, refl, sym, ap, subst, ◌∙◌, ◌⊎◌, inl, inr, arith}
 use Rattle.std.proofs.lemmas.List.{get_or-reverse, length-reverse}
 use Rattle.interval.specs.Boxes.{Bounds, IsInside, IsInRange}
 use Rattle.constraint_model.specs.declared.model.Goal.{Goal}
 use Rattle.constraint_model.specs.declared.model.FznModel.{FznModel}
-use Rattle.constraint_model.specs.Relations.{cost_of}
-use Rattle.decompose.specs.Kernels.{kernels_of}
-use Rattle.decompose.specs.Program.{start_of, IsProgramOf}
 use Rattle.best_bound.specs.Lists.{Among, with_seen}
 use Rattle.subproblems.specs.Paths.{LeadsTo}
 use Rattle.search.specs.declared.kind.Kind.{Kind}
 use Rattle.search.specs.declared.ends.Why.{Why}
 use Rattle.search.specs.declared.ends.LeastEnd.{LeastEnd}
 use Rattle.search.specs.Machine.{Search, State, Reached}
-use Rattle.search.specs.Ends.{EndsDone, EndsSpent}
+use Rattle.search.specs.Ends.{EndsSpent}
 use Rattle.search.specs.Laws.{IsInsideStart, MorePosted, CostsFall}
 use Rattle.search.specs.LeastEnds.{least_of, last_of, EndsLeast, IsLeastEnd, CostAtLeast, OnDone}
 use Rattle.answer.specs.declared.plan.Plan.{Plan}
 use Rattle.answer.specs.Lists.{Assignment}
 use Rattle.answer.specs.Plans.{IsPlan, model_of, kernels_in}
-use Rattle.answer.specs.Places.{HasResult}
 use Rattle.answer.specs.Results.{program_of, listed, least_collected, CostsAtMost}
-use Rattle.answer.specs.Runs.{IsLeastRun, AreLeastRuns}
+use Rattle.answer.specs.Runs.{AreLeastRuns}
 use Rattle.answer.proofs.RunLists.{AllAmong, among_cases}
 use Rattle.answer.proofs.LeastRunLists.{among_contains, least_run_more, Falls, last_least, cost_there}
-use Rattle.answer.proofs.ListedLaws.{same_program, is_program}
+use Rattle.answer.proofs.ListedLaws.{is_program}
 use Rattle.answer.proofs.CoverLaws.{has_cost}
 use Rattle.answer.proofs.JobLaws.{plan_leads, plan_search}
 

@@ -1,5 +1,5 @@
 -- What is known of the runs for the least cost stays as they grow, and as more costs are seen.
-use Rattle.std.proofs.Common.{◌≡◌, ◌≢◌, ◌↔◌, ℕ, zero, suc, ℤ, ◌+◌, ◌<◌, ◌^◌, ◌≤ℤ◌, ◌<ℤ◌, List, [], ◌∷◌, ◌++◌, length, map, reverse, get_or, slice_get, flat_map, Any, Contains, AllPairs, Option, None, Some, refl, sym, ap, subst, ◌∙◌, ◌⊎◌, inl, inr, arith}
+use Rattle.std.proofs.Common.{◌≡◌, ℕ, zero, suc, ℤ, ◌≤ℤ◌, ◌<ℤ◌, List, [], ◌∷◌, ◌++◌, map, Any, Contains, AllPairs, Option, None, Some, refl, ap, subst, ◌∙◌, ◌⊎◌, inl, inr, arith}
 use Rattle.std.proofs.lemmas.Int.{ints}
 use Rattle.std.proofs.lemmas.List.Elements.{Contains-append_left, Contains-append_right, Contains-append_cases}
 use Rattle.interval.specs.Boxes.{Bounds}
@@ -7,18 +7,16 @@ use Rattle.constraint_model.specs.declared.model.Goal.{Goal}
 use Rattle.constraint_model.specs.declared.model.FznModel.{FznModel}
 use Rattle.constraint_model.specs.Relations.{cost_of}
 use Rattle.best_bound.specs.Lists.{Among}
-use Rattle.solution_lists.specs.Solutions.{SolvesInside}
 use Rattle.search.specs.declared.ends.Why.{Why}
 use Rattle.search.specs.declared.ends.LeastEnd.{LeastEnd}
-use Rattle.search.specs.Machine.{Search, State, Reached, Takes, GoesOn, MayFall, IsDone, IsOutOfNodes, IsOutOfRounds}
+use Rattle.search.specs.Machine.{Search, State, Takes, MayFall}
 use Rattle.search.specs.Ends.{EndsDone, EndsSpent, EndsOutOfNodes, EndsOutOfRounds}
 use Rattle.search.specs.Laws.{MorePosted}
-use Rattle.search.specs.LeastEnds.{least_of, last_of, EndsLeast, IsLeastEnd, PostsCosts, CostAtLeast, OnDone}
-use Rattle.crew.specs.Ends.{AreInOrder}
+use Rattle.search.specs.LeastEnds.{least_of, last_of, EndsLeast, CostAtLeast}
 use Rattle.answer.specs.declared.options.Options.{Options}
 use Rattle.answer.specs.Lists.{Assignment}
-use Rattle.answer.specs.Places.{StandsAt, HasResult, AreResults}
-use Rattle.answer.specs.Results.{program_of, listed, IsLeastResult, least_collected, CostsAtMost}
+use Rattle.answer.specs.Places.{HasResult}
+use Rattle.answer.specs.Results.{program_of, IsLeastResult, least_collected, CostsAtMost}
 use Rattle.answer.specs.Runs.{IsCovered, IsLeastRun, AreLeastRuns}
 use Rattle.answer.proofs.RunLists.{AllAmong, among_left, among_right, among_cases, nothing_there, the_one, it_is_there, result_kept}
 
@@ -100,9 +98,11 @@ module _ (law : MorePosted) (s : Search) (more : List ℤ) (all : (cost : ℤ) �
 module _ (law : MorePosted) (model : FznModel) (options : Options) (b : Bounds) where
   more_result : (seen more : List ℤ) → AllAmong seen more → (number : ℕ) (path : Option Bounds) (end : LeastEnd) → IsLeastResult model options seen number path end → IsLeastResult model options more number path end
   more_result seen more all number None end h = h
-  more_result seen more all number (Some sub) end h =
-      (h.0, more_ends law (least_of model (program_of model) options.node_limit options.round_limit seen sub) more
-          (λ cost there. among_contains more cost (all cost (contains_among seen cost there))) h.0 end h.1)
+  more_result seen more all number (Some sub) end h = (
+    h.0,
+    more_ends law (least_of model (program_of model) options.node_limit options.round_limit seen sub) more
+        (λ cost there. among_contains more cost (all cost (contains_among seen cost there))) h.0 end h.1,
+  )
 
   more_at_least : (seen more : List ℤ) → AllAmong seen more → (sub : Bounds) → CostAtLeast model sub seen → CostAtLeast model sub more
   more_at_least seen more all sub h a cost solves costs = any_among (λ c. c ≤ℤ cost) seen more all (h a cost solves costs)

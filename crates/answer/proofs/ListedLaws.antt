@@ -1,14 +1,13 @@
 -- The lists of solutions of the start, and of the start with its objective cut, are those of the model's solutions, and of
 -- those that cost so much.
-use Rattle.std.proofs.Common.{◌≡◌, ◌↔◌, ℕ, ℤ, ◌+◌, suc, ◌<◌, ◌≤ℤ◌, List, ◌++◌, length, map, length-append, Option, Some, refl, sym, ap, subst, ◌∙◌, arith, All, Contains}
+use Rattle.std.proofs.Common.{◌≡◌, ◌↔◌, ℕ, ℤ, ◌<◌, ◌≤ℤ◌, List, length, map, length-append, refl, sym, subst, ◌∙◌, arith, All}
 use Rattle.std.proofs.lemmas.Int.{ints}
 use Rattle.std.proofs.lemmas.List.{length-map}
 use Rattle.interval.specs.Boxes.{Bounds, low_of, high_of, IsInside, IsInRange, IsProper, InsideOrder}
-use Rattle.guarded_tell.specs.Words.{value_of}
 use Rattle.guarded_tell.specs.Kernels.{IsKernel}
 use Rattle.constraint_model.specs.declared.model.VarDecl.{VarDecl}
 use Rattle.constraint_model.specs.declared.model.FznModel.{FznModel}
-use Rattle.constraint_model.specs.Relations.{IsSolution, cost_of}
+use Rattle.constraint_model.specs.Relations.{IsSolution}
 use Rattle.constraint_model.specs.Searches.{IsSearchOf}
 use Rattle.constraint_model.specs.WellFormed.{constants_of, IsGoalOf}
 use Rattle.decompose.specs.declared.program.Program.{Program}

@@ -1,20 +1,19 @@
 -- A model has one finished answer.
-use Rattle.std.proofs.Common.{◌≡◌, ◌↔◌, ℕ, ◌<◌, ℤ, ◌≤ℤ◌, ◌⊎◌, inl, inr, Bool, true, false, List, [], ◌∷◌, length, Contains, Option, Some, refl, sym, ap, subst, ◌∙◌, arith}
+use Rattle.std.proofs.Common.{◌≡◌, ℤ, ◌≤ℤ◌, inl, inr, Bool, true, false, List, [], ◌∷◌, Contains, refl, sym, ap, subst, ◌∙◌, arith}
 use Rattle.std.proofs.lemmas.Int.{ints}
 use Rattle.interval.specs.Boxes.{Bounds}
 use Rattle.constraint_model.specs.declared.model.Goal.{Goal}
 use Rattle.constraint_model.specs.declared.model.FznModel.{FznModel}
-use Rattle.constraint_model.specs.Relations.{cost_of, IsSolution}
+use Rattle.constraint_model.specs.Relations.{IsSolution}
 use Rattle.constraint_model.specs.Searches.{IsSearchOf}
 use Rattle.decompose.specs.Kernels.{kernels_of}
 use Rattle.decompose.specs.Program.{start_of}
 use Rattle.branching.specs.Tree.{OneList, SolutionsIn}
-use Rattle.fzn_print.specs.declared.marks.Mark.{Mark}
 use Rattle.answer.specs.declared.options.Answer.{Answer}
 use Rattle.answer.specs.Least.{IsLeastCost}
 use Rattle.answer.specs.Cuts.{cut_to}
 use Rattle.answer.specs.Lists.{Assignment, ListsInOrder}
-use Rattle.answer.specs.Finished.{IsUnsatisfiable, IsFirst, AreAll, IsOptimal, Gives, IsFinished}
+use Rattle.answer.specs.Finished.{IsFirst, AreAll, IsOptimal, Gives, IsFinished}
 
 same_answer : (a b : Answer) → a.solutions ≡ b.solutions → a.mark ≡ b.mark → a ≡ b
 same_answer a b e m = λ i. record { solutions = e i; mark = m i }
@@ -51,7 +50,7 @@ module _ (one : OneList) (model : FznModel) (rule : IsSearchOf model) where
   one_optimal a b h k =
       let cost = same_cost h.cost k.cost h.least k.least in
       let e = same_list (cut_to model.goal h.cost (start_of model)) (cut_to model.goal k.cost (start_of model)) _ _ (h.first ∷ h.others) (k.first ∷ k.others)
-          (ap (λ (c : ℤ). cut_to model.goal c (start_of model)) cost) h.listed k.listed in
+      (ap (λ (c : ℤ). cut_to model.goal c (start_of model)) cost) h.listed k.listed in
       same_answer a b (h.solutions ∙ ap (λ (x : Assignment). x ∷ []) (heads h.first k.first h.others k.others e) ∙ sym k.solutions) (h.mark ∙ sym k.mark)
 
   -- whatever gives what is asked for has a solution

@@ -1,17 +1,17 @@
 -- What is known of runs stays as they grow.
-use Rattle.std.proofs.Common.{◌≡◌, ◌↔◌, ℕ, zero, suc, ◌+◌, ◌<◌, ◌^◌, List, [], ◌∷◌, ◌++◌, length, get_or, slice_get, Contains, Option, None, Some, refl, sym, ap, subst, ◌∙◌, ◌⊎◌, inl, inr, arith}
+use Rattle.std.proofs.Common.{◌≡◌, ℕ, zero, suc, ◌<◌, ◌^◌, List, [], ◌∷◌, ◌++◌, get_or, Contains, Option, None, Some, refl, subst, ◌⊎◌, inl, inr, arith}
 use Rattle.std.proofs.lemmas.List.Elements.{Contains-append_left, Contains-append_right, Contains-append_cases}
 use Rattle.interval.specs.Boxes.{Bounds}
 use Rattle.constraint_model.specs.declared.model.FznModel.{FznModel}
 use Rattle.best_bound.specs.Lists.{Among}
 use Rattle.search.specs.declared.ends.FirstEnd.{FirstEnd}
 use Rattle.search.specs.declared.ends.AllEnd.{AllEnd}
-use Rattle.search.specs.Ends.{IsFirstEnd, posts_of}
+use Rattle.search.specs.Ends.{posts_of}
 use Rattle.crew.specs.Ends.{AreInOrder}
 use Rattle.answer.specs.declared.options.Options.{Options}
 use Rattle.answer.specs.Lists.{Assignment}
-use Rattle.answer.specs.Places.{StandsAt, HasResult, AreResults}
-use Rattle.answer.specs.Results.{first_of, IsFirstResult, AreFirstResults, IsAllResult}
+use Rattle.answer.specs.Places.{HasResult, AreResults}
+use Rattle.answer.specs.Results.{IsFirstResult, AreFirstResults, IsAllResult}
 use Rattle.answer.specs.Runs.{IsFirstRun, AreFirstRuns, AreAllRuns}
 
 -- whatever is among the one is among the other

@@ -1,5 +1,5 @@
 -- Whatever the searches of the subproblems collect solves the model.
-use Rattle.std.proofs.Common.{◌≡◌, ℕ, ◌<◌, ℤ, List, [], ◌∷◌, ◌++◌, length, get_or, take, All, flat_map, Option, None, Some, refl, sym, ap, subst, ◌∙◌, arith}
+use Rattle.std.proofs.Common.{◌≡◌, ℕ, ◌<◌, ℤ, List, [], ◌∷◌, length, All, flat_map, Option, None, Some, refl, sym, subst, ◌∙◌}
 use Rattle.std.proofs.lemmas.List.Elements.{All-nil, All-cons, All-head, All-tail}
 use Rattle.interval.specs.Boxes.{Bounds, IsInside, IsInRange, InsideOrder}
 use Rattle.constraint_model.specs.declared.model.FznModel.{FznModel}
@@ -8,7 +8,6 @@ use Rattle.constraint_model.specs.Searches.{IsSearchOf}
 use Rattle.constraint_model.specs.WellFormed.{IsGoalOf}
 use Rattle.decompose.specs.Kernels.{kernels_of}
 use Rattle.decompose.specs.Program.{start_of, IsProgramOf}
-use Rattle.solution_lists.specs.Solutions.{SolvesInside}
 use Rattle.subproblems.specs.Cuts.{CanBeCut, CutLaws}
 use Rattle.subproblems.specs.Paths.{PathLaws, LeadsTo}
 use Rattle.search.specs.declared.kind.Kind.{Kind}
@@ -16,14 +15,14 @@ use Rattle.search.specs.declared.ends.Why.{Why}
 use Rattle.search.specs.declared.ends.FirstEnd.{FirstEnd}
 use Rattle.search.specs.declared.ends.AllEnd.{AllEnd}
 use Rattle.search.specs.Machine.{Search, State, Reached}
-use Rattle.search.specs.Ends.{search_of, head_of, EndsDone, EndsSpent, IsFirstDone, IsAllEnd}
+use Rattle.search.specs.Ends.{head_of, EndsDone, EndsSpent}
 use Rattle.search.specs.Laws.{IsInsideStart, RecordsSolutions}
 use Rattle.search.specs.declared.ends.LeastEnd.{LeastEnd}
-use Rattle.search.specs.LeastEnds.{least_of, last_of, EndsLeast}
+use Rattle.search.specs.LeastEnds.{least_of, last_of}
 use Rattle.answer.specs.declared.options.Options.{Options}
 use Rattle.answer.specs.Lists.{Assignment}
 use Rattle.answer.specs.Places.{StandsAt, AreResults}
-use Rattle.answer.specs.Results.{program_of, listed, first_of, IsFirstResult, AreFirstResults, first_collected, all_of, IsAllResult, all_collected, IsLeastResult, least_collected, AreLeastResults}
+use Rattle.answer.specs.Results.{program_of, listed, first_of, IsFirstResult, AreFirstResults, first_collected, all_of, IsAllResult, all_collected, IsLeastResult, least_collected}
 use Rattle.answer.proofs.AlongLaws.{all_in_each}
 use Rattle.answer.proofs.PathBoxes.{path_can}
 
@@ -119,11 +118,11 @@ module _ (order : InsideOrder) (laws : PathLaws) (cuts : CutLaws) (records : Rec
     least_solves posted number (Some sub) (LeastEnd.Done answer) leads h =
         last_solves h.0 answer h.1.1
         (done_solve (least_of model (program_of model) options.node_limit options.round_limit posted sub) h.0 refl
-            (inside_start Kind.Least options.node_limit options.round_limit posted sub (in_box number sub leads) (ranged number sub leads)) h.1.0)
+        (inside_start Kind.Least options.node_limit options.round_limit posted sub (in_box number sub leads) (ranged number sub leads)) h.1.0)
     least_solves posted number (Some sub) (LeastEnd.Spent nodes why so_far) leads h =
         last_solves h.0 so_far h.1.1
         (spent_solve (least_of model (program_of model) options.node_limit options.round_limit posted sub) why nodes h.0 refl
-            (inside_start Kind.Least options.node_limit options.round_limit posted sub (in_box number sub leads) (ranged number sub leads)) h.1.0)
+        (inside_start Kind.Least options.node_limit options.round_limit posted sub (in_box number sub leads) (ranged number sub leads)) h.1.0)
 
     pub least_solve : (posted : List ℤ) (results : List LeastEnd) → AreResults model options.depth b (IsLeastResult model options posted) results → Solve (flat_map least_collected results)
     least_solve posted results are =

@@ -1,5 +1,5 @@
 -- The answer of a model.
-use Rattle.std.specs.Prelude.{◌⊎◌, Bool}
+use Rattle.std.specs.Prelude.{◌⊎◌}
 use Rattle.constraint_model.specs.declared.model.FznModel.{FznModel}
 use Rattle.answer.specs.declared.options.Options.{Options}
 use Rattle.answer.specs.declared.options.Answer.{Answer}

@@ -2,8 +2,7 @@
 --
 -- Source: the FlatZinc chapter of the MiniZinc Handbook, its section on output: what is known is written, without the mark
 -- of a complete search and without the one of an unsatisfiable model.
-use Rattle.std.specs.Prelude.{◌≡◌, ◌⊎◌, ℕ, ℤ, ◌<ℤ◌, ◌≤ℤ◌, Bool, true, false, List, [], ◌∷◌, ◌++◌, take, flat_map, Option, Some, None, All, Any}
-use Rattle.interval.specs.Boxes.{Bounds}
+use Rattle.std.specs.Prelude.{◌≡◌, ◌⊎◌, ℤ, ◌<ℤ◌, ◌≤ℤ◌, Bool, true, false, List, [], ◌∷◌, ◌++◌, take, flat_map, Option, Some, None, All, Any}
 use Rattle.constraint_model.specs.declared.model.Goal.{Goal}
 use Rattle.constraint_model.specs.declared.model.FznModel.{FznModel}
 use Rattle.constraint_model.specs.Relations.{cost_of}

@@ -127,7 +127,11 @@ fn second_mark(is_spent: bool) -> Mark
     ensures spent { OnTrue is_spent (result ≡ Mark.Plain) }
     ensures unspent { OnFalse is_spent (result ≡ Mark.Complete) }
 {
-    if is_spent { Mark::Plain } else { Mark::Complete }
+    if is_spent {
+        Mark::Plain
+    } else {
+        Mark::Complete
+    }
 }
 
 /// The first solution that costs as much as the best one, where none costs less.

@@ -116,7 +116,10 @@ pub(crate) fn all_of(alloc: Global, ends: ListOf<AllEnd>) -> Result<ListOf<ListO
 }
 
 /// The list of a solution, or of none.
-pub(crate) fn list_of_one(alloc: Global, one: Option<ListOf<i64>>) -> Result<ListOf<ListOf<i64>>, AllocError>
+pub(crate) fn list_of_one(
+    alloc: Global,
+    one: Option<ListOf<i64>>,
+) -> Result<ListOf<ListOf<i64>>, AllocError>
     ensures { IfOk result (λ given. given ≡ listed one) }
 {
     let mut given = ListOf::new(alloc);

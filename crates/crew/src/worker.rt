@@ -30,7 +30,14 @@ pub struct Worker<S, W, E> {
 }
 
 // Draws the next number and runs it, and says whether there was one. The gate is passed first.
-fn run_next<C: Gate, S, W, E: Drop, J: Job<S, W, E>, F: Fn(&mut W, &mut S, u32) -> Result<E, NoMemory>>(
+fn run_next<
+    C: Gate,
+    S,
+    W,
+    E: Drop,
+    J: Job<S, W, E>,
+    F: Fn(&mut W, &mut S, u32) -> Result<E, NoMemory>,
+>(
     tickets: &Tickets,
     job: &J,
     run: &F,
@@ -61,7 +68,14 @@ fn run_next<C: Gate, S, W, E: Drop, J: Job<S, W, E>, F: Fn(&mut W, &mut S, u32) 
 }
 
 // Runs numbers until none is left.
-fn run_all<C: Gate, S, W, E: Drop, J: Job<S, W, E>, F: Fn(&mut W, &mut S, u32) -> Result<E, NoMemory>>(
+fn run_all<
+    C: Gate,
+    S,
+    W,
+    E: Drop,
+    J: Job<S, W, E>,
+    F: Fn(&mut W, &mut S, u32) -> Result<E, NoMemory>,
+>(
     tickets: &Tickets,
     job: &J,
     run: &F,
@@ -81,13 +95,14 @@ fn run_all<C: Gate, S, W, E: Drop, J: Job<S, W, E>, F: Fn(&mut W, &mut S, u32) -
 }
 
 /// Has a worker run numbers until none is left or memory is refused, and note in it which.
-pub(crate) fn work<C: Gate, S, W, E: Drop, J: Job<S, W, E>, F: Fn(&mut W, &mut S, u32) -> Result<E, NoMemory>>(
-    tickets: &Tickets,
-    job: &J,
-    run: &F,
-    gate: &C,
-    worker: &mut Worker<S, W, E>,
-)
+pub(crate) fn work<
+    C: Gate,
+    S,
+    W,
+    E: Drop,
+    J: Job<S, W, E>,
+    F: Fn(&mut W, &mut S, u32) -> Result<E, NoMemory>,
+>(tickets: &Tickets, job: &J, run: &F, gate: &C, worker: &mut Worker<S, W, E>)
     requires can { (own : _) (seat : _) (number : ℕ) → number < J.count job.now → J.owns job.now own.now → J.fits job.now seat.now → F.pre run.now own seat number }
     requires does { (own : _) (seat : _) (number : ℕ) (r : _) (own2 : _) (seat2 : _) → number < J.count job.now → J.owns job.now own.now → J.fits job.now seat.now → F.post run.now own seat number r own2 seat2 → IsRun (J.fits job.now) J.has_parts (J.owns job.now) (J.stands job.now) own2.now seat.now seat2.now number r }
     requires count { count_of tickets.now ≡ J.count job.now }

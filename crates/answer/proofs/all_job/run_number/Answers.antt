@@ -1,4 +1,4 @@
-use Rattle.std.proofs.Common.{ℤ, List, [], ◌∷◌, ◌++◌, None, sym, subst}
+use Rattle.std.proofs.Common.{ℤ, List, [], ◌∷◌, ◌++◌, sym, subst}
 use Rattle.subproblems.specs.Paths.{LeadsTo}
 use Rattle.search.specs.declared.ends.AllEnd.{AllEnd}
 use Rattle.answer.specs.Runs.{AreAllRuns}

@@ -1,4 +1,4 @@
-use Rattle.std.proofs.Common.{subst, ◌∙◌}
+use Rattle.std.proofs.Common.{subst}
 use Rattle.interval.specs.Boxes.{Bounds}
 use Rattle.answer.specs.Places.{AreResults}
 use Rattle.answer.specs.Results.{IsAllResult}

@@ -1,4 +1,4 @@
-use Rattle.std.proofs.Common.{◌≡◌, ℤ, ℕ, List, length, All, Any, flat_map, get_or, Option, None, Some, [], false, Bool, refl, sym, ap, subst, ◌∙◌}
+use Rattle.std.proofs.Common.{ℤ, List, All, Any, flat_map, get_or, Option, [], false, sym, ap, subst, ◌∙◌}
 use Rattle.search.specs.declared.ends.LeastEnd.{LeastEnd}
 use Rattle.answer.specs.Results.{listed, least_collected, IsLeastSpent}
 use Rattle.answer.specs.Unfinished.{IsBestOf}
@@ -16,8 +16,8 @@ best_of-best-requires-clause-lengths g c = λ k d l.
     let model = run.model.now in
     objective_of model (get_or (flat_map least_collected c.in_ok-ends.ends) k d) c.requires.objective is.is_run.model.objective
     (whole_solve c.law_inside_order.ensures c.law_one_list.ensures c.law_every_list.ensures c.law_paths.ensures c.law_cuts.ensures c.law_solutions_listed.ensures
-        c.law_in_declaration_order.ensures c.law_records_solutions.ensures model is.is_run.model.search is.is_run.model.objective (is_program model run.program.now is.is_run.program) c.args.options
-        (record { solutions = []; mark = Mark.Plain }) c.in_ok-ends.ends c.in_ok-ends.ensures k d l)
+    c.law_in_declaration_order.ensures c.law_records_solutions.ensures model is.is_run.model.search is.is_run.model.objective (is_program model run.program.now is.is_run.program) c.args.options
+    (record { solutions = []; mark = Mark.Plain }) c.in_ok-ends.ends c.in_ok-ends.ensures k d l)
 
 pub returns-then-is_spent : goal.returns-then-is_spent
 returns-then-is_spent g c =

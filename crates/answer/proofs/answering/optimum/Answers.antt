@@ -1,4 +1,4 @@
-use Rattle.std.proofs.Common.{◌≡◌, ℤ, ℕ, List, ◌++◌, ◌∷◌, [], length, All, flat_map, Some, refl, sym, ap, subst, ◌∙◌, arith}
+use Rattle.std.proofs.Common.{ℤ, List, length, All, flat_map, sym, ap, subst, ◌∙◌, arith}
 use Rattle.interval.specs.Limits.{IsBound}
 use Rattle.interval.specs.Boxes.{Bounds, IsInside}
 use Rattle.constraint_model.specs.Relations.{cost_of}

@@ -1,4 +1,4 @@
-use Rattle.std.proofs.Common.{None, subst, ◌∙◌}
+use Rattle.std.proofs.Common.{subst, ◌∙◌}
 use Rattle.best_bound.specs.Seats.{numbers_seen, numbers_posted}
 use Rattle.subproblems.specs.Paths.{LeadsTo}
 use Rattle.answer.specs.Plans.{model_of, kernels_in}

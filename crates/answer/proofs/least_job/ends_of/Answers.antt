@@ -1,4 +1,4 @@
-use Rattle.std.proofs.Common.{ℤ, List, subst, ◌∙◌}
+use Rattle.std.proofs.Common.{subst, ◌∙◌}
 use Rattle.interval.specs.Boxes.{Bounds}
 use Rattle.best_bound.specs.Seats.{costs_seen, costs_posted}
 use Rattle.answer.specs.Plans.{model_of}
@@ -18,6 +18,6 @@ returns g c =
     (is_program (model_of plan) plan.run.now.program.now is.run.program) plan.options (costs_seen c.run_all.new.seat) (costs_posted c.run_all.new.seat) made.runs c.in_ok-ends.ends
     (subst (λ (b : Bounds). AreLeastRuns (model_of plan) plan.options b (costs_seen c.run_all.new.seat) (costs_posted c.run_all.new.seat) made.runs) c.requires.start made.stand)
     (seen_was_posted c.seen.result (costs_seen c.run_all.new.seat) (costs_seen c.seen.new.seat) (costs_posted c.run_all.new.seat) (costs_posted c.seen.new.seat)
-        c.seen.ensures.seen c.seen.ensures.posted (c.seen.ensures.all (c.seen.ensures.parts ∙ c.run_all.ensures.parts)))
+    c.seen.ensures.seen c.seen.ensures.posted (c.seen.ensures.all (c.seen.ensures.parts ∙ c.run_all.ensures.parts)))
     (λ cost there. (c.requires.costs cost).0 (c.seen.ensures.passes cost (still_seen c.seen.result (costs_seen c.run_all.new.seat) (costs_seen c.seen.new.seat) c.seen.ensures.seen cost there)))
     made.in_order

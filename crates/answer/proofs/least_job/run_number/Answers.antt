@@ -1,4 +1,4 @@
-use Rattle.std.proofs.Common.{None, Some, Option, IfSome, subst, ◌∙◌}
+use Rattle.std.proofs.Common.{Option, IfSome, subst, ◌∙◌}
 use Rattle.interval.specs.Boxes.{Bounds, IsInside}
 use Rattle.best_bound.specs.Seats.{costs_seen, costs_posted}
 use Rattle.subproblems.specs.Paths.{LeadsTo}

@@ -1,7 +1,7 @@
-use Rattle.std.proofs.Common.{ℤ, ℕ, List, length, All, None, Some, subst, sym, refl, ◌∙◌, flat_map, arith}
+use Rattle.std.proofs.Common.{ℤ, List, length, All, None, Some, subst, sym, refl, ◌∙◌, flat_map, arith}
 use Rattle.search.specs.declared.ends.LeastEnd.{LeastEnd}
 use Rattle.search.specs.Costs.{IsObjectiveIn}
-use Rattle.answer.specs.Results.{listed, least_collected}
+use Rattle.answer.specs.Results.{least_collected}
 use Rattle.answer.proofs.BestLaws.{next_and_rest, one_of, best_more, best_same}
 use Rattle.answer.proofs.objective.best_of.Goals as goal
 
@@ -17,7 +17,7 @@ loop-end-init c = record {
 pub loop-end-preserved-in-Some-solution_of : goal.loop-end-preserved-in-Some-solution_of
 loop-end-preserved-in-Some-solution_of c =
     let more = next_and_rest c.args.goal (λ (a : List ℤ). IsObjectiveIn (length a) c.args.goal) c.loop-end.end-iterator.rest.items c.next.new.self.rest.items c.in-Some.end (Some c.in-Some-solution_of.next)
-        c.in-Some.ensures.steps.0 c.in-Some-solution_of.ensures c.loop-end.invariant.rest in
+    c.in-Some.ensures.steps.0 c.in-Some-solution_of.ensures c.loop-end.invariant.rest in
     record {
       best = best_more c.args.goal c.loop-end.yielded c.in-Some.end c.in-Some-solution_of.next c.better.result c.in-Some-solution_of.ensures
           (c.better.ensures.best (flat_map least_collected c.loop-end.yielded) c.loop-end.invariant.best);
@@ -28,7 +28,7 @@ loop-end-preserved-in-Some-solution_of c =
 pub loop-end-preserved : goal.loop-end-preserved
 loop-end-preserved c =
     let more = next_and_rest c.args.goal (λ (a : List ℤ). IsObjectiveIn (length a) c.args.goal) c.loop-end.end-iterator.rest.items c.next.new.self.rest.items c.in-Some.end None
-        c.in-Some.ensures.steps.0 c.in_default.ensures c.loop-end.invariant.rest in
+    c.in-Some.ensures.steps.0 c.in_default.ensures c.loop-end.invariant.rest in
     record {
       best = best_same c.args.goal c.loop-end.yielded c.in-Some.end c.loop-end.best c.in_default.ensures c.loop-end.invariant.best;
       own = c.loop-end.invariant.own;

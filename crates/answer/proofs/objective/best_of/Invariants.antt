@@ -1,4 +1,4 @@
-use Rattle.std.proofs.Common.{◌≡◌, length, All, flat_map}
+use Rattle.std.proofs.Common.{length, All, flat_map}
 use Rattle.search.specs.Costs.{IsObjectiveIn}
 use Rattle.answer.specs.Results.{listed, least_collected}
 use Rattle.answer.specs.Unfinished.{IsBestOf}

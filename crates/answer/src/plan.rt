@@ -42,6 +42,7 @@ pub(crate) fn subproblem<L>(
         alloc,
         plan.run.model,
         plan.run.program,
+        plan.run.masks,
         plan.start,
         plan.options.depth,
         number,

@@ -15,3 +15,4 @@ pub mod CostLaws
 pub mod LeastRunLaws
 pub mod LeastExamples
 pub mod SearcherLaws
+pub mod RunExamples

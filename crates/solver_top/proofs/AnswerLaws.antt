@@ -31,5 +31,5 @@ module _ (one : (text : List ℕ) (m n : FznModel) → IsTextOf text m → IsTex
       let same = one text g.model h.model g.is_model h.is_model in
       let answers = same_answer o p text h.model g.model h.answer g.answer none other all h.is_model same h.is_answer g.is_answer in
       let objectives = known_is marks h.model o h.answer h.objective h.known ∙ ap (known_objective h.model.goal) answers ∙ ap (λ m. known_objective m.goal g.answer) (sym same)
-          ∙ sym (known_is marks g.model p g.answer g.objective g.known) in
+      ∙ sym (known_is marks g.model p g.answer g.objective g.known) in
       h.printed ∙ ap (summary n) objectives ∙ sym g.printed

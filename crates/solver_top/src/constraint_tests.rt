@@ -196,6 +196,24 @@ const ARITHMETIC: &[(&str, &str)] = &[
         "=====UNSATISFIABLE=====\n",
     ),
     (
+        "var -9..9: x :: output_var; var -9..9: y :: output_var; var 0..9: z :: output_var; \
+         constraint int_div(-7, 2, x); constraint int_div(7, y, -2); constraint int_div(y, y, z); solve satisfy;",
+        "x = -3;\ny = -3;\nz = 1;\n----------\n",
+    ),
+    (
+        "var -9..9: x; constraint int_div(x, 0, 1); solve satisfy;",
+        "=====UNSATISFIABLE=====\n",
+    ),
+    (
+        "var -9..9: x :: output_var; var 5..9: y :: output_var; var 1..2: z :: output_var; \
+         constraint int_mod(-7, 2, x); constraint int_mod(y, -3, z); solve satisfy;",
+        "x = -1;\ny = 5;\nz = 2;\n----------\n",
+    ),
+    (
+        "var -9..9: x; constraint int_mod(x, x, x); solve satisfy;",
+        "=====UNSATISFIABLE=====\n",
+    ),
+    (
         "var -4..4: x :: output_var; var 0..2: y :: output_var; var 0..4: z :: output_var; \
          constraint int_abs(x, y); constraint int_abs(z, y); solve satisfy;",
         "x = -2;\ny = 2;\nz = 2;\n----------\n",

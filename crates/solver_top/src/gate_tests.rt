@@ -96,7 +96,11 @@ fn two_workers_meet(rt: HostRuntime) -> Result<(), Fail> {
     };
     let words = "turbofzn -p 2 --depth 2 m.fzn";
     let outcome = run_gated(&rt, rt.alloc(), words, text.as_bytes(), &gates)?;
-    assert_answered(&rt, &outcome, "x = 0;\ny = 1;\no = 4;\n----------\n==========\n");
+    assert_answered(
+        &rt,
+        &outcome,
+        "x = 0;\ny = 1;\no = 4;\n----------\n==========\n",
+    );
     assert!(rt; gate.was_passed());
     Ok(())
 }

@@ -8,7 +8,11 @@ use std::test::Fail;
 use std::thread::Threads;
 
 /// The text has a model and a solution.
-fn assert_solved(rt: &(impl Abort + Threads + Sync), alloc: Global, text: &[u8]) -> Result<(), Fail> {
+fn assert_solved(
+    rt: &(impl Abort + Threads + Sync),
+    alloc: Global,
+    text: &[u8],
+) -> Result<(), Fail> {
     let outcome = run_text(rt, alloc, text)?;
     assert_eq!(rt; outcome.status, Status::Answered);
     assert_eq!(rt; outcome.out.as_slice(), b"----------\n".as_slice());

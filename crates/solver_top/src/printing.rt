@@ -6,9 +6,9 @@ ghost use Rattle.fzn_print.specs.AnswerText.{solution_text};
 ghost use Rattle.solver_top.specs.Answers.{answer_text, first_objective, known_objective, objective_in};
 
 use answer::Answer;
+use constraint_model::{Goal, Term};
 use fzn_model::FznModel;
 use fzn_print::{Mark, mark_text, print_solution};
-use constraint_model::{Goal, Term};
 use interval::NoMemory;
 use list_of::ListOf;
 use std::alloc::Global;

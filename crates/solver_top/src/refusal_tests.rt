@@ -61,7 +61,7 @@ const KINDS: &[(&str, u8, u64, &str)] = &[
         "refused 5 UnknownConstraint line 1\n",
     ),
     (
-        "constraint int_div(1,1,1); solve satisfy;",
+        "constraint int_pow(1,1,1); solve satisfy;",
         5,
         1,
         "refused 5 UnknownConstraint line 1\n",

@@ -4,10 +4,12 @@ use crate::tests::assert_calls;
 use std::test::Fail;
 
 /// Two numbers whose product is given.
-const PRODUCT: &str = "var -3..3: x :: output_var; var -3..3: y :: output_var; constraint int_times(x,y,-6); solve satisfy;";
+const PRODUCT: &str =
+    "var -3..3: x :: output_var; var -3..3: y :: output_var; constraint int_times(x,y,-6); solve satisfy;";
 
 /// A sum under a bound, with the greatest value of another.
-const SUMS: &str = "var 0..10: x :: output_var; var 0..10: y :: output_var; var 0..14: z :: output_var; \
+const SUMS: &str =
+    "var 0..10: x :: output_var; var 0..10: y :: output_var; var 0..14: z :: output_var; \
      constraint int_lin_le([1,1],[x,y],7); constraint int_lin_eq([1,2,-1],[x,y,z],0); solve maximize z;";
 
 const SUMS_ANSWER: &str = "x = 0;\ny = 7;\nz = 14;\n----------\n==========\n";

@@ -110,7 +110,11 @@ pub(crate) fn assert_calls(
     for (words, text, answer) in table {
         let outcome = run(rt, alloc, words, text.as_bytes())?;
         assert_eq!(rt; outcome.status, Status::Answered, "at {words} on {text}");
-        assert_eq!(rt; outcome.out.as_slice(), answer.as_bytes(), "at {words} on {text}");
+        assert_eq!(rt;
+            outcome.out.as_slice(),
+            answer.as_bytes(),
+            "at {words} on {text}"
+        );
         assert!(rt; outcome.err.is_empty(), "at {words} on {text}");
     }
     Ok(())

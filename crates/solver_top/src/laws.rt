@@ -38,5 +38,4 @@ pub fn law_one_answer()
 /// Where a limit was spent the mark of an answer is none, or that nothing is known. It does nothing.
 pub(crate) fn law_unfinished_marks()
     ensures { UnfinishedMarks }
-{
-}
+{}

@@ -2,7 +2,7 @@
 //! texts stand in the other files of tests.
 
 use crate::{Gate, Gates, NoGate, Status, solve_main};
-use fzn_io::{HonestSource, MemSink};
+use fzn_io::{HonestSource, MemSink, MemSource, Named};
 use std::alloc::{AllocError, Global};
 use std::process::Abort;
 use std::test::Fail;
@@ -36,6 +36,41 @@ pub(crate) fn run_gated<C: Gate + Sync, L: Gate + Sync>(
     let mut out = MemSink::new(alloc, 1024, Vec::new(alloc));
     let mut err = MemSink::new(alloc, 1024, Vec::new(alloc));
     let status = solve_main(rt, alloc, &list, &mut files, &mut out, &mut err, gates);
+    Ok(Outcome {
+        status,
+        out: Vec::from_slice(alloc, out.bytes())?,
+        err: Vec::from_slice(alloc, err.bytes())?,
+    })
+}
+
+/// Runs the program on a file that holds the bytes, or that isn't there. Of the calls on the file and of those on standard
+/// output, each of at most `chunk` bytes, the ones with these numbers fail; 0 is none.
+fn run_faulty(
+    rt: &(impl Threads + Sync),
+    alloc: Global,
+    bytes: Option<Vec<u8>>,
+    chunk: usize,
+    failing_read: u64,
+    failing_write: u64,
+) -> Result<Outcome, AllocError> {
+    let words = vec![in alloc;
+        String::from_str(alloc, "turbofzn")?,
+        String::from_str(alloc, "m.fzn")?,
+    ]?;
+    let file = Named {
+        name: String::from_str(alloc, "m.fzn")?,
+        bytes,
+    };
+    let failing_reads = vec![in alloc; failing_read]?;
+    let mut files = MemSource::new(vec![in alloc; file]?, 1024, failing_reads);
+    let failing_writes = vec![in alloc; failing_write]?;
+    let mut out = MemSink::new(alloc, chunk, failing_writes);
+    let mut err = MemSink::new(alloc, 1024, Vec::new(alloc));
+    let gates = Gates {
+        crew: &NoGate,
+        lanes: &NoGate,
+    };
+    let status = solve_main(rt, alloc, &words, &mut files, &mut out, &mut err, &gates);
     Ok(Outcome {
         status,
         out: Vec::from_slice(alloc, out.bytes())?,
@@ -113,6 +148,28 @@ pub(crate) fn assert_refusals(
         assert!(rt; outcome.out.is_empty(), "at {text}");
         assert_eq!(rt; outcome.err.as_slice(), told.as_bytes(), "at {text}");
     }
+    Ok(())
+}
+
+#[test]
+fn faults_have_their_status(rt: HostRuntime) -> Result<(), Fail> {
+    let bytes = Vec::from_slice(rt.alloc(), BOUNDS.as_bytes())?;
+    let outcome = run_faulty(&rt, rt.alloc(), Some(bytes), 4, 0, 2)?;
+    assert_eq!(rt; outcome.status, Status::WriteFault);
+    assert_eq!(rt; outcome.out.as_slice(), b"x = ".as_slice());
+    assert_eq!(rt; outcome.err.as_slice(), b"write fault\n".as_slice());
+    let bytes = Vec::from_slice(rt.alloc(), BOUNDS.as_bytes())?;
+    let outcome = run_faulty(&rt, rt.alloc(), Some(bytes), 1024, 2, 0)?;
+    assert_eq!(rt; outcome.status, Status::ReadFault);
+    assert!(rt; outcome.out.is_empty());
+    assert_eq!(rt; outcome.err.as_slice(), b"read fault\n".as_slice());
+    let outcome = run_faulty(&rt, rt.alloc(), None, 1024, 0, 0)?;
+    assert_eq!(rt;
+        outcome.status,
+        Status::ReadFault,
+        "at a file that isn't there"
+    );
+    assert!(rt; outcome.out.is_empty());
     Ok(())
 }
 

@@ -13,3 +13,5 @@ pub mod JobLaws
 pub mod LeastJobLaws
 pub mod GivenLaws
 pub mod NumberLaws
+pub mod Examples
+pub mod AnswerLaws

@@ -11,3 +11,4 @@ pub mod Plans
 pub mod Runs
 pub mod Jobs
 pub mod Laws
+pub mod Examples

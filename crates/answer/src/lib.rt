@@ -10,7 +10,9 @@ mod least_job;
 mod objective;
 mod options;
 mod plan;
+#[cfg(test)]
+mod tests;
 
 pub use answering::{Gates, answer};
-pub use laws::law_one_finished;
+pub use laws::{law_gives_one, law_gives_smallest, law_one_finished, law_unfinished_marks};
 pub use options::{Answer, Options};

@@ -9,8 +9,7 @@ use Rattle.answer.specs.Lists.{Assignment}
 use Rattle.answer.specs.declared.options.Options.{Options as SearchOptions}
 use Rattle.answer.specs.Finished.{Gives, IsFinished, IsUnsatisfiable}
 use Rattle.answer.specs.Answers.{IsAnswer}
-use Rattle.answer.specs.Laws.{IsMarkedOpen, UnfinishedMarks}
-use Rattle.solver_top.specs.Answers.{IsAnswerWith, IsKnown, first_objective, known_at, known_objective, search_options}
+use Rattle.solver_top.specs.Answers.{IsAnswerWith, IsKnown, IsMarkedOpen, UnfinishedMarks, first_objective, known_at, known_objective, search_options}
 
 -- by the mark
 known_by : (goal : Goal) (answer : Answer) (mark : Mark) → answer.mark ≡ mark → known_objective goal answer ≡ known_at mark (first_objective goal answer.solutions)

@@ -1,5 +1,6 @@
 pub mod AnswerLaws
 pub mod KnownLaws
+pub mod MarkLaws
 pub mod NamedFile
 pub mod OutcomeLaws
 pub mod TextLaws

@@ -3,8 +3,9 @@ use Rattle.std.proofs.Common.{◌≡◌, ◌⊎◌, inl, inr, ℕ, zero, suc, �
 use Rattle.fzn_io.specs.Faults.{CountRose}
 use Rattle.fzn_io.specs.Streams.{Adds, AddsFront, IsHeld, IsLonger, IsNextName}
 use Rattle.constraint_model.specs.declared.model.FznModel.{FznModel}
+use Rattle.command_line.specs.declared.words.Input.{Input}
 use Rattle.command_line.specs.declared.words.Options.{Options}
-use Rattle.command_line.specs.CommandLine.{InputOf, file, made as made_of}
+use Rattle.command_line.specs.CommandLine.{InputOf, file, input_meant, made as made_of}
 use Rattle.made_model.specs.Made.{made}
 use Rattle.solver_top.specs.Texts.{IsTextOf, IsFaultOf, HasFaultOn, fault_line, most_bytes, too_long}
 use Rattle.solver_top.specs.Answers.{IsAnswerOf, IsLineOf}
@@ -186,6 +187,12 @@ module _ (one_fault : (text : List ℕ) (k l at place : ℕ) → IsFaultOf text 
   ends_refused result s r held asked kind line before after same cause has none reported =
       let ends = subst (λ (q : Status). (q ≡ Refused kind line) ⊎ (q ≡ NoMemory)) (sym same) (faulty r held asked kind line before after cause has none) in
       reported_fault result s kind line ends reported
+
+-- the line of a made text is what is to be written of it
+pub made_answer : (held : Told) (options : Options) (input : Input) (n : ℕ) (bytes : List ℕ) → input ≡ Input.Made n → IsLineOf options n (made n) bytes
+    → IsAnswerOfInput held options (input_meant input) bytes
+made_answer held options input n bytes is line =
+    subst (λ i. IsAnswerOfInput held options (input_meant i) bytes) (sym is) (record { text = made n; told = refl; written = line })
 
 -- ---- what is reported
 

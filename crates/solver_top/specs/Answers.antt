@@ -1,7 +1,7 @@
 -- What is written of an answer.
 --
 -- Source: the FlatZinc chapter of the MiniZinc Handbook, its section on output. The line of a made text is this program's own.
-use Rattle.std.specs.Prelude.{◌≡◌, ◌⊎◌, ℕ, ℤ, List, [], ◌∷◌, ◌++◌, flat_map, Option, Some, None}
+use Rattle.std.specs.Prelude.{◌≡◌, ◌≢◌, ◌⊎◌, ℕ, ℤ, List, [], ◌∷◌, ◌++◌, flat_map, Option, Some, None}
 use Rattle.constraint_model.specs.declared.model.FznModel.{FznModel}
 use Rattle.constraint_model.specs.declared.model.Goal.{Goal}
 use Rattle.constraint_model.specs.Relations.{value}
@@ -87,3 +87,14 @@ pub record IsLineOf (options : Options) (n : ℕ) (text bytes : List ℕ) : Type
   pub objective : Option ℤ
   pub known : IsKnown model options answer objective
   pub printed : bytes ≡ summary n objective
+
+-- ---- the marks of an answer where a limit was spent
+
+-- the mark says neither that the search is complete nor that no solution exists, and it says that nothing is known exactly
+-- where no solution is given
+pub record IsMarkedOpen (answer : Answer) : Type 0 where
+  pub plain : answer.solutions ≢ [] → answer.mark ≡ Mark.Plain
+  pub unknown : answer.solutions ≡ [] → answer.mark ≡ Mark.Unknown
+
+abbrev pub UnfinishedMarks : Type 0
+UnfinishedMarks = (model : FznModel) (options : SearchOptions) (answer : Answer) → IsUnfinished model options answer → IsMarkedOpen answer

@@ -2,10 +2,13 @@
 
 ghost use Rattle.std.specs.Prelude.{◌≡◌, ◌⊎◌, ℕ, List};
 ghost use Rattle.constraint_model.specs.declared.model.FznModel.{FznModel};
+ghost use Rattle.command_line.specs.declared.words.Options.{Options};
 ghost use Rattle.solver_top.specs.Texts.{IsTextOf, IsFaultOf};
+ghost use Rattle.solver_top.specs.Answers.{HasNoLimit, IsAnswerOf, IsLineOf, UnfinishedMarks};
 
+use answer::law_one_finished;
 use fzn_lexer::law_one_reading as law_one_lexing;
-use fzn_model::law_one_model;
+use fzn_model::{law_one_model, law_well_formed};
 use fzn_parser::laws::law_one_reading as law_one_parsing;
 
 /// Every text has one model or one fault, and never both. It does nothing.
@@ -19,3 +22,20 @@ pub fn law_one_text()
     law_one_parsing();
     law_one_model();
 }
+
+/// Where no limit is set a text has at most one answer, whichever workers, lanes and parts search for it; and a made text has
+/// one line. It does nothing.
+pub fn law_one_answer()
+    ensures answer { (o p : Options) (text bytes others : List ℕ) → HasNoLimit o → HasNoLimit p → o.all ≡ p.all → IsAnswerOf o text bytes → IsAnswerOf p text others → bytes ≡ others }
+    ensures line { (o p : Options) (n : ℕ) (text bytes others : List ℕ) → HasNoLimit o → HasNoLimit p → o.all ≡ p.all → IsLineOf o n text bytes → IsLineOf p n text others → bytes ≡ others }
+{
+    law_one_text();
+    law_well_formed();
+    law_one_finished();
+    law_unfinished_marks();
+}
+
+/// Where a limit was spent the mark of an answer is none, or that nothing is known. It does nothing.
+pub(crate) fn law_unfinished_marks()
+    ensures { UnfinishedMarks }
+{}

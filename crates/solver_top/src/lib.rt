@@ -28,8 +28,9 @@ mod tests;
 mod text_tests;
 mod top;
 
-pub use answer::{Gate, Gates, NoGate};
-pub use laws::law_one_text;
+pub use answer::Gates;
+pub use gate::{Gate, NoGate};
+pub use laws::{law_one_answer, law_one_text};
 pub use reader::{TextError, line_of, read_model};
 pub use status::{Status, report};
 pub use top::solve_main;

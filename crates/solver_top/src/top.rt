@@ -9,8 +9,9 @@ ghost use Rattle.solver_top.specs.Outcome.{CanOpen, IsFaultOfTold, ReadsFile, To
 use crate::laws::law_one_text;
 use crate::solving::answer_of_words;
 use crate::status::{Status, report};
-use answer::{Gate, Gates};
+use answer::Gates;
 use fzn_io::{Sink, Source, write_all};
+use gate::Gate;
 use std::alloc::Global;
 use std::thread::Threads;
 

@@ -183,12 +183,10 @@ fn of_equal<R: Threads + Sync>(rt: &R, alloc: Global, options: Options) -> Resul
 fn is_given<const N: usize>(answer: &Answer, solutions: &[[i64; N]], mark: Mark) -> bool {
     answer.mark == mark
         && answer.solutions.len() as usize == solutions.len()
-        && answer
-            .solutions
-            .as_slice()
-            .iter()
-            .zip(solutions)
-            .all(|(given, expected)| given.as_slice() == expected.as_slice())
+        && answer.solutions.as_slice().iter().zip(solutions).all(|(
+            given,
+            expected,
+        )| given.as_slice() == expected.as_slice())
 }
 
 /// Asks for a solution, for all solutions, and of a model that has none.
@@ -204,13 +202,15 @@ fn solutions_are_given<R: Threads + Sync>(
     let first = of_free(rt, alloc, Goal::Satisfy, 3, one)?;
     let listed = of_free(rt, alloc, Goal::Satisfy, 3, all)?;
     let none = of_free(rt, alloc, Goal::Satisfy, 0, all)?;
-    Ok(is_given(&first, &[[1, 1]], Mark::Plain)
-        && is_given(
-            &listed,
-            &[[1, 1], [1, 2], [2, 1], [2, 2], [3, 1], [3, 2]],
-            Mark::Complete,
-        )
-        && is_given::<2>(&none, &[], Mark::Unsatisfiable))
+    Ok(
+        is_given(&first, &[[1, 1]], Mark::Plain)
+            && is_given(
+                &listed,
+                &[[1, 1], [1, 2], [2, 1], [2, 2], [3, 1], [3, 2]],
+                Mark::Complete,
+            )
+            && is_given::<2>(&none, &[], Mark::Unsatisfiable),
+    )
 }
 
 /// Asks for the greatest x, where two solutions have it; for the least constant, which all have; and of a model that has no
@@ -225,9 +225,11 @@ fn the_first_of_least_cost_is_given<R: Threads + Sync>(
     let greatest = of_free(rt, alloc, Goal::Maximize(Term::Var(0)), 3, options)?;
     let constant = of_free(rt, alloc, Goal::Minimize(Term::Number(4)), 3, options)?;
     let none = of_free(rt, alloc, Goal::Minimize(Term::Var(1)), 0, options)?;
-    Ok(is_given(&greatest, &[[3, 1]], Mark::Complete)
-        && is_given(&constant, &[[1, 1]], Mark::Complete)
-        && is_given::<2>(&none, &[], Mark::Unsatisfiable))
+    Ok(
+        is_given(&greatest, &[[3, 1]], Mark::Complete)
+            && is_given(&constant, &[[1, 1]], Mark::Complete)
+            && is_given::<2>(&none, &[], Mark::Unsatisfiable),
+    )
 }
 
 #[test]
@@ -249,7 +251,13 @@ fn a_limit_on_nodes_leaves_what_is_known(rt: HostRuntime) -> Result<(), Fail> {
     assert!(rt; is_given::<2>(&nothing, &[], Mark::Unknown));
     let one_of_all = of_free(&rt, alloc, Goal::Satisfy, 3, limited(true, 3, 0))?;
     assert!(rt; is_given(&one_of_all, &[[1, 1]], Mark::Plain));
-    let best_so_far = of_free(&rt, alloc, Goal::Maximize(Term::Var(0)), 3, limited(false, 3, 0))?;
+    let best_so_far = of_free(
+        &rt,
+        alloc,
+        Goal::Maximize(Term::Var(0)),
+        3,
+        limited(false, 3, 0),
+    )?;
     assert!(rt; is_given(&best_so_far, &[[1, 1]], Mark::Plain));
     Ok(())
 }

@@ -2,4 +2,3 @@ mod AloneEnds
 mod LaneEnds
 mod Copies
 mod Noting
-mod Examples

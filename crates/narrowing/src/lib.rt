@@ -8,8 +8,6 @@ mod laws;
 mod narrowed;
 mod narrower;
 mod propagation;
-#[cfg(test)]
-mod tests;
 
 pub use alone::Alone;
 pub use lanes::Lanes;

@@ -4,6 +4,7 @@
 
 use fzn_io::{FileSource, MemSink, read_named};
 use solver_top::{Gates, NoGate, Status, solve_main};
+use std::thread::Threads;
 
 /// The most bytes of an answer that is compared.
 const LONGEST_ANSWER: usize = 1_000_000;
@@ -11,7 +12,7 @@ const LONGEST_ANSWER: usize = 1_000_000;
 fn main(rt: HostRuntime) -> anyhow::Result<()> {
     for (place, name) in std::env::args(&rt)?.enumerate() {
         if place > 0 {
-            let verdict = compare(&rt, name.as_str())?;
+            let verdict = compare(&rt, &rt, name.as_str())?;
             println!(rt; "{name}: {verdict}")?;
         }
     }
@@ -19,7 +20,11 @@ fn main(rt: HostRuntime) -> anyhow::Result<()> {
 }
 
 /// What became of one text.
-fn compare(rt: &HostRuntime, name: &str) -> anyhow::Result<&'static str> {
+fn compare(
+    rt: &HostRuntime,
+    threads: &(impl Threads + Sync),
+    name: &str,
+) -> anyhow::Result<&'static str> {
     let alloc = rt.alloc();
     let mut files = FileSource::new(rt);
     let beside = format!(in alloc; "{name}.answer")?;
@@ -33,7 +38,9 @@ fn compare(rt: &HostRuntime, name: &str) -> anyhow::Result<&'static str> {
         crew: &NoGate,
         lanes: &NoGate,
     };
-    let status = solve_main(rt, alloc, &words, &mut files, &mut out, &mut err, &gates);
+    let status = solve_main(
+        threads, alloc, &words, &mut files, &mut out, &mut err, &gates,
+    );
     Ok(if status != Status::Answered {
         "not answered"
     } else if out.bytes() != answer.as_slice() {

@@ -4,14 +4,15 @@
 use fzn_io::{FileSource, StdSink};
 use solver_top::{Gates, NoGate, Status, report, solve_main};
 use std::process::ExitCode;
+use std::thread::Threads;
 use std::{env, io};
 
 fn main(rt: HostRuntime) -> ExitCode {
     let status = match words(&rt) {
-        Ok(words) => solve(&rt, &words),
+        Ok(words) => solve(&rt, &rt, &words),
         Err(error) if error.kind() == io::ErrorKind::OutOfMemory => refuse_memory(&rt),
         // Words that can't be had, as those that are no text, are taken as no words.
-        Err(_) => solve(&rt, &[]),
+        Err(_) => solve(&rt, &rt, &[]),
     };
     ExitCode::from(status.code())
 }
@@ -25,8 +26,8 @@ fn words(rt: &HostRuntime) -> io::Result<Vec<String>> {
     Ok(words)
 }
 
-/// The top call over the real files and streams.
-fn solve(rt: &HostRuntime, words: &[String]) -> Status {
+/// The top call over the real files, streams and threads.
+fn solve(rt: &HostRuntime, threads: &(impl Threads + Sync), words: &[String]) -> Status {
     let mut files = FileSource::new(rt);
     let mut out = StdSink::new(rt.stdout());
     let mut err = StdSink::new(rt.stderr());
@@ -35,7 +36,7 @@ fn solve(rt: &HostRuntime, words: &[String]) -> Status {
         lanes: &NoGate,
     };
     solve_main(
-        rt,
+        threads,
         rt.alloc(),
         words,
         &mut files,

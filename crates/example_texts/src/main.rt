@@ -20,9 +20,9 @@ fn main(rt: HostRuntime) -> anyhow::Result<()> {
 }
 
 /// What became of one text.
-fn compare<T: Threads + Sync>(
+fn compare(
     rt: &HostRuntime,
-    threads: &T,
+    threads: &(impl Threads + Sync),
     name: &str,
 ) -> anyhow::Result<&'static str> {
     let alloc = rt.alloc();

@@ -97,10 +97,10 @@ const KINDS: &[(&str, u8, u64, &str)] = &[
         "refused 7 Unsupported line 1\n",
     ),
     (
-        "var 1..2: x; solve minimize x;",
-        7,
+        "var bool: b; solve minimize b;",
+        6,
         1,
-        "refused 7 Unsupported line 1\n",
+        "refused 6 WrongArgument line 1\n",
     ),
     (
         "var 0..140737488355328: x; solve satisfy;",
@@ -194,10 +194,10 @@ const LINES: &[(&str, u8, u64, &str)] = &[
     ("\n$\n", 1, 2, "refused 1 Lex line 2\n"),
     ("\r\r$", 1, 1, "refused 1 Lex line 1\n"),
     (
-        "\n\n\n\n\n\n\n\n\nsolve maximize 1;",
-        7,
+        "\n\n\n\n\n\n\n\n\nsolve maximize true;",
+        6,
         10,
-        "refused 7 Unsupported line 10\n",
+        "refused 6 WrongArgument line 10\n",
     ),
 ];
 

@@ -26,8 +26,8 @@ fn words(rt: &HostRuntime) -> io::Result<Vec<String>> {
     Ok(words)
 }
 
-/// The top call over the real files and streams, with the threads of `main`.
-fn solve<T: Threads + Sync>(rt: &HostRuntime, threads: &T, words: &[String]) -> Status {
+/// The top call over the real files, streams and threads.
+fn solve(rt: &HostRuntime, threads: &(impl Threads + Sync), words: &[String]) -> Status {
     let mut files = FileSource::new(rt);
     let mut out = StdSink::new(rt.stdout());
     let mut err = StdSink::new(rt.stderr());

@@ -1,5 +1,5 @@
 -- The rows of products, quotients, remainders and absolute values.
-use Rattle.std.proofs.Common.{◌≡◌, ◌≢◌, ◌↔◌, ℤ, pos, ◌*ℤ◌, unsigned_abs, false, List, [], ◌∷◌, length, refl, sym, ap, ◌∙◌}
+use Rattle.std.proofs.Common.{◌≡◌, ◌≢◌, ◌↔◌, ℤ, pos, ◌*ℤ◌, unsigned_abs, false, List, [], ◌∷◌, refl, sym, ap, ◌∙◌}
 use Rattle.guarded_tell.specs.declared.kernel.Kernel.{Kernel}
 use Rattle.guarded_tell.specs.Kernels.{vars_of, HasNumbers, Holds as KernelHolds}
 use Rattle.guarded_tell.specs.Division.{quotient_of}
@@ -11,6 +11,7 @@ use Rattle.constraint_model.specs.declared.table.ConstraintName.{ConstraintName}
 use Rattle.constraint_model.specs.Fits.{kernels_of}
 use Rattle.constraint_model.specs.Relations.{value, quotient, IsQuotient, IsRemainder, HoldsOn}
 use Rattle.decompose.specs.Kernels.{variable_of, variables_of, row_of}
+use Rattle.decompose.specs.Places.{numbering_of}
 use Rattle.decompose.proofs.Means.{HasVariable, MeansOne, size_of}
 use Rattle.decompose.proofs.Served.{Law}
 use Rattle.decompose.proofs.OneKernel.{alone, are_variables, variables_inside, two_have, three_have, value_is, by_two, by_three, ends_same}
@@ -35,11 +36,11 @@ remainders_same x y z u v w e f g = (
 
 module _ (vars : List VarDecl) (constants : List ℤ) where
   product_is : (x y z : Term) → HasVariable vars constants x → HasVariable vars constants y → HasVariable vars constants z
-      → MeansOne vars constants (λ a. value a x *ℤ value a y ≡ value a z) (Kernel.Times (variable_of (length vars) constants x) (variable_of (length vars) constants y) (variable_of (length vars) constants z))
+      → MeansOne vars constants (λ a. value a x *ℤ value a y ≡ value a z) (Kernel.Times (variable_of (numbering_of vars constants) x) (variable_of (numbering_of vars constants) y) (variable_of (numbering_of vars constants) z))
   unfolding vars_of HasNumbers KernelHolds
   product_is x y z hx hy hz = record {
     can_run = record {
-      variables = are_variables (size_of vars constants) (variables_of (length vars) constants (x ∷ y ∷ z ∷ [])) (variables_inside vars constants (x ∷ y ∷ z ∷ []) (three_have vars constants x y z hx hy hz));
+      variables = are_variables (size_of vars constants) (variables_of (numbering_of vars constants) (x ∷ y ∷ z ∷ [])) (variables_inside vars constants (x ∷ y ∷ z ∷ []) (three_have vars constants x y z hx hy hz));
       numbers = tt;
     };
     meaning = λ a w.
@@ -48,11 +49,11 @@ module _ (vars : List VarDecl) (constants : List ℤ) where
   }
 
   quotient_is : (x y z : Term) → HasVariable vars constants x → HasVariable vars constants y → HasVariable vars constants z
-      → MeansOne vars constants (λ a. IsQuotient (value a x) (value a y) (value a z)) (Kernel.Div (variable_of (length vars) constants x) (variable_of (length vars) constants y) (variable_of (length vars) constants z))
+      → MeansOne vars constants (λ a. IsQuotient (value a x) (value a y) (value a z)) (Kernel.Div (variable_of (numbering_of vars constants) x) (variable_of (numbering_of vars constants) y) (variable_of (numbering_of vars constants) z))
   unfolding vars_of HasNumbers KernelHolds
   quotient_is x y z hx hy hz = record {
     can_run = record {
-      variables = are_variables (size_of vars constants) (variables_of (length vars) constants (x ∷ y ∷ z ∷ [])) (variables_inside vars constants (x ∷ y ∷ z ∷ []) (three_have vars constants x y z hx hy hz));
+      variables = are_variables (size_of vars constants) (variables_of (numbering_of vars constants) (x ∷ y ∷ z ∷ [])) (variables_inside vars constants (x ∷ y ∷ z ∷ []) (three_have vars constants x y z hx hy hz));
       numbers = tt;
     };
     meaning = λ a w.
@@ -60,11 +61,11 @@ module _ (vars : List VarDecl) (constants : List ℤ) where
   }
 
   remainder_is : (x y z : Term) → HasVariable vars constants x → HasVariable vars constants y → HasVariable vars constants z
-      → MeansOne vars constants (λ a. IsRemainder (value a x) (value a y) (value a z)) (Kernel.Mod (variable_of (length vars) constants x) (variable_of (length vars) constants y) (variable_of (length vars) constants z))
+      → MeansOne vars constants (λ a. IsRemainder (value a x) (value a y) (value a z)) (Kernel.Mod (variable_of (numbering_of vars constants) x) (variable_of (numbering_of vars constants) y) (variable_of (numbering_of vars constants) z))
   unfolding vars_of HasNumbers KernelHolds
   remainder_is x y z hx hy hz = record {
     can_run = record {
-      variables = are_variables (size_of vars constants) (variables_of (length vars) constants (x ∷ y ∷ z ∷ [])) (variables_inside vars constants (x ∷ y ∷ z ∷ []) (three_have vars constants x y z hx hy hz));
+      variables = are_variables (size_of vars constants) (variables_of (numbering_of vars constants) (x ∷ y ∷ z ∷ [])) (variables_inside vars constants (x ∷ y ∷ z ∷ []) (three_have vars constants x y z hx hy hz));
       numbers = tt;
     };
     meaning = λ a w.
@@ -72,11 +73,11 @@ module _ (vars : List VarDecl) (constants : List ℤ) where
   }
 
   absolute_is : (x y : Term) → HasVariable vars constants x → HasVariable vars constants y
-      → MeansOne vars constants (λ a. pos (unsigned_abs (value a x)) ≡ value a y) (Kernel.Abs (variable_of (length vars) constants x) (variable_of (length vars) constants y))
+      → MeansOne vars constants (λ a. pos (unsigned_abs (value a x)) ≡ value a y) (Kernel.Abs (variable_of (numbering_of vars constants) x) (variable_of (numbering_of vars constants) y))
   unfolding vars_of HasNumbers KernelHolds
   absolute_is x y hx hy = record {
     can_run = record {
-      variables = are_variables (size_of vars constants) (variables_of (length vars) constants (x ∷ y ∷ [])) (variables_inside vars constants (x ∷ y ∷ []) (two_have vars constants x y hx hy));
+      variables = are_variables (size_of vars constants) (variables_of (numbering_of vars constants) (x ∷ y ∷ [])) (variables_inside vars constants (x ∷ y ∷ []) (two_have vars constants x y hx hy));
       numbers = tt;
     };
     meaning = λ a w. ends_same _ _ (pos (unsigned_abs (value a x))) (value a y) (ap (λ v. pos (unsigned_abs v)) (value_is vars constants a w x hx)) (value_is vars constants a w y hy);

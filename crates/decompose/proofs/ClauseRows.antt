@@ -24,6 +24,7 @@ use Rattle.constraint_model.specs.Fits.{kernels_of}
 use Rattle.constraint_model.specs.Relations.{value, HoldsOn, IsWithin, IsTrueNumber, IsConjunction, IsDisjunction, IsClause}
 use Rattle.decompose.specs.Program.{with_constants}
 use Rattle.decompose.specs.Kernels.{row_of, variable_of, literal_of, opposite_of, negated, some_of, conjunction, disjunction, clause_literals}
+use Rattle.decompose.specs.Places.{numbering_of}
 use Rattle.decompose.proofs.Means.{size_of, HasVariable, MeansOne, RowMeans}
 use Rattle.decompose.proofs.ConstantLaws.{variable_inside}
 use Rattle.decompose.proofs.OneKernel.{iff_through, ends_same, all_two, all_parts, positive_true, are_variables, two_have, value_is, alone, by_three}
@@ -218,17 +219,17 @@ some_of_count l others =
 
 module _ (vars : List VarDecl) (constants : List ℤ) where
   abbrev literal : Term → Lit
-  literal t = literal_of (length vars) constants t
+  literal t = literal_of (numbering_of vars constants) t
 
   abbrev opposite : Term → Lit
-  opposite t = opposite_of (length vars) constants t
+  opposite t = opposite_of (numbering_of vars constants) t
 
   abbrev Has : Term → Type 0
   Has t = HasVariable vars constants t
 
   -- the literals of terms, of either sign, are the program's
-  all_placed : (ts : List Term) → All Has ts → All (λ t. variable_of (length vars) constants t < size_of vars constants) ts
-  all_placed ts h = All-weaker Has (λ t. variable_of (length vars) constants t < size_of vars constants) (variable_inside vars constants) ts h
+  all_placed : (ts : List Term) → All Has ts → All (λ t. variable_of (numbering_of vars constants) t < size_of vars constants) ts
+  all_placed ts h = All-weaker Has (λ t. variable_of (numbering_of vars constants) t < size_of vars constants) (variable_inside vars constants) ts h
 
   literals_placed : (ts : List Term) → All Has ts → All (IsPlaced (size_of vars constants)) (map literal ts)
   literals_placed ts h = All-map (IsPlaced (size_of vars constants)) literal ts (all_placed ts h)
@@ -236,7 +237,7 @@ module _ (vars : List VarDecl) (constants : List ℤ) where
   opposites_placed : (ts : List Term) → All Has ts → All (IsPlaced (size_of vars constants)) (map opposite ts)
   opposites_placed ts h = All-map (IsPlaced (size_of vars constants)) opposite ts (all_placed ts h)
 
-  clause_literals_placed : (ps ns : List Term) → All Has ps → All Has ns → All (IsPlaced (size_of vars constants)) (clause_literals (length vars) constants ps ns)
+  clause_literals_placed : (ps ns : List Term) → All Has ps → All Has ns → All (IsPlaced (size_of vars constants)) (clause_literals (numbering_of vars constants) ps ns)
   clause_literals_placed ps ns h g = All-append (IsPlaced (size_of vars constants)) (map literal ps) (map opposite ns) (literals_placed ps h) (opposites_placed ns g)
 
   module _ (a : List ℤ) (w : IsWithin a vars) where
@@ -247,7 +248,7 @@ module _ (vars : List VarDecl) (constants : List ℤ) where
     literal_says t h = ap is_true (value_is vars constants a w t h)
 
     opposite_says : (t : Term) → Has t → holds_here numbers (opposite t) ≡ not (is_true (value a t))
-    opposite_says t h = opposite_sign true (value_of numbers (variable_of (length vars) constants t)) ∙ ap not (literal_says t h)
+    opposite_says t h = opposite_sign true (value_of numbers (variable_of (numbering_of vars constants) t)) ∙ ap not (literal_says t h)
 
     -- some literal of the terms is true exactly where what the literals say is true of some value
     some_say : (f : Term → Lit) (q : ℤ → Bool) → ((t : Term) → Has t → holds_here numbers (f t) ≡ q (value a t)) → (ts : List Term) → All Has ts
@@ -266,13 +267,13 @@ module _ (vars : List VarDecl) (constants : List ℤ) where
 
     -- ---- what the kernels hold
 
-    disjunction_says : (xs : List Term) (r : Term) → All Has xs → Has r → All (Here numbers) (disjunction (length vars) constants xs r) ↔ IsDisjunction (map (value a) xs) (value a r)
+    disjunction_says : (xs : List Term) (r : Term) → All Has xs → Has r → All (Here numbers) (disjunction (numbering_of vars constants) xs r) ↔ IsDisjunction (map (value a) xs) (value a r)
     disjunction_says xs r h hr =
         iff_through (some_of_says numbers (literal r) (map literal xs))
         (iff_through (ends_same _ _ _ _ (literal_says r hr) (literals_say xs h))
         (truths_say (is_true (value a r)) (list_any is_true (map (value a) xs)) (positive_true (value a r)) (some_iff is_true IsTrueNumber (map (value a) xs) positive_true)))
 
-    conjunction_says : (xs : List Term) (r : Term) → All Has xs → Has r → All (Here numbers) (conjunction (length vars) constants xs r) ↔ IsConjunction (map (value a) xs) (value a r)
+    conjunction_says : (xs : List Term) (r : Term) → All Has xs → Has r → All (Here numbers) (conjunction (numbering_of vars constants) xs r) ↔ IsConjunction (map (value a) xs) (value a r)
     conjunction_says xs r h hr =
         iff_through (some_of_says numbers (opposite r) (map opposite xs))
         (iff_through (ends_same _ _ _ _ (opposite_says r hr) (opposites_say xs h ∙ some_not is_true (map (value a) xs)))
@@ -281,7 +282,7 @@ module _ (vars : List VarDecl) (constants : List ℤ) where
 
     -- one of the literals of a clause is true exactly where the clause holds
     literals_hold : (ps ns : List Term) → All Has ps → All Has ns
-        → list_any (holds_here numbers) (clause_literals (length vars) constants ps ns) ≡ true ↔ IsClause (map (value a) ps) (map (value a) ns)
+        → list_any (holds_here numbers) (clause_literals (numbering_of vars constants) ps ns) ≡ true ↔ IsClause (map (value a) ps) (map (value a) ns)
     literals_hold ps ns h g =
         let e = list_any-append (holds_here numbers) (map literal ps) (map opposite ns) in
         let first = some_iff is_true IsTrueNumber (map (value a) ps) positive_true in
@@ -303,17 +304,17 @@ module _ (vars : List VarDecl) (constants : List ℤ) where
   some_variable : 0 < size_of vars constants
   some_variable = omega arith
 
-  disjunction_runs : (xs : List Term) (r : Term) → length xs ≤ most_entries → All Has xs → Has r → All (IsKernel (size_of vars constants)) (disjunction (length vars) constants xs r)
+  disjunction_runs : (xs : List Term) (r : Term) → length xs ≤ most_entries → All Has xs → Has r → All (IsKernel (size_of vars constants)) (disjunction (numbering_of vars constants) xs r)
   disjunction_runs xs r short h hr =
       let e = length-map {B = Lit} xs literal in
       some_of_runs (size_of vars constants) some_variable (literal r) (map literal xs) (variable_inside vars constants r hr) (literals_placed xs h) (omega arith)
 
-  conjunction_runs : (xs : List Term) (r : Term) → length xs ≤ most_entries → All Has xs → Has r → All (IsKernel (size_of vars constants)) (conjunction (length vars) constants xs r)
+  conjunction_runs : (xs : List Term) (r : Term) → length xs ≤ most_entries → All Has xs → Has r → All (IsKernel (size_of vars constants)) (conjunction (numbering_of vars constants) xs r)
   conjunction_runs xs r short h hr =
       let e = length-map {B = Lit} xs opposite in
       some_of_runs (size_of vars constants) some_variable (opposite r) (map opposite xs) (variable_inside vars constants r hr) (opposites_placed xs h) (omega arith)
 
-  clause_count : (ps ns : List Term) → length (clause_literals (length vars) constants ps ns) ≡ length ps + length ns
+  clause_count : (ps ns : List Term) → length (clause_literals (numbering_of vars constants) ps ns) ≡ length ps + length ns
   clause_count ps ns =
       let e = length-append (map literal ps) (map opposite ns) in
       let p = length-map {B = Lit} ps literal in
@@ -401,7 +402,7 @@ module _ (vars : List VarDecl) (constants : List ℤ) where
     meaning = λ a w. disjunction_says a w (terms_of xs) r.term hx.has hr.has;
   })
 
-  clause_length : (xs ys : List Scalar) → ArrayIs xs → ArrayIs ys → length (clause_literals (length vars) constants (terms_of xs) (terms_of ys)) ≤ 131072
+  clause_length : (xs ys : List Scalar) → ArrayIs xs → ArrayIs ys → length (clause_literals (numbering_of vars constants) (terms_of xs) (terms_of ys)) ≤ 131072
   clause_length xs ys hx hy =
       let e = clause_count (terms_of xs) (terms_of ys) in
       let x = terms_short xs hx.short in
@@ -409,9 +410,9 @@ module _ (vars : List VarDecl) (constants : List ℤ) where
       omega arith
 
   clause_is : (xs ys : List Scalar) → ArrayIs xs → ArrayIs ys
-      → MeansOne vars constants (λ a. IsClause (map (value a) (terms_of xs)) (map (value a) (terms_of ys))) (Kernel.Clause (clause_literals (length vars) constants (terms_of xs) (terms_of ys)))
+      → MeansOne vars constants (λ a. IsClause (map (value a) (terms_of xs)) (map (value a) (terms_of ys))) (Kernel.Clause (clause_literals (numbering_of vars constants) (terms_of xs) (terms_of ys)))
   clause_is xs ys hx hy =
-      let lits : List Lit = clause_literals (length vars) constants (terms_of xs) (terms_of ys) in
+      let lits : List Lit = clause_literals (numbering_of vars constants) (terms_of xs) (terms_of ys) in
       let n = clause_length xs ys hx hy in
       record {
         can_run = clause_runs (size_of vars constants) lits some_variable (clause_literals_placed (terms_of xs) (terms_of ys) hx.has hy.has) (few_literals (length lits) (omega arith));
@@ -425,7 +426,7 @@ module _ (vars : List VarDecl) (constants : List ℤ) where
   pub bool_clause_reif : Law vars constants ConstraintName.BoolClauseReif (Letter.Booleans ∷ Letter.Booleans ∷ Letter.Boolean ∷ [])
   unfolding row_of kernels_of HoldsOn
   bool_clause_reif = on_reified_arrays ConstraintName.BoolClauseReif (λ xs ys r hx hy hr.
-      let lits : List Lit = clause_literals (length vars) constants (terms_of xs) (terms_of ys) in
+      let lits : List Lit = clause_literals (numbering_of vars constants) (terms_of xs) (terms_of ys) in
       record {
         can_run = some_of_runs (size_of vars constants) some_variable (literal r.term) lits (variable_inside vars constants r.term hr.has)
             (clause_literals_placed (terms_of xs) (terms_of ys) hx.has hy.has) (clause_length xs ys hx hy);

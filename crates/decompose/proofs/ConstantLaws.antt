@@ -15,6 +15,7 @@ use Rattle.constraint_model.specs.Fits.{add_once}
 use Rattle.constraint_model.specs.Relations.{value}
 use Rattle.decompose.specs.Program.{with_constants}
 use Rattle.decompose.specs.Kernels.{variable_of}
+use Rattle.decompose.specs.Places.{numbering_of}
 use Rattle.decompose.proofs.Means.{IsAmong, HasVariable, size_of}
 
 int_eq-same : (n : ℤ) → int_eq n n ≡ true
@@ -89,7 +90,7 @@ not_one n e g = let x : true ≡ false = sym (subst (λ (k : ℤ). int_eq n k �
 
 -- a term's variable is one of the program's, and has the term's value
 module _ (vars : List VarDecl) (constants : List ℤ) where
-  pub variable_inside : (t : Term) → HasVariable vars constants t → variable_of (length vars) constants t < size_of vars constants
+  pub variable_inside : (t : Term) → HasVariable vars constants t → variable_of (numbering_of vars constants) t < size_of vars constants
   variable_inside (Term.Var v) h = omega arith
   variable_inside (Term.Number n) h = by (int_eq n (pos 1)) refl
     where
@@ -98,7 +99,7 @@ module _ (vars : List VarDecl) (constants : List ℤ) where
       by false e = omega (arith, place_of n constants (h (not_one n e)))
 
   module _ (a : List ℤ) (same : length a ≡ length vars) where
-    pub variable_value : (t : Term) → HasVariable vars constants t → value_of (with_constants constants a) (variable_of (length vars) constants t) ≡ value a t
+    pub variable_value : (t : Term) → HasVariable vars constants t → value_of (with_constants constants a) (variable_of (numbering_of vars constants) t) ≡ value a t
     variable_value (Term.Var v) h = get_or_append_left a constants (pos 0) v (omega arith)
     variable_value (Term.Number n) h = by (int_eq n (pos 1)) refl
       where
@@ -110,7 +111,7 @@ module _ (vars : List VarDecl) (constants : List ℤ) where
             ∙ at_place n constants (h (not_one n e))
 
     pub variable_values : (ts : List Term) → All (HasVariable vars constants) ts →
-        map (value_of (with_constants constants a)) (map (variable_of (length vars) constants) ts) ≡ map (value a) ts
+        map (value_of (with_constants constants a)) (map (variable_of (numbering_of vars constants)) ts) ≡ map (value a) ts
     variable_values [] h = refl
     variable_values (t ∷ ts) h =
         let one = variable_value t (All-head (HasVariable vars constants) t ts h) in

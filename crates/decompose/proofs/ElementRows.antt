@@ -18,6 +18,7 @@ use Rattle.constraint_model.specs.Fits.{kernels_of}
 use Rattle.constraint_model.specs.Relations.{value, HoldsOn, IsEntry}
 use Rattle.decompose.specs.Program.{with_constants}
 use Rattle.decompose.specs.Kernels.{variable_of, variables_of, row_of}
+use Rattle.decompose.specs.Places.{numbering_of}
 use Rattle.decompose.proofs.Means.{HasVariable, MeansOne, RowMeans, size_of}
 use Rattle.decompose.proofs.Served.{Law, RowIs, IsRowLetter, terms_of, at_integer, at_row, at_three}
 use Rattle.decompose.proofs.OneKernel.{alone, letter_of, at_scalar, are_variables, variables_inside, one_more, iff_through, value_is, values_are}
@@ -69,20 +70,20 @@ entry_same x y xs ys c d e f g = (
 
 module _ (vars : List VarDecl) (constants : List ℤ) where
   entry_is : (x : Term) (xs : List Term) (c : Term) → HasVariable vars constants x → All (HasVariable vars constants) xs → HasVariable vars constants c
-      → length (variables_of (length vars) constants xs) ≤ member_limit
+      → length (variables_of (numbering_of vars constants) xs) ≤ member_limit
       → MeansOne vars constants (λ a. IsEntry (value a x) (map (value a) xs) (value a c))
-      (Kernel.Element (variable_of (length vars) constants x) (variables_of (length vars) constants xs) (variable_of (length vars) constants c))
+      (Kernel.Element (variable_of (numbering_of vars constants) x) (variables_of (numbering_of vars constants) xs) (variable_of (numbering_of vars constants) c))
   unfolding vars_of HasNumbers KernelHolds
   entry_is x xs c hx hs hc few = record {
     can_run = record {
       variables =
-          are_variables (size_of vars constants) (variables_of (length vars) constants (x ∷ c ∷ xs))
+          are_variables (size_of vars constants) (variables_of (numbering_of vars constants) (x ∷ c ∷ xs))
           (variables_inside vars constants (x ∷ c ∷ xs) (one_more vars constants x (c ∷ xs) hx (one_more vars constants c xs hc hs)));
       numbers = few;
     };
     meaning = λ a w.
         iff_through
-        (element_by_values (with_constants constants a) (variable_of (length vars) constants x) (variables_of (length vars) constants xs) (variable_of (length vars) constants c))
+        (element_by_values (with_constants constants a) (variable_of (numbering_of vars constants) x) (variables_of (numbering_of vars constants) xs) (variable_of (numbering_of vars constants) c))
         (entry_same _ (value a x) _ (map (value a) xs) _ (value a c) (value_is vars constants a w x hx) (values_are vars constants a w xs hs) (value_is vars constants a w c hc));
   }
 

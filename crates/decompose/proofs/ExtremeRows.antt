@@ -23,6 +23,7 @@ use Rattle.constraint_model.specs.Fits.{kernels_of}
 use Rattle.constraint_model.specs.Relations.{value, HoldsOn, IsMaximum, IsMinimum}
 use Rattle.decompose.specs.Program.{with_constants}
 use Rattle.decompose.specs.Kernels.{variable_of, variables_of, row_of}
+use Rattle.decompose.specs.Places.{numbering_of}
 use Rattle.decompose.proofs.Means.{HasVariable, MeansOne, RowMeans, size_of}
 use Rattle.decompose.proofs.Served.{Law, RowIs, terms_of, at_integer, at_row, at_two}
 use Rattle.decompose.proofs.OneKernel.{alone, all_two, are_variables, variables_inside, one_more, two_have, iff_through, same_meaning, value_is, values_are, by_three}
@@ -119,38 +120,38 @@ unfolding member_limit
 two_members = omega arith
 
 module _ (vars : List VarDecl) (constants : List ℤ) where
-  greatest_is : (m : Term) (xs : List Term) → HasVariable vars constants m → All (HasVariable vars constants) xs → length (variables_of (length vars) constants xs) ≤ member_limit
-      → MeansOne vars constants (λ a. IsMaximum (value a m) (map (value a) xs)) (Kernel.Max (variable_of (length vars) constants m) (variables_of (length vars) constants xs))
+  greatest_is : (m : Term) (xs : List Term) → HasVariable vars constants m → All (HasVariable vars constants) xs → length (variables_of (numbering_of vars constants) xs) ≤ member_limit
+      → MeansOne vars constants (λ a. IsMaximum (value a m) (map (value a) xs)) (Kernel.Max (variable_of (numbering_of vars constants) m) (variables_of (numbering_of vars constants) xs))
   unfolding vars_of HasNumbers KernelHolds
   greatest_is m xs hm hs few = record {
     can_run = record {
-      variables = are_variables (size_of vars constants) (variables_of (length vars) constants (m ∷ xs)) (variables_inside vars constants (m ∷ xs) (one_more vars constants m xs hm hs));
+      variables = are_variables (size_of vars constants) (variables_of (numbering_of vars constants) (m ∷ xs)) (variables_inside vars constants (m ∷ xs) (one_more vars constants m xs hm hs));
       numbers = few;
     };
     meaning = λ a w.
-        iff_through (greatest_by_values (with_constants constants a) (variable_of (length vars) constants m) (variables_of (length vars) constants xs))
+        iff_through (greatest_by_values (with_constants constants a) (variable_of (numbering_of vars constants) m) (variables_of (numbering_of vars constants) xs))
         (both_same IsMaximum _ (value a m) _ (map (value a) xs) (value_is vars constants a w m hm) (values_are vars constants a w xs hs));
   }
 
-  least_is : (m : Term) (xs : List Term) → HasVariable vars constants m → All (HasVariable vars constants) xs → length (variables_of (length vars) constants xs) ≤ member_limit
-      → MeansOne vars constants (λ a. IsMinimum (value a m) (map (value a) xs)) (Kernel.Min (variable_of (length vars) constants m) (variables_of (length vars) constants xs))
+  least_is : (m : Term) (xs : List Term) → HasVariable vars constants m → All (HasVariable vars constants) xs → length (variables_of (numbering_of vars constants) xs) ≤ member_limit
+      → MeansOne vars constants (λ a. IsMinimum (value a m) (map (value a) xs)) (Kernel.Min (variable_of (numbering_of vars constants) m) (variables_of (numbering_of vars constants) xs))
   unfolding vars_of HasNumbers KernelHolds
   least_is m xs hm hs few = record {
     can_run = record {
-      variables = are_variables (size_of vars constants) (variables_of (length vars) constants (m ∷ xs)) (variables_inside vars constants (m ∷ xs) (one_more vars constants m xs hm hs));
+      variables = are_variables (size_of vars constants) (variables_of (numbering_of vars constants) (m ∷ xs)) (variables_inside vars constants (m ∷ xs) (one_more vars constants m xs hm hs));
       numbers = few;
     };
     meaning = λ a w.
-        iff_through (least_by_values (with_constants constants a) (variable_of (length vars) constants m) (variables_of (length vars) constants xs))
+        iff_through (least_by_values (with_constants constants a) (variable_of (numbering_of vars constants) m) (variables_of (numbering_of vars constants) xs))
         (both_same IsMinimum _ (value a m) _ (map (value a) xs) (value_is vars constants a w m hm) (values_are vars constants a w xs hs));
   }
 
   -- an array of a model isn't too long
-  pub entries_few : (es : List Scalar) → length es ≤ most_entries → length (variables_of (length vars) constants (terms_of es)) ≤ member_limit
+  pub entries_few : (es : List Scalar) → length es ≤ most_entries → length (variables_of (numbering_of vars constants) (terms_of es)) ≤ member_limit
   entries_few es h =
-      let e = length-map (terms_of es) (variable_of (length vars) constants) in
+      let e = length-map (terms_of es) (variable_of (numbering_of vars constants)) in
       let f = length-map es (λ s. s.term) in
-      few_members (length (variables_of (length vars) constants (terms_of es))) (omega arith)
+      few_members (length (variables_of (numbering_of vars constants) (terms_of es))) (omega arith)
 
   pub int_max : Law vars constants ConstraintName.IntMax (Letter.Integer ∷ Letter.Integer ∷ Letter.Integer ∷ [])
   unfolding row_of kernels_of HoldsOn

@@ -12,7 +12,7 @@ use Rattle.constraint_model.specs.declared.table.ConstraintName.{ConstraintName}
 use Rattle.constraint_model.specs.Fits.{constants_in, kernels_of, constraint_on}
 use Rattle.constraint_model.specs.Relations.{Holds, IsWithin}
 use Rattle.constraint_model.specs.WellFormed.{IsDeclaration}
-use Rattle.decompose.specs.Places.{AreFew}
+use Rattle.decompose.specs.Places.{numbering_of, AreFew}
 use Rattle.decompose.specs.Program.{with_constants}
 use Rattle.decompose.specs.Kernels.{kernels_on}
 
@@ -45,9 +45,9 @@ pub record MeansOne (vars : List VarDecl) (constants : List ℤ) (R : List ℤ �
 
 -- what is known of the declared variables
 pub record IsGiven (vars : List VarDecl) (constants : List ℤ) : Type 0 where
-  pub few : AreFew (length vars) constants
+  pub few : AreFew (numbering_of vars constants)
   pub declared : All IsDeclaration vars
 
 -- the kernels of a constraint of this name on these arguments
 abbrev pub RowMeans : List VarDecl → List ℤ → ConstraintName → List Meaning → Type 0
-RowMeans vars constants name ms = Means vars constants (constraint_on name ms) (kernels_on (length vars) constants (constraint_on name ms))
+RowMeans vars constants name ms = Means vars constants (constraint_on name ms) (kernels_on (numbering_of vars constants) (constraint_on name ms))

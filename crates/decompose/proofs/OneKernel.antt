@@ -21,6 +21,7 @@ use Rattle.constraint_model.specs.Numbers.{IsInProfile, largest}
 use Rattle.constraint_model.specs.Relations.{value, Holds, IsWithin, IsTrueNumber}
 use Rattle.decompose.specs.Program.{with_constants}
 use Rattle.decompose.specs.Kernels.{variable_of, variables_of}
+use Rattle.decompose.specs.Places.{numbering_of}
 use Rattle.decompose.proofs.Means.{HasVariable, Means, MeansOne, RowMeans, size_of}
 use Rattle.decompose.proofs.Served.{Law, IsServed, OneIs, at_integer, at_boolean, at_two, at_three}
 use Rattle.decompose.proofs.ConstantLaws.{variable_inside, variable_value, variable_values}
@@ -94,10 +95,10 @@ module _ (vars : List VarDecl) (constants : List ℤ) where
   -- ---- terms
 
   -- the variables of terms are the program's
-  pub variables_inside : (terms : List Term) → All Has terms → All (λ v. v < size_of vars constants) (variables_of (length vars) constants terms)
+  pub variables_inside : (terms : List Term) → All Has terms → All (λ v. v < size_of vars constants) (variables_of (numbering_of vars constants) terms)
   variables_inside terms h =
-      All-map (λ v. v < size_of vars constants) (variable_of (length vars) constants) terms
-      (All-weaker Has (λ t. variable_of (length vars) constants t < size_of vars constants) (variable_inside vars constants) terms h)
+      All-map (λ v. v < size_of vars constants) (variable_of (numbering_of vars constants)) terms
+      (All-weaker Has (λ t. variable_of (numbering_of vars constants) t < size_of vars constants) (variable_inside vars constants) terms h)
 
   pub one_more : (t : Term) (terms : List Term) → Has t → All Has terms → All Has (t ∷ terms)
   one_more t terms h hs = All-cons Has t terms h hs
@@ -110,15 +111,15 @@ module _ (vars : List VarDecl) (constants : List ℤ) where
 
   -- the value of a term's variable, and the values of terms' variables, are theirs
   module _ (a : List ℤ) (w : IsWithin a vars) where
-    pub value_is : (t : Term) → Has t → value_of (with_constants constants a) (variable_of (length vars) constants t) ≡ value a t
+    pub value_is : (t : Term) → Has t → value_of (with_constants constants a) (variable_of (numbering_of vars constants) t) ≡ value a t
     value_is t h = variable_value vars constants a (within_length a vars w) t h
 
-    pub values_are : (ts : List Term) → All Has ts → map (value_of (with_constants constants a)) (variables_of (length vars) constants ts) ≡ map (value a) ts
+    pub values_are : (ts : List Term) → All Has ts → map (value_of (with_constants constants a)) (variables_of (numbering_of vars constants) ts) ≡ map (value a) ts
     values_are ts h = variable_values vars constants a (within_length a vars w) ts h
 
     -- a literal of a term's variable, of either sign, says of the term's value what it says of numbers
     pub sign_means : (sign : Bool) (Q : ℤ → Type 0) → ((z : ℤ) → IsTrue (sign_true sign z) ↔ Q z) → (t : Term) → Has t
-        → IsTrue (sign_true sign (value_of (with_constants constants a) (variable_of (length vars) constants t))) ↔ Q (value a t)
+        → IsTrue (sign_true sign (value_of (with_constants constants a) (variable_of (numbering_of vars constants) t))) ↔ Q (value a t)
     sign_means sign Q sign_is t h = iff_through (sign_is _) (iff_same Q _ (value a t) (value_is t h))
 
   -- ---- one kernel

@@ -17,10 +17,10 @@ use Rattle.constraint_model.specs.Fits.{operand_of, LettersAreThose}
 use Rattle.constraint_model.specs.WellFormed.{IsTermOf, IsScalarOf, IsMeaningOf, IsConstraintOf, IsWellFormed, constants_of}
 use Rattle.decompose.specs.declared.program.Program.{Program}
 use Rattle.decompose.specs.Kernels.{kernels_on, kernels_of}
-use Rattle.decompose.specs.Places.{AreFew, IsDeclared, HasDeclared}
+use Rattle.decompose.specs.Places.{Numbering, numbering_of, IsDeclared, HasDeclared}
 use Rattle.decompose.specs.Program.{fixed_box, start_pairs, start_of, extended, Extends, IsProgramOf}
 use Rattle.decompose.proofs.StartLaws.{start_bounds, start_in_range, start_length, start_points}
-use Rattle.decompose.proofs.RowLaws.{MeansAll, is_given, program_means}
+use Rattle.decompose.proofs.RowLaws.{MeansAll, program_means}
 use Rattle.decompose.proofs.Means.{size_of}
 
 -- ---- the variables of a well-formed model's constraints are declared
@@ -68,24 +68,20 @@ module _ (model : FznModel) (vars : List VarDecl) (constants : List ℤ) (is_var
   pub pairs_in_range : IsWellFormed model → IsInRange (start_pairs vars constants)
   pairs_in_range f = subst IsInRange (sym same_start) (start_in_range model f)
 
-  module _ (count : ℕ) (is_count : count ≡ length vars) where
-    same_count : count ≡ length model.vars
-    same_count = is_count ∙ ap length is_vars
+  module _ (numbering : Numbering) (is_numbering : numbering ≡ numbering_of vars constants) where
+    same_numbering : numbering ≡ numbering_of model.vars (constants_of model)
+    same_numbering = is_numbering ∙ ap (λ v. numbering_of v constants) is_vars ∙ ap (numbering_of model.vars) is_constants
 
-    pub places_few : IsWellFormed model → AreFew count constants
-    places_few f = subst (λ ns. AreFew count ns) (sym is_constants) (subst (λ n. AreFew n (constants_of model)) (sym same_count) (is_given model f).few)
-
-    pub constraints_declared : (cs : List Constraint) → cs ≡ model.constraints → IsWellFormed model → All (HasAllDeclared count) cs
+    pub constraints_declared : (cs : List Constraint) → cs ≡ model.constraints → IsWellFormed model → All (HasAllDeclared numbering.count) cs
     constraints_declared cs e f =
-        subst (All (HasAllDeclared count)) (sym e) (subst (λ n. All (HasAllDeclared n) model.constraints) (sym same_count) (all_declared model.vars model.constraints f.constraints))
+        subst (All (HasAllDeclared numbering.count)) (sym e)
+        (subst (λ (n : Numbering). All (HasAllDeclared n.count) model.constraints) (sym same_numbering) (all_declared model.vars model.constraints f.constraints))
 
-    same_kernels : (cs : List Constraint) → cs ≡ model.constraints → flat_map (kernels_on count constants) cs ≡ kernels_of model
-    same_kernels cs e =
-        ap (λ n. flat_map (kernels_on n constants) cs) same_count ∙ ap (λ ns. flat_map (kernels_on (length model.vars) ns) cs) is_constants
-        ∙ ap (flat_map (kernels_on (length model.vars) (constants_of model))) e
+    same_kernels : (cs : List Constraint) → cs ≡ model.constraints → flat_map (kernels_on numbering) cs ≡ kernels_of model
+    same_kernels cs e = ap (λ n. flat_map (kernels_on n) cs) same_numbering ∙ ap (flat_map (kernels_on (numbering_of model.vars (constants_of model)))) e
 
     -- the parts, of the model's own variables, constants and constraints
-    pub program_of : (start : Bounds) (kernels : List Kernel) (cs : List Constraint) → cs ≡ model.constraints → start ≡ start_pairs vars constants → kernels ≡ flat_map (kernels_on count constants) cs
+    pub program_of : (start : Bounds) (kernels : List Kernel) (cs : List Constraint) → cs ≡ model.constraints → start ≡ start_pairs vars constants → kernels ≡ flat_map (kernels_on numbering) cs
         → LettersAreThose → IsWellFormed model → IsProgramOf model (record { start = start; kernels = kernels })
     program_of start kernels cs e s k letters f = by (s ∙ same_start) (k ∙ same_kernels cs e) (program_means model f letters)
       where

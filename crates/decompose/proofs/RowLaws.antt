@@ -14,6 +14,7 @@ use Rattle.constraint_model.specs.Relations.{Holds, IsWithin}
 use Rattle.constraint_model.specs.WellFormed.{IsConstraintOf, IsWellFormed, constants_of}
 use Rattle.decompose.specs.Program.{with_constants}
 use Rattle.decompose.specs.Kernels.{kernels_on, kernels_of}
+use Rattle.decompose.specs.Places.{numbering_of}
 use Rattle.decompose.proofs.Means.{HasConstants, Means, IsGiven, size_of}
 use Rattle.decompose.proofs.OneKernel.{all_parts}
 use Rattle.decompose.proofs.StartLaws.{constants_there}
@@ -27,7 +28,7 @@ pub record MeansAll (vars : List VarDecl) (constants : List ℤ) (cs : List Cons
 
 module _ (letters : LettersAreThose) (vars : List VarDecl) (constants : List ℤ) (given : IsGiven vars constants) where
   abbrev kernels_here : Constraint → List Kernel
-  kernels_here c = kernels_on (length vars) constants c
+  kernels_here c = kernels_on (numbering_of vars constants) c
 
   -- the kernels of a constraint in front of those of others
   means_more : (c : Constraint) (cs : List Constraint) (first rest : List Kernel) → Means vars constants c first → MeansAll vars constants cs rest → MeansAll vars constants (c ∷ cs) (first ++ rest)

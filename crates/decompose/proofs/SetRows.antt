@@ -25,6 +25,7 @@ use Rattle.constraint_model.specs.Relations.{value, HoldsOn, IsTrueNumber, IsWit
 use Rattle.constraint_model.specs.WellFormed.{IsMeaningOf}
 use Rattle.decompose.specs.Program.{with_constants}
 use Rattle.decompose.specs.Kernels.{variable_of, always, literal_of, row_of}
+use Rattle.decompose.specs.Places.{numbering_of}
 use Rattle.decompose.proofs.Means.{HasVariable, MeansOne, RowMeans, size_of}
 use Rattle.decompose.proofs.Served.{Law, at_integer, at_boolean, at_set, at_two, at_three}
 use Rattle.decompose.proofs.ConstantLaws.{variable_inside}
@@ -87,12 +88,12 @@ module _ (vars : List VarDecl) (constants : List ℤ) where
       → l.var < size_of vars constants
       → ((a : List ℤ) → IsWithin a vars → IsTrue (literal_true l (value_of (with_constants constants a) l.var)) ↔ P a)
       → HasVariable vars constants x → IsMeaningOf vars (Meaning.Set rs)
-      → MeansOne vars constants (λ a. P a ↔ IsIn rs (value a x)) (Kernel.InSet l (variable_of (length vars) constants x) rs)
+      → MeansOne vars constants (λ a. P a ↔ IsIn rs (value a x)) (Kernel.InSet l (variable_of (numbering_of vars constants) x) rs)
   unfolding vars_of HasNumbers KernelHolds
   membership_is P l x rs inside lit has set = record {
     can_run = record {
       variables =
-          let v = variable_of (length vars) constants x in
+          let v = variable_of (numbering_of vars constants) x in
           are_variables (size_of vars constants) (l.var ∷ v ∷ [])
           (all_two (λ v. v < size_of vars constants) l.var v inside (variable_inside vars constants x has));
       numbers = set_is rs set.0 set.1 set.2;
@@ -101,16 +102,16 @@ module _ (vars : List VarDecl) (constants : List ℤ) where
   }
 
   member_is : (x : Term) (rs : List Range) → HasVariable vars constants x → IsMeaningOf vars (Meaning.Set rs)
-      → MeansOne vars constants (λ a. IsIn rs (value a x)) (Kernel.InSet always (variable_of (length vars) constants x) rs)
+      → MeansOne vars constants (λ a. IsIn rs (value a x)) (Kernel.InSet always (variable_of (numbering_of vars constants) x) rs)
   member_is x rs has set =
-      same_meaning vars constants (λ a. Unit {0} ↔ IsIn rs (value a x)) (λ a. IsIn rs (value a x)) (Kernel.InSet always (variable_of (length vars) constants x) rs)
+      same_meaning vars constants (λ a. Unit {0} ↔ IsIn rs (value a x)) (λ a. IsIn rs (value a x)) (Kernel.InSet always (variable_of (numbering_of vars constants) x) rs)
       (membership_is (λ a. Unit {0}) always x rs (omega arith) (λ a w. (λ h. tt, λ u. refl)) has set)
       (λ a w. iff_true tt)
 
   reified_member_is : (x : Term) (rs : List Range) (r : Term) → HasVariable vars constants x → IsMeaningOf vars (Meaning.Set rs) → HasVariable vars constants r
-      → MeansOne vars constants (λ a. IsTrueNumber (value a r) ↔ IsIn rs (value a x)) (Kernel.InSet (literal_of (length vars) constants r) (variable_of (length vars) constants x) rs)
+      → MeansOne vars constants (λ a. IsTrueNumber (value a r) ↔ IsIn rs (value a x)) (Kernel.InSet (literal_of (numbering_of vars constants) r) (variable_of (numbering_of vars constants) x) rs)
   reified_member_is x rs r has set has_r =
-      membership_is (λ a. IsTrueNumber (value a r)) (literal_of (length vars) constants r) x rs (variable_inside vars constants r has_r) (λ a w. sign_means vars constants a w true IsTrueNumber positive_true r has_r) has set
+      membership_is (λ a. IsTrueNumber (value a r)) (literal_of (numbering_of vars constants) r) x rs (variable_inside vars constants r has_r) (λ a w. sign_means vars constants a w true IsTrueNumber positive_true r has_r) has set
 
   set_in_row : (s : Scalar) (rs : List Range) → HasVariable vars constants s.term → IsMeaningOf vars (Meaning.Set rs) → RowMeans vars constants ConstraintName.SetIn (Meaning.One s ∷ Meaning.Set rs ∷ [])
   unfolding row_of kernels_of HoldsOn

@@ -21,6 +21,7 @@ use Rattle.constraint_model.specs.Relations.{value, dot, IsWithin, IsTrueNumber}
 use Rattle.constraint_model.specs.WellFormed.{IsDeclaration, IsTermOf}
 use Rattle.decompose.specs.Program.{with_constants}
 use Rattle.decompose.specs.Kernels.{number_of, variable_of, variables_of, always, never, literal_of, opposite_of, difference, plain_sum, sum_less_third}
+use Rattle.decompose.specs.Places.{numbering_of}
 use Rattle.decompose.proofs.Means.{HasVariable, MeansOne, size_of}
 use Rattle.decompose.proofs.Served.{IsConstant}
 use Rattle.decompose.proofs.ConstantLaws.{variable_inside}
@@ -218,16 +219,16 @@ module _ (vars : List VarDecl) (constants : List ℤ) where
   -- the sum of these terms can be run, and has this relation to the limit exactly where S holds
   pub record IsSumOf (R : ℤ → ℤ → Type 0) (S : List ℤ → Type 0) (coeffs : List ℤ) (terms : List Term) (limit : ℤ) : Type 0 where
     pub has : All (HasVariable vars constants) terms
-    pub linear : IsLinear coeffs (variables_of (length vars) constants terms) limit
+    pub linear : IsLinear coeffs (variables_of (numbering_of vars constants) terms) limit
     pub meaning : (a : List ℤ) → IsWithin a vars → R (dot coeffs (map (value a) terms)) limit ↔ S a
 
   -- ---- sums of two and of three terms
 
   -- coefficients 1 and -1
   are_units : (n : ℕ) (coeffs : List ℤ) (terms : List Term) (limit : ℤ) → length coeffs ≡ n → length terms ≡ n → n ≤ 3 → All (λ z. unsigned_abs z ≤ 1) coeffs → unsigned_abs limit ≤ 1
-      → IsLinear coeffs (variables_of (length vars) constants terms) limit
+      → IsLinear coeffs (variables_of (numbering_of vars constants) terms) limit
   are_units n coeffs terms limit ec et few units small =
-      let places = length-map {B = ℕ} terms (variable_of (length vars) constants) in
+      let places = length-map {B = ℕ} terms (variable_of (numbering_of vars constants)) in
       record {
         same_length = omega arith;
         short = few_terms (length coeffs) (omega arith);
@@ -281,7 +282,7 @@ module _ (vars : List VarDecl) (constants : List ℤ) where
       has = has;
       linear =
           let lc = length-map {B = ℤ} cs number_of in
-          let lt = length-map {B = ℕ} ts (variable_of (length vars) constants) in
+          let lt = length-map {B = ℕ} ts (variable_of (numbering_of vars constants)) in
           record {
             same_length = omega arith;
             short = few_terms (length (map number_of cs)) (omega arith);
@@ -304,7 +305,7 @@ module _ (vars : List VarDecl) (constants : List ℤ) where
           let lc = length-map {B = ℤ} cs number_of in
           let ac = length-append (map number_of cs) (negsuc 0 ∷ []) in
           let at = length-append ts (total ∷ []) in
-          let lt = length-map {B = ℕ} (ts ++ total ∷ []) (variable_of (length vars) constants) in
+          let lt = length-map {B = ℕ} (ts ++ total ∷ []) (variable_of (numbering_of vars constants)) in
           record {
             same_length = omega arith;
             short = few_terms (length (map number_of cs ++ negsuc 0 ∷ [])) (omega arith);
@@ -331,41 +332,41 @@ module _ (vars : List VarDecl) (constants : List ℤ) where
     -- with a literal that is true where P holds: P holds exactly where S does
     sum_is : (P : List ℤ → Type 0) (l : Lit) → l.var < size_of vars constants
         → ((a : List ℤ) → IsWithin a vars → IsTrue (literal_true l (value_of (with_constants constants a) l.var)) ↔ P a)
-        → MeansOne vars constants (λ a. P a ↔ S a) (K l coeffs (variables_of (length vars) constants terms) limit)
+        → MeansOne vars constants (λ a. P a ↔ S a) (K l coeffs (variables_of (numbering_of vars constants) terms) limit)
     sum_is P l inside lit = record {
       can_run =
-          k.runs (size_of vars constants) l coeffs (variables_of (length vars) constants terms) limit
-          (All-cons (λ v. v < size_of vars constants) l.var (variables_of (length vars) constants terms) inside (variables_inside vars constants terms s.has)) s.linear;
+          k.runs (size_of vars constants) l coeffs (variables_of (numbering_of vars constants) terms) limit
+          (All-cons (λ v. v < size_of vars constants) l.var (variables_of (numbering_of vars constants) terms) inside (variables_inside vars constants terms s.has)) s.linear;
       meaning = λ a w.
           let numbers = with_constants constants a in
-          iff_through (k.holds l coeffs (variables_of (length vars) constants terms) limit numbers)
+          iff_through (k.holds l coeffs (variables_of (numbering_of vars constants) terms) limit numbers)
           (iff_both (lit a w)
           (iff_through
-          (iff_same (λ z. R z limit) (sum_over (term_value numbers) (zip coeffs (variables_of (length vars) constants terms))) (dot coeffs (map (value a) terms))
-          (sum_is_dot numbers coeffs (variables_of (length vars) constants terms) ∙ ap (dot coeffs) (values_are vars constants a w terms s.has)))
+          (iff_same (λ z. R z limit) (sum_over (term_value numbers) (zip coeffs (variables_of (numbering_of vars constants) terms))) (dot coeffs (map (value a) terms))
+          (sum_is_dot numbers coeffs (variables_of (numbering_of vars constants) terms) ∙ ap (dot coeffs) (values_are vars constants a w terms s.has)))
           (s.meaning a w)));
     }
 
     -- with the literal that is always true, and with the one that is always false
-    pub always_means : MeansOne vars constants S (K always coeffs (variables_of (length vars) constants terms) limit)
+    pub always_means : MeansOne vars constants S (K always coeffs (variables_of (numbering_of vars constants) terms) limit)
     always_means =
-        same_meaning vars constants (λ a. Unit {0} ↔ S a) S (K always coeffs (variables_of (length vars) constants terms) limit)
+        same_meaning vars constants (λ a. Unit {0} ↔ S a) S (K always coeffs (variables_of (numbering_of vars constants) terms) limit)
         (sum_is (λ a. Unit {0}) always (omega arith) (λ a w. (λ h. tt, λ u. refl)))
         (λ a w. iff_true tt)
 
-    pub never_means : MeansOne vars constants (λ a. S a → ⊥) (K never coeffs (variables_of (length vars) constants terms) limit)
+    pub never_means : MeansOne vars constants (λ a. S a → ⊥) (K never coeffs (variables_of (numbering_of vars constants) terms) limit)
     never_means =
-        same_meaning vars constants (λ a. ⊥ ↔ S a) (λ a. S a → ⊥) (K never coeffs (variables_of (length vars) constants terms) limit)
+        same_meaning vars constants (λ a. ⊥ ↔ S a) (λ a. S a → ⊥) (K never coeffs (variables_of (numbering_of vars constants) terms) limit)
         (sum_is (λ a. ⊥) never (omega arith) (λ a w. (λ h. let e : false ≡ true = h in cc, λ x. absurd x)))
         (λ a w. iff_false)
 
     -- with the literal of a boolean, and with its opposite
-    pub literal_means : (r : Term) → HasVariable vars constants r → MeansOne vars constants (λ a. IsTrueNumber (value a r) ↔ S a) (K (literal_of (length vars) constants r) coeffs (variables_of (length vars) constants terms) limit)
-    literal_means r has = sum_is (λ a. IsTrueNumber (value a r)) (literal_of (length vars) constants r) (variable_inside vars constants r has) (λ a w. sign_means vars constants a w true IsTrueNumber positive_true r has)
+    pub literal_means : (r : Term) → HasVariable vars constants r → MeansOne vars constants (λ a. IsTrueNumber (value a r) ↔ S a) (K (literal_of (numbering_of vars constants) r) coeffs (variables_of (numbering_of vars constants) terms) limit)
+    literal_means r has = sum_is (λ a. IsTrueNumber (value a r)) (literal_of (numbering_of vars constants) r) (variable_inside vars constants r has) (λ a w. sign_means vars constants a w true IsTrueNumber positive_true r has)
 
     pub opposite_means : ((x y : ℤ) → R x y ⊎ (R x y → ⊥)) → (r : Term) → HasVariable vars constants r
-        → MeansOne vars constants (λ a. IsTrueNumber (value a r) ↔ (S a → ⊥)) (K (opposite_of (length vars) constants r) coeffs (variables_of (length vars) constants terms) limit)
+        → MeansOne vars constants (λ a. IsTrueNumber (value a r) ↔ (S a → ⊥)) (K (opposite_of (numbering_of vars constants) r) coeffs (variables_of (numbering_of vars constants) terms) limit)
     opposite_means decide r has =
-        same_meaning vars constants (λ a. (IsTrueNumber (value a r) → ⊥) ↔ S a) (λ a. IsTrueNumber (value a r) ↔ (S a → ⊥)) (K (opposite_of (length vars) constants r) coeffs (variables_of (length vars) constants terms) limit)
-        (sum_is (λ a. IsTrueNumber (value a r) → ⊥) (opposite_of (length vars) constants r) (variable_inside vars constants r has) (λ a w. sign_means vars constants a w false (λ z. IsTrueNumber z → ⊥) negative_true r has))
+        same_meaning vars constants (λ a. (IsTrueNumber (value a r) → ⊥) ↔ S a) (λ a. IsTrueNumber (value a r) ↔ (S a → ⊥)) (K (opposite_of (numbering_of vars constants) r) coeffs (variables_of (numbering_of vars constants) terms) limit)
+        (sum_is (λ a. IsTrueNumber (value a r) → ⊥) (opposite_of (numbering_of vars constants) r) (variable_inside vars constants r has) (λ a w. sign_means vars constants a w false (λ z. IsTrueNumber z → ⊥) negative_true r has))
         (λ a w. iff_opposite (decide_true (value a r)) (decided (s.meaning a w) (decide (dot coeffs (map (value a) terms)) limit)))

@@ -1,5 +1,5 @@
 -- The kernels of every row of the table mean its constraint.
-use Rattle.std.proofs.Common.{◌≡◌, ℤ, Bool, true, false, cond, List, [], ◌∷◌, length, map, Some, refl, sym, ap, subst, ◌∙◌}
+use Rattle.std.proofs.Common.{◌≡◌, ℤ, Bool, true, false, cond, List, [], ◌∷◌, map, Some, refl, sym, ap, subst, ◌∙◌}
 use Rattle.std.specs.Prelude.{IsSome, find}
 use Rattle.std.specs.List.{All}
 use Rattle.std.proofs.lemmas.Bool.{and_parts}
@@ -12,6 +12,7 @@ use Rattle.constraint_model.specs.Table.{signatures}
 use Rattle.constraint_model.specs.Fits.{all_fit, has_equal_lengths, fits_row, row_for, operand_of, constraint_on, constants_at, constants_in, LettersAreThose}
 use Rattle.constraint_model.specs.WellFormed.{IsMeaningOf, IsConstraintOf}
 use Rattle.decompose.specs.Kernels.{kernels_on}
+use Rattle.decompose.specs.Places.{numbering_of}
 use Rattle.decompose.proofs.Means.{HasConstants, IsGiven, Means, RowMeans}
 use Rattle.decompose.proofs.Served.{AreThere, are_served, some_found, found_is, row_served, equal_lengths, Law}
 use Rattle.decompose.proofs.SumRows.{int_eq, int_ne, int_le, int_lt, int_lin_eq, int_lin_ne, int_lin_le, int_eq_reif, int_ne_reif, int_le_reif, int_lt_reif, int_lin_eq_reif, int_lin_ne_reif, int_lin_le_reif, int_plus, bool_to_int, bool_eq, bool_le, bool_lt, bool_eq_reif, bool_le_reif, bool_lt_reif, bool_not, bool_xor, bool_xor_reif, bool_lin_le, bool_lin_eq}
@@ -105,7 +106,7 @@ row_law letters vars constants given ConstraintName.BoolLinEq ms = by_law letter
 
 -- and so do those of every constraint of a model
 pub constraint_means : LettersAreThose → (vars : List VarDecl) (constants : List ℤ) → IsGiven vars constants → (c : Constraint) → IsConstraintOf vars c → HasConstants constants c
-    → Means vars constants c (kernels_on (length vars) constants c)
+    → Means vars constants c (kernels_on (numbering_of vars constants) c)
 constraint_means letters vars constants given c h there =
-    subst (λ (d : Constraint). Means vars constants d (kernels_on (length vars) constants d)) (sym h.is_on)
+    subst (λ (d : Constraint). Means vars constants d (kernels_on (numbering_of vars constants) d)) (sym h.is_on)
     (row_law letters vars constants given c.name h.meanings h.fits h.each (subst (HasConstants constants) h.is_on there))

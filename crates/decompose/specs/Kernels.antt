@@ -1,6 +1,6 @@
 -- Which kernels a program has: for each constraint those of its row of the table, in the model's order.
 -- (MiniZinc Handbook: FlatZinc builtins.)
-use Rattle.std.specs.Prelude.{ℕ, suc, ℤ, pos, negsuc, ◌+◌, List, [], ◌∷◌, ◌++◌, length, map, flat_map, true, false, not, if◌then◌else◌}
+use Rattle.std.specs.Prelude.{ℕ, suc, ℤ, pos, negsuc, ◌+◌, List, [], ◌∷◌, ◌++◌, map, flat_map, true, false, not, if◌then◌else◌}
 use Rattle.std.specs.List.{position_or_len}
 use Rattle.std.specs.Ordering.{int_eq}
 use Rattle.guarded_tell.specs.declared.tell.Lit.{Lit}
@@ -14,16 +14,17 @@ use Rattle.constraint_model.specs.declared.table.ConstraintName.{ConstraintName}
 use Rattle.constraint_model.specs.Ranges.{Range}
 use Rattle.constraint_model.specs.Relations.{value}
 use Rattle.constraint_model.specs.WellFormed.{constants_of}
+use Rattle.decompose.specs.Places.{Numbering, numbering_of}
 
--- ---- variables and literals, in a program of so many declared variables and with these constants
+-- ---- variables and literals, in a program whose variables are numbered so
 
 -- the variable of a term
-abbrev pub variable_of : ℕ → List ℤ → Term → ℕ
-variable_of count constants (Term.Number n) = if int_eq n (pos 1) then 0 else suc (count + position_or_len (int_eq n) constants)
-variable_of count constants (Term.Var v) = suc v
+abbrev pub variable_of : Numbering → Term → ℕ
+variable_of numbering (Term.Number n) = if int_eq n (pos 1) then 0 else suc (numbering.count + position_or_len (int_eq n) numbering.constants)
+variable_of numbering (Term.Var v) = suc v
 
-abbrev pub variables_of : ℕ → List ℤ → List Term → List ℕ
-variables_of count constants terms = map (variable_of count constants) terms
+abbrev pub variables_of : Numbering → List Term → List ℕ
+variables_of numbering terms = map (variable_of numbering) terms
 
 -- the number of a coefficient or a limit
 abbrev pub number_of : Term → ℤ
@@ -37,11 +38,11 @@ abbrev pub never : Lit
 never = record { var = 0; positive = false }
 
 -- the literal that is true where the boolean is, and the one that is true where it isn't
-abbrev pub literal_of : ℕ → List ℤ → Term → Lit
-literal_of count constants r = record { var = variable_of count constants r; positive = true }
+abbrev pub literal_of : Numbering → Term → Lit
+literal_of numbering r = record { var = variable_of numbering r; positive = true }
 
-abbrev pub opposite_of : ℕ → List ℤ → Term → Lit
-opposite_of count constants r = record { var = variable_of count constants r; positive = false }
+abbrev pub opposite_of : Numbering → Term → Lit
+opposite_of numbering r = record { var = variable_of numbering r; positive = false }
 
 abbrev pub negated : Lit → Lit
 negated l = record { var = l.var; positive = not l.positive }
@@ -49,11 +50,11 @@ negated l = record { var = l.var; positive = not l.positive }
 -- ---- kernels of terms
 
 -- the literal is true exactly where the sum of these terms is at most the limit, or is the limit
-abbrev pub inequality : ℕ → List ℤ → Lit → List ℤ → List Term → ℤ → List Kernel
-inequality count constants l coefficients terms limit = Kernel.Le l coefficients (variables_of count constants terms) limit ∷ []
+abbrev pub inequality : Numbering → Lit → List ℤ → List Term → ℤ → List Kernel
+inequality numbering l coefficients terms limit = Kernel.Le l coefficients (variables_of numbering terms) limit ∷ []
 
-abbrev pub equation : ℕ → List ℤ → Lit → List ℤ → List Term → ℤ → List Kernel
-equation count constants l coefficients terms limit = Kernel.Eq l coefficients (variables_of count constants terms) limit ∷ []
+abbrev pub equation : Numbering → Lit → List ℤ → List Term → ℤ → List Kernel
+equation numbering l coefficients terms limit = Kernel.Eq l coefficients (variables_of numbering terms) limit ∷ []
 
 -- the coefficients of x - y, of x + y and of x + y - z
 abbrev pub difference : List ℤ
@@ -70,15 +71,15 @@ abbrev pub some_of : Lit → List Lit → List Kernel
 some_of l others = map (λ k. Kernel.Clause (l ∷ negated k ∷ [])) others ++ Kernel.Clause (negated l ∷ others) ∷ []
 
 -- r is true exactly where some of these is; or exactly where all are, so that it isn't exactly where some isn't
-abbrev pub disjunction : ℕ → List ℤ → List Term → Term → List Kernel
-disjunction count constants terms r = some_of (literal_of count constants r) (map (literal_of count constants) terms)
+abbrev pub disjunction : Numbering → List Term → Term → List Kernel
+disjunction numbering terms r = some_of (literal_of numbering r) (map (literal_of numbering) terms)
 
-abbrev pub conjunction : ℕ → List ℤ → List Term → Term → List Kernel
-conjunction count constants terms r = some_of (opposite_of count constants r) (map (opposite_of count constants) terms)
+abbrev pub conjunction : Numbering → List Term → Term → List Kernel
+conjunction numbering terms r = some_of (opposite_of numbering r) (map (opposite_of numbering) terms)
 
 -- one of the first is true or one of the second isn't
-abbrev pub clause_literals : ℕ → List ℤ → List Term → List Term → List Lit
-clause_literals count constants positives negatives = map (literal_of count constants) positives ++ map (opposite_of count constants) negatives
+abbrev pub clause_literals : Numbering → List Term → List Term → List Lit
+clause_literals numbering positives negatives = map (literal_of numbering) positives ++ map (opposite_of numbering) negatives
 
 -- ---- the arguments that a row takes; other arguments have no kernels
 
@@ -141,58 +142,58 @@ on_two_or_three two three _ = []
 
 -- x = y is x - y = 0, x <= y is x - y <= 0, and x < y is x - y <= -1; a relation that must not hold has the literal that is
 -- always false, or the opposite of the boolean
-unfoldable pub row_of : ℕ → List ℤ → ConstraintName → List Operand → List Kernel
-row_of n k ConstraintName.IntEq = on_two (λ x y. equation n k always difference (x ∷ y ∷ []) (pos 0))
-row_of n k ConstraintName.IntNe = on_two (λ x y. equation n k never difference (x ∷ y ∷ []) (pos 0))
-row_of n k ConstraintName.IntLe = on_two (λ x y. inequality n k always difference (x ∷ y ∷ []) (pos 0))
-row_of n k ConstraintName.IntLt = on_two (λ x y. inequality n k always difference (x ∷ y ∷ []) (negsuc 0))
-row_of n k ConstraintName.IntLinEq = on_sum (λ cs xs c. equation n k always cs xs c)
-row_of n k ConstraintName.IntLinNe = on_sum (λ cs xs c. equation n k never cs xs c)
-row_of n k ConstraintName.IntLinLe = on_sum (λ cs xs c. inequality n k always cs xs c)
-row_of n k ConstraintName.IntEqReif = on_three (λ x y r. equation n k (literal_of n k r) difference (x ∷ y ∷ []) (pos 0))
-row_of n k ConstraintName.IntNeReif = on_three (λ x y r. equation n k (opposite_of n k r) difference (x ∷ y ∷ []) (pos 0))
-row_of n k ConstraintName.IntLeReif = on_three (λ x y r. inequality n k (literal_of n k r) difference (x ∷ y ∷ []) (pos 0))
-row_of n k ConstraintName.IntLtReif = on_three (λ x y r. inequality n k (literal_of n k r) difference (x ∷ y ∷ []) (negsuc 0))
-row_of n k ConstraintName.IntLinEqReif = on_reified_sum (λ cs xs c r. equation n k (literal_of n k r) cs xs c)
-row_of n k ConstraintName.IntLinNeReif = on_reified_sum (λ cs xs c r. equation n k (opposite_of n k r) cs xs c)
-row_of n k ConstraintName.IntLinLeReif = on_reified_sum (λ cs xs c r. inequality n k (literal_of n k r) cs xs c)
-row_of n k ConstraintName.IntPlus = on_three (λ x y z. equation n k always sum_less_third (x ∷ y ∷ z ∷ []) (pos 0))
-row_of n k ConstraintName.IntTimes = on_three (λ x y z. Kernel.Times (variable_of n k x) (variable_of n k y) (variable_of n k z) ∷ [])
-row_of n k ConstraintName.IntDiv = on_three (λ x y z. Kernel.Div (variable_of n k x) (variable_of n k y) (variable_of n k z) ∷ [])
-row_of n k ConstraintName.IntMod = on_three (λ x y z. Kernel.Mod (variable_of n k x) (variable_of n k y) (variable_of n k z) ∷ [])
-row_of n k ConstraintName.IntAbs = on_two (λ x y. Kernel.Abs (variable_of n k x) (variable_of n k y) ∷ [])
-row_of n k ConstraintName.IntMax = on_three (λ x y m. Kernel.Max (variable_of n k m) (variables_of n k (x ∷ y ∷ [])) ∷ [])
-row_of n k ConstraintName.IntMin = on_three (λ x y m. Kernel.Min (variable_of n k m) (variables_of n k (x ∷ y ∷ [])) ∷ [])
-row_of n k ConstraintName.ArrayIntMaximum = on_one_of_row (λ m xs. Kernel.Max (variable_of n k m) (variables_of n k xs) ∷ [])
-row_of n k ConstraintName.ArrayIntMinimum = on_one_of_row (λ m xs. Kernel.Min (variable_of n k m) (variables_of n k xs) ∷ [])
-row_of n k ConstraintName.ArrayIntElement = on_entry (λ x xs c. Kernel.Element (variable_of n k x) (variables_of n k xs) (variable_of n k c) ∷ [])
-row_of n k ConstraintName.ArrayVarIntElement = on_entry (λ x xs c. Kernel.Element (variable_of n k x) (variables_of n k xs) (variable_of n k c) ∷ [])
-row_of n k ConstraintName.ArrayBoolElement = on_entry (λ x xs c. Kernel.Element (variable_of n k x) (variables_of n k xs) (variable_of n k c) ∷ [])
-row_of n k ConstraintName.ArrayVarBoolElement = on_entry (λ x xs c. Kernel.Element (variable_of n k x) (variables_of n k xs) (variable_of n k c) ∷ [])
-row_of n k ConstraintName.SetIn = on_set (λ x s. Kernel.InSet always (variable_of n k x) s ∷ [])
-row_of n k ConstraintName.SetInReif = on_reified_set (λ x s r. Kernel.InSet (literal_of n k r) (variable_of n k x) s ∷ [])
-row_of n k ConstraintName.BoolToInt = on_two (λ x y. equation n k always difference (x ∷ y ∷ []) (pos 0))
-row_of n k ConstraintName.BoolEq = on_two (λ x y. equation n k always difference (x ∷ y ∷ []) (pos 0))
-row_of n k ConstraintName.BoolLe = on_two (λ x y. inequality n k always difference (x ∷ y ∷ []) (pos 0))
-row_of n k ConstraintName.BoolLt = on_two (λ x y. inequality n k always difference (x ∷ y ∷ []) (negsuc 0))
-row_of n k ConstraintName.BoolEqReif = on_three (λ x y r. equation n k (literal_of n k r) difference (x ∷ y ∷ []) (pos 0))
-row_of n k ConstraintName.BoolLeReif = on_three (λ x y r. inequality n k (literal_of n k r) difference (x ∷ y ∷ []) (pos 0))
-row_of n k ConstraintName.BoolLtReif = on_three (λ x y r. inequality n k (literal_of n k r) difference (x ∷ y ∷ []) (negsuc 0))
-row_of n k ConstraintName.BoolNot = on_two (λ x y. equation n k always plain_sum (x ∷ y ∷ []) (pos 1))
-row_of n k ConstraintName.BoolXor = on_two_or_three (λ x y. equation n k always plain_sum (x ∷ y ∷ []) (pos 1)) (λ x y r. equation n k (opposite_of n k r) difference (x ∷ y ∷ []) (pos 0))
-row_of n k ConstraintName.BoolAnd = on_three (λ x y r. conjunction n k (x ∷ y ∷ []) r)
-row_of n k ConstraintName.BoolOr = on_three (λ x y r. disjunction n k (x ∷ y ∷ []) r)
-row_of n k ConstraintName.ArrayBoolAnd = on_row (λ xs r. conjunction n k xs r)
-row_of n k ConstraintName.ArrayBoolOr = on_row (λ xs r. disjunction n k xs r)
-row_of n k ConstraintName.BoolClause = on_rows (λ xs ys. Kernel.Clause (clause_literals n k xs ys) ∷ [])
-row_of n k ConstraintName.BoolClauseReif = on_reified_rows (λ xs ys r. some_of (literal_of n k r) (clause_literals n k xs ys))
-row_of n k ConstraintName.BoolLinLe = on_sum (λ cs xs c. inequality n k always cs xs c)
-row_of n k ConstraintName.BoolLinEq = on_equal_sum (λ cs xs c. equation n k always (cs ++ negsuc 0 ∷ []) (xs ++ c ∷ []) (pos 0))
+unfoldable pub row_of : Numbering → ConstraintName → List Operand → List Kernel
+row_of n ConstraintName.IntEq = on_two (λ x y. equation n always difference (x ∷ y ∷ []) (pos 0))
+row_of n ConstraintName.IntNe = on_two (λ x y. equation n never difference (x ∷ y ∷ []) (pos 0))
+row_of n ConstraintName.IntLe = on_two (λ x y. inequality n always difference (x ∷ y ∷ []) (pos 0))
+row_of n ConstraintName.IntLt = on_two (λ x y. inequality n always difference (x ∷ y ∷ []) (negsuc 0))
+row_of n ConstraintName.IntLinEq = on_sum (λ cs xs c. equation n always cs xs c)
+row_of n ConstraintName.IntLinNe = on_sum (λ cs xs c. equation n never cs xs c)
+row_of n ConstraintName.IntLinLe = on_sum (λ cs xs c. inequality n always cs xs c)
+row_of n ConstraintName.IntEqReif = on_three (λ x y r. equation n (literal_of n r) difference (x ∷ y ∷ []) (pos 0))
+row_of n ConstraintName.IntNeReif = on_three (λ x y r. equation n (opposite_of n r) difference (x ∷ y ∷ []) (pos 0))
+row_of n ConstraintName.IntLeReif = on_three (λ x y r. inequality n (literal_of n r) difference (x ∷ y ∷ []) (pos 0))
+row_of n ConstraintName.IntLtReif = on_three (λ x y r. inequality n (literal_of n r) difference (x ∷ y ∷ []) (negsuc 0))
+row_of n ConstraintName.IntLinEqReif = on_reified_sum (λ cs xs c r. equation n (literal_of n r) cs xs c)
+row_of n ConstraintName.IntLinNeReif = on_reified_sum (λ cs xs c r. equation n (opposite_of n r) cs xs c)
+row_of n ConstraintName.IntLinLeReif = on_reified_sum (λ cs xs c r. inequality n (literal_of n r) cs xs c)
+row_of n ConstraintName.IntPlus = on_three (λ x y z. equation n always sum_less_third (x ∷ y ∷ z ∷ []) (pos 0))
+row_of n ConstraintName.IntTimes = on_three (λ x y z. Kernel.Times (variable_of n x) (variable_of n y) (variable_of n z) ∷ [])
+row_of n ConstraintName.IntDiv = on_three (λ x y z. Kernel.Div (variable_of n x) (variable_of n y) (variable_of n z) ∷ [])
+row_of n ConstraintName.IntMod = on_three (λ x y z. Kernel.Mod (variable_of n x) (variable_of n y) (variable_of n z) ∷ [])
+row_of n ConstraintName.IntAbs = on_two (λ x y. Kernel.Abs (variable_of n x) (variable_of n y) ∷ [])
+row_of n ConstraintName.IntMax = on_three (λ x y m. Kernel.Max (variable_of n m) (variables_of n (x ∷ y ∷ [])) ∷ [])
+row_of n ConstraintName.IntMin = on_three (λ x y m. Kernel.Min (variable_of n m) (variables_of n (x ∷ y ∷ [])) ∷ [])
+row_of n ConstraintName.ArrayIntMaximum = on_one_of_row (λ m xs. Kernel.Max (variable_of n m) (variables_of n xs) ∷ [])
+row_of n ConstraintName.ArrayIntMinimum = on_one_of_row (λ m xs. Kernel.Min (variable_of n m) (variables_of n xs) ∷ [])
+row_of n ConstraintName.ArrayIntElement = on_entry (λ x xs c. Kernel.Element (variable_of n x) (variables_of n xs) (variable_of n c) ∷ [])
+row_of n ConstraintName.ArrayVarIntElement = on_entry (λ x xs c. Kernel.Element (variable_of n x) (variables_of n xs) (variable_of n c) ∷ [])
+row_of n ConstraintName.ArrayBoolElement = on_entry (λ x xs c. Kernel.Element (variable_of n x) (variables_of n xs) (variable_of n c) ∷ [])
+row_of n ConstraintName.ArrayVarBoolElement = on_entry (λ x xs c. Kernel.Element (variable_of n x) (variables_of n xs) (variable_of n c) ∷ [])
+row_of n ConstraintName.SetIn = on_set (λ x s. Kernel.InSet always (variable_of n x) s ∷ [])
+row_of n ConstraintName.SetInReif = on_reified_set (λ x s r. Kernel.InSet (literal_of n r) (variable_of n x) s ∷ [])
+row_of n ConstraintName.BoolToInt = on_two (λ x y. equation n always difference (x ∷ y ∷ []) (pos 0))
+row_of n ConstraintName.BoolEq = on_two (λ x y. equation n always difference (x ∷ y ∷ []) (pos 0))
+row_of n ConstraintName.BoolLe = on_two (λ x y. inequality n always difference (x ∷ y ∷ []) (pos 0))
+row_of n ConstraintName.BoolLt = on_two (λ x y. inequality n always difference (x ∷ y ∷ []) (negsuc 0))
+row_of n ConstraintName.BoolEqReif = on_three (λ x y r. equation n (literal_of n r) difference (x ∷ y ∷ []) (pos 0))
+row_of n ConstraintName.BoolLeReif = on_three (λ x y r. inequality n (literal_of n r) difference (x ∷ y ∷ []) (pos 0))
+row_of n ConstraintName.BoolLtReif = on_three (λ x y r. inequality n (literal_of n r) difference (x ∷ y ∷ []) (negsuc 0))
+row_of n ConstraintName.BoolNot = on_two (λ x y. equation n always plain_sum (x ∷ y ∷ []) (pos 1))
+row_of n ConstraintName.BoolXor = on_two_or_three (λ x y. equation n always plain_sum (x ∷ y ∷ []) (pos 1)) (λ x y r. equation n (opposite_of n r) difference (x ∷ y ∷ []) (pos 0))
+row_of n ConstraintName.BoolAnd = on_three (λ x y r. conjunction n (x ∷ y ∷ []) r)
+row_of n ConstraintName.BoolOr = on_three (λ x y r. disjunction n (x ∷ y ∷ []) r)
+row_of n ConstraintName.ArrayBoolAnd = on_row (λ xs r. conjunction n xs r)
+row_of n ConstraintName.ArrayBoolOr = on_row (λ xs r. disjunction n xs r)
+row_of n ConstraintName.BoolClause = on_rows (λ xs ys. Kernel.Clause (clause_literals n xs ys) ∷ [])
+row_of n ConstraintName.BoolClauseReif = on_reified_rows (λ xs ys r. some_of (literal_of n r) (clause_literals n xs ys))
+row_of n ConstraintName.BoolLinLe = on_sum (λ cs xs c. inequality n always cs xs c)
+row_of n ConstraintName.BoolLinEq = on_equal_sum (λ cs xs c. equation n always (cs ++ negsuc 0 ∷ []) (xs ++ c ∷ []) (pos 0))
 
 -- the kernels of a constraint
-abbrev pub kernels_on : ℕ → List ℤ → Constraint → List Kernel
-kernels_on count constants constraint = row_of count constants constraint.name constraint.operands
+abbrev pub kernels_on : Numbering → Constraint → List Kernel
+kernels_on numbering constraint = row_of numbering constraint.name constraint.operands
 
 -- the kernels of the constraints, in the model's order
 abbrev pub kernels_of : FznModel → List Kernel
-kernels_of model = flat_map (kernels_on (length model.vars) (constants_of model)) model.constraints
+kernels_of model = flat_map (kernels_on (numbering_of model.vars (constants_of model))) model.constraints

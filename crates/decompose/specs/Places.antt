@@ -1,14 +1,25 @@
--- What the variables of a program are numbered for: few declared variables and constants, and terms that are among them.
+-- What the variables of a program are numbered by: its declared variables and constants, which are few, and terms that are
+-- among them.
 use Rattle.std.specs.Prelude.{ℕ, ℤ, ◌<◌, ◌≤◌, List, length}
 use Rattle.std.specs.List.{All}
 use Rattle.constraint_model.specs.declared.model.Term.{Term}
 use Rattle.constraint_model.specs.declared.model.Operand.{Operand}
+use Rattle.constraint_model.specs.declared.model.VarDecl.{VarDecl}
 use Rattle.constraint_model.specs.Limits.{most_vars, most_constants}
 
--- so few declared variables and constants that each has a number
-pub record AreFew (count : ℕ) (constants : List ℤ) : Type 0 where
-  pub vars_fit : count ≤ most_vars
-  pub constants_fit : length constants ≤ most_constants
+-- how many variables are declared, and the constants other than 1 in the order of their variables
+pub record Numbering : Type 0 where
+  pub count : ℕ
+  pub constants : List ℤ
+
+-- the numbering by these declared variables and constants
+abbrev pub numbering_of : List VarDecl → List ℤ → Numbering
+numbering_of vars constants = record { count = length vars; constants = constants }
+
+-- so few of both that each has a number
+pub record AreFew (numbering : Numbering) : Type 0 where
+  pub vars_fit : numbering.count ≤ most_vars
+  pub constants_fit : length numbering.constants ≤ most_constants
 
 -- a variable is a declared one
 abbrev pub IsDeclared : ℕ → Term → Type 0

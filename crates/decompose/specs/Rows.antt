@@ -4,27 +4,28 @@ use Rattle.guarded_tell.specs.declared.tell.Lit.{Lit}
 use Rattle.guarded_tell.specs.declared.kernel.Kernel.{Kernel}
 use Rattle.constraint_model.specs.declared.model.Term.{Term}
 use Rattle.decompose.specs.Kernels.{variable_of, variables_of, inequality, equation, some_of}
+use Rattle.decompose.specs.Places.{Numbering}
 use Rattle.decompose.specs.declared.sums.Relation.{Relation}
 use Rattle.decompose.specs.declared.comparisons.Comparison.{Comparison}
 use Rattle.decompose.specs.declared.terms.Operation.{Operation}
 use Rattle.decompose.specs.declared.terms.Extreme.{Extreme}
 
 -- the literal that is true where the boolean is, or where it isn't
-abbrev pub literal_at : ℕ → List ℤ → Bool → Term → Lit
-literal_at count constants positive r = record { var = variable_of count constants r; positive = positive }
+abbrev pub literal_at : Numbering → Bool → Term → Lit
+literal_at numbering positive r = record { var = variable_of numbering r; positive = positive }
 
 -- the literal is true exactly where the sum is at most the limit, or is the limit
-abbrev pub sum_kernel : Relation → ℕ → List ℤ → Lit → List ℤ → List Term → ℤ → List Kernel
-sum_kernel Relation.AtMost count constants l coefficients terms limit = inequality count constants l coefficients terms limit
-sum_kernel Relation.Equal count constants l coefficients terms limit = equation count constants l coefficients terms limit
+abbrev pub sum_kernel : Relation → Numbering → Lit → List ℤ → List Term → ℤ → List Kernel
+sum_kernel Relation.AtMost numbering l coefficients terms limit = inequality numbering l coefficients terms limit
+sum_kernel Relation.Equal numbering l coefficients terms limit = equation numbering l coefficients terms limit
 
 -- the literal is true exactly where two terms compare so
-abbrev pub compared : Comparison → ℕ → List ℤ → Lit → Term → Term → List Kernel
-compared c count constants l x y = sum_kernel c.relation count constants l (pos 1 ∷ c.sign ∷ []) (x ∷ y ∷ []) c.limit
+abbrev pub compared : Comparison → Numbering → Lit → Term → Term → List Kernel
+compared c numbering l x y = sum_kernel c.relation numbering l (pos 1 ∷ c.sign ∷ []) (x ∷ y ∷ []) c.limit
 
 -- the literal of r is true exactly where one of those of the terms is
-abbrev pub joined : ℕ → List ℤ → Bool → List Term → Term → List Kernel
-joined count constants positive terms r = some_of (literal_at count constants positive r) (map (literal_at count constants positive) terms)
+abbrev pub joined : Numbering → Bool → List Term → Term → List Kernel
+joined numbering positive terms r = some_of (literal_at numbering positive r) (map (literal_at numbering positive) terms)
 
 -- a variable, or a term, is the product, the quotient or the remainder of two others
 abbrev pub operation_on : Operation → ℕ → ℕ → ℕ → Kernel
@@ -32,10 +33,10 @@ operation_on Operation.Product x y z = Kernel.Times x y z
 operation_on Operation.Quotient x y z = Kernel.Div x y z
 operation_on Operation.Remainder x y z = Kernel.Mod x y z
 
-abbrev pub operation_kernel : Operation → ℕ → List ℤ → Term → Term → Term → List Kernel
-operation_kernel operation count constants x y z = operation_on operation (variable_of count constants x) (variable_of count constants y) (variable_of count constants z) ∷ []
+abbrev pub operation_kernel : Operation → Numbering → Term → Term → Term → List Kernel
+operation_kernel operation numbering x y z = operation_on operation (variable_of numbering x) (variable_of numbering y) (variable_of numbering z) ∷ []
 
 -- a term is the greatest or the least of some
-abbrev pub extreme_kernel : Extreme → ℕ → List ℤ → Term → List Term → List Kernel
-extreme_kernel Extreme.Greatest count constants m terms = Kernel.Max (variable_of count constants m) (variables_of count constants terms) ∷ []
-extreme_kernel Extreme.Least count constants m terms = Kernel.Min (variable_of count constants m) (variables_of count constants terms) ∷ []
+abbrev pub extreme_kernel : Extreme → Numbering → Term → List Term → List Kernel
+extreme_kernel Extreme.Greatest numbering m terms = Kernel.Max (variable_of numbering m) (variables_of numbering terms) ∷ []
+extreme_kernel Extreme.Least numbering m terms = Kernel.Min (variable_of numbering m) (variables_of numbering terms) ∷ []

@@ -3,7 +3,7 @@
 ghost use Rattle.std.specs.Prelude.{◌≡◌, ◌++◌, [], ◌∷◌, map, not, All, IfOk, OnOk};
 ghost use Rattle.constraint_model.specs.declared.table.ConstraintName.{ConstraintName};
 ghost use Rattle.decompose.specs.Kernels.{negated, literal_of, some_of, row_of, on_three, on_row, clause_literals};
-ghost use Rattle.decompose.specs.Places.{AreFew, IsDeclared, HasDeclared};
+ghost use Rattle.decompose.specs.Places.{IsDeclared, HasDeclared};
 ghost use Rattle.decompose.specs.Rows.{literal_at, joined};
 
 use crate::places::Places;
@@ -40,9 +40,8 @@ fn add_implications(
     booleans: &[Term],
     kernels: &mut ListOf<Kernel>,
 ) -> Result<(), AllocError>
-    requires few { AreFew places.now.count places.now.constants.keys }
-    requires declared { All (IsDeclared places.now.count) booleans.now }
-    ensures { OnOk result (kernels.new ≡ kernels.old ++ map (λ t. Kernel.Clause (lit ∷ negated (literal_at places.now.count places.now.constants.keys positive t) ∷ [])) booleans.now) }
+    requires { All (IsDeclared places.now.count) booleans.now }
+    ensures { OnOk result (kernels.new ≡ kernels.old ++ map (λ t. Kernel.Clause (lit ∷ negated (literal_at places.now positive t) ∷ [])) booleans.now) }
 {
     for boolean in booleans {
         let premise = places.literal(positive, *boolean);
@@ -61,10 +60,9 @@ fn add_joined(
     r: Term,
     kernels: &mut ListOf<Kernel>,
 ) -> Result<(), AllocError>
-    requires few { AreFew places.now.count places.now.constants.keys }
     requires declared { All (IsDeclared places.now.count) booleans.now }
     requires declared_r { IsDeclared places.now.count r }
-    ensures { OnOk result (kernels.new ≡ kernels.old ++ joined places.now.count places.now.constants.keys positive booleans.now r) }
+    ensures { OnOk result (kernels.new ≡ kernels.old ++ joined places.now positive booleans.now r) }
 {
     let lit = places.literal(positive, r);
     add_implications(alloc, places, lit, positive, booleans, kernels)?;
@@ -77,7 +75,8 @@ fn add_joined(
     Ok(())
 }
 
-/// Adds the kernels of r where it is true exactly where two booleans are, or where one of them is.
+/// Adds the kernels of a boolean that is true exactly where one of two others is, or that isn't exactly where one of them
+/// isn't.
 pub(crate) fn joined_two(
     alloc: Global,
     places: &Places,
@@ -85,9 +84,8 @@ pub(crate) fn joined_two(
     operands: &[Operand],
     kernels: &mut ListOf<Kernel>,
 ) -> Result<(), AllocError>
-    requires few { AreFew places.now.count places.now.constants.keys }
-    requires declared { All (HasDeclared places.now.count) operands.now }
-    ensures { OnOk result (kernels.new ≡ kernels.old ++ on_three (λ x y r. joined places.now.count places.now.constants.keys positive (x ∷ y ∷ []) r) operands.now) }
+    requires { All (HasDeclared places.now.count) operands.now }
+    ensures { OnOk result (kernels.new ≡ kernels.old ++ on_three (λ x y r. joined places.now positive (x ∷ y ∷ []) r) operands.now) }
 {
     match operands {
         [Operand::One(x), Operand::One(y), Operand::One(r)] => {
@@ -97,7 +95,7 @@ pub(crate) fn joined_two(
     }
 }
 
-/// Adds the kernels of r where it is true exactly where all booleans of an array are, or where one of them is.
+/// Adds such kernels, of the booleans of an array.
 pub(crate) fn joined_row(
     alloc: Global,
     places: &Places,
@@ -105,9 +103,8 @@ pub(crate) fn joined_row(
     operands: &[Operand],
     kernels: &mut ListOf<Kernel>,
 ) -> Result<(), AllocError>
-    requires few { AreFew places.now.count places.now.constants.keys }
-    requires declared { All (HasDeclared places.now.count) operands.now }
-    ensures { OnOk result (kernels.new ≡ kernels.old ++ on_row (λ xs r. joined places.now.count places.now.constants.keys positive xs r) operands.now) }
+    requires { All (HasDeclared places.now.count) operands.now }
+    ensures { OnOk result (kernels.new ≡ kernels.old ++ on_row (λ xs r. joined places.now positive xs r) operands.now) }
 {
     match operands {
         [Operand::Row(terms), Operand::One(r)] => {
@@ -124,10 +121,9 @@ fn add_clause_literals(
     negatives: &[Term],
     literals: &mut Vec<Lit>,
 ) -> Result<(), AllocError>
-    requires few { AreFew places.now.count places.now.constants.keys }
     requires declared_positives { All (IsDeclared places.now.count) positives.now }
     requires declared_negatives { All (IsDeclared places.now.count) negatives.now }
-    ensures { OnOk result (literals.new.items ≡ literals.old.items ++ clause_literals places.now.count places.now.constants.keys positives.now negatives.now) }
+    ensures { OnOk result (literals.new.items ≡ literals.old.items ++ clause_literals places.now positives.now negatives.now) }
 {
     places.add_literals(true, positives, literals)?;
     places.add_literals(false, negatives, literals)
@@ -141,10 +137,9 @@ fn add_clause(
     negatives: &[Term],
     kernels: &mut ListOf<Kernel>,
 ) -> Result<(), AllocError>
-    requires few { AreFew places.now.count places.now.constants.keys }
     requires declared_positives { All (IsDeclared places.now.count) positives.now }
     requires declared_negatives { All (IsDeclared places.now.count) negatives.now }
-    ensures { OnOk result (kernels.new ≡ kernels.old ++ Kernel.Clause (clause_literals places.now.count places.now.constants.keys positives.now negatives.now) ∷ []) }
+    ensures { OnOk result (kernels.new ≡ kernels.old ++ Kernel.Clause (clause_literals places.now positives.now negatives.now) ∷ []) }
 {
     let mut literals = Vec::with_capacity(alloc, positives.len() + negatives.len())?;
     add_clause_literals(places, positives, negatives, &mut literals)?;
@@ -162,9 +157,8 @@ pub(crate) fn clause(
     operands: &[Operand],
     kernels: &mut ListOf<Kernel>,
 ) -> Result<(), AllocError>
-    requires few { AreFew places.now.count places.now.constants.keys }
-    requires declared { All (HasDeclared places.now.count) operands.now }
-    ensures { OnOk result (kernels.new ≡ kernels.old ++ row_of places.now.count places.now.constants.keys ConstraintName.BoolClause operands.now) }
+    requires { All (HasDeclared places.now.count) operands.now }
+    ensures { OnOk result (kernels.new ≡ kernels.old ++ row_of places.now ConstraintName.BoolClause operands.now) }
 {
     match operands {
         [Operand::Row(positives), Operand::Row(negatives)] => {
@@ -189,11 +183,10 @@ fn add_clause_reified(
     r: Term,
     kernels: &mut ListOf<Kernel>,
 ) -> Result<(), AllocError>
-    requires few { AreFew places.now.count places.now.constants.keys }
     requires declared_positives { All (IsDeclared places.now.count) positives.now }
     requires declared_negatives { All (IsDeclared places.now.count) negatives.now }
     requires declared_r { IsDeclared places.now.count r }
-    ensures { OnOk result (kernels.new ≡ kernels.old ++ some_of (literal_of places.now.count places.now.constants.keys r) (clause_literals places.now.count places.now.constants.keys positives.now negatives.now)) }
+    ensures { OnOk result (kernels.new ≡ kernels.old ++ some_of (literal_of places.now r) (clause_literals places.now positives.now negatives.now)) }
 {
     let lit = places.literal(true, r);
     add_implications(alloc, places, lit, true, positives, kernels)?;
@@ -215,9 +208,8 @@ pub(crate) fn clause_reified(
     operands: &[Operand],
     kernels: &mut ListOf<Kernel>,
 ) -> Result<(), AllocError>
-    requires few { AreFew places.now.count places.now.constants.keys }
-    requires declared { All (HasDeclared places.now.count) operands.now }
-    ensures { OnOk result (kernels.new ≡ kernels.old ++ row_of places.now.count places.now.constants.keys ConstraintName.BoolClauseReif operands.now) }
+    requires { All (HasDeclared places.now.count) operands.now }
+    ensures { OnOk result (kernels.new ≡ kernels.old ++ row_of places.now ConstraintName.BoolClauseReif operands.now) }
 {
     match operands {
         [

@@ -1,14 +1,14 @@
 //! The kernels of comparisons of two terms.
 
-ghost use Rattle.std.specs.Prelude.{◌≡◌, ◌++◌, All, OnOk};
+ghost use Rattle.std.specs.Prelude.{◌≡◌, ◌++◌, [], ◌∷◌, pos, All, IfOk, OnOk};
 ghost use Rattle.constraint_model.specs.declared.table.ConstraintName.{ConstraintName};
 ghost use Rattle.decompose.specs.Kernels.{on_two, on_three, row_of};
-ghost use Rattle.decompose.specs.Places.{AreFew, IsDeclared, HasDeclared};
+ghost use Rattle.decompose.specs.Places.{HasDeclared};
 ghost use Rattle.decompose.specs.Rows.{literal_at, compared};
 
 use crate::places::{ALWAYS, Places};
-use crate::sums::{Relation, add_sum};
-use constraint_model::{Operand, Term};
+use crate::sums::{LinearComparison, Relation, add_sum};
+use constraint_model::Operand;
 use guarded_tell::{Kernel, Lit};
 use list_of::ListOf;
 use std::alloc::{AllocError, Global};
@@ -52,36 +52,21 @@ pub(crate) const OPPOSITE: Comparison = Comparison {
     limit: 1,
 };
 
-/// Adds the kernel of a comparison of two terms.
-fn add_compared(
-    alloc: Global,
-    places: &Places,
-    comparison: Comparison,
-    lit: Lit,
-    x: Term,
-    y: Term,
-    kernels: &mut ListOf<Kernel>,
-) -> Result<(), AllocError>
-    requires few { AreFew places.now.count places.now.constants.keys }
-    requires declared_x { IsDeclared places.now.count x }
-    requires declared_y { IsDeclared places.now.count y }
-    ensures { OnOk result (kernels.new ≡ kernels.old ++ compared comparison places.now.count places.now.constants.keys lit x y) }
-{
-    let coeffs = ListOf::from_vec(Vec::from_slice(alloc, &[1, comparison.sign])?);
-    add_sum(
-        alloc,
-        places,
-        comparison.relation,
-        lit,
-        coeffs,
-        &[x, y],
-        comparison.limit,
-        kernels,
-    )
+impl Comparison {
+    /// The same, said of a list of two terms.
+    fn to_linear(self, alloc: Global) -> Result<LinearComparison, AllocError>
+        ensures { IfOk result (λ made. made ≡ record { relation = self.relation; coeffs = pos 1 ∷ self.sign ∷ []; limit = self.limit }) }
+    {
+        Ok(LinearComparison {
+            relation: self.relation,
+            coeffs: ListOf::from_vec(Vec::from_slice(alloc, &[1, self.sign])?),
+            limit: self.limit,
+        })
+    }
 }
 
 /// Adds the kernel of a comparison of two terms that must hold, or not.
-pub(crate) fn two(
+pub(crate) fn compare(
     alloc: Global,
     places: &Places,
     comparison: Comparison,
@@ -89,20 +74,20 @@ pub(crate) fn two(
     operands: &[Operand],
     kernels: &mut ListOf<Kernel>,
 ) -> Result<(), AllocError>
-    requires few { AreFew places.now.count places.now.constants.keys }
-    requires declared { All (HasDeclared places.now.count) operands.now }
-    ensures { OnOk result (kernels.new ≡ kernels.old ++ on_two (λ x y. compared comparison places.now.count places.now.constants.keys lit x y) operands.now) }
+    requires { All (HasDeclared places.now.count) operands.now }
+    ensures { OnOk result (kernels.new ≡ kernels.old ++ on_two (λ x y. compared comparison places.now lit x y) operands.now) }
 {
     match operands {
-        [Operand::One(x), Operand::One(y)] => add_compared(
-            alloc, places, comparison, lit, *x, *y, kernels,
-        ),
+        [Operand::One(x), Operand::One(y)] => {
+            let comparison = comparison.to_linear(alloc)?;
+            add_sum(alloc, places, lit, comparison, &[*x, *y], kernels)
+        }
         _ => Ok(()),
     }
 }
 
 /// Adds the kernel of a comparison of two terms that holds exactly where a boolean is true, or isn't.
-pub(crate) fn two_reified(
+pub(crate) fn compare_reified(
     alloc: Global,
     places: &Places,
     comparison: Comparison,
@@ -110,21 +95,14 @@ pub(crate) fn two_reified(
     operands: &[Operand],
     kernels: &mut ListOf<Kernel>,
 ) -> Result<(), AllocError>
-    requires few { AreFew places.now.count places.now.constants.keys }
-    requires declared { All (HasDeclared places.now.count) operands.now }
-    ensures { OnOk result (kernels.new ≡ kernels.old ++ on_three (λ x y r. compared comparison places.now.count places.now.constants.keys (literal_at places.now.count places.now.constants.keys positive r) x y) operands.now) }
+    requires { All (HasDeclared places.now.count) operands.now }
+    ensures { OnOk result (kernels.new ≡ kernels.old ++ on_three (λ x y r. compared comparison places.now (literal_at places.now positive r) x y) operands.now) }
 {
     match operands {
         [Operand::One(x), Operand::One(y), Operand::One(r)] => {
-            add_compared(
-                alloc,
-                places,
-                comparison,
-                places.literal(positive, *r),
-                *x,
-                *y,
-                kernels,
-            )
+            let lit = places.literal(positive, *r);
+            let comparison = comparison.to_linear(alloc)?;
+            add_sum(alloc, places, lit, comparison, &[*x, *y], kernels)
         }
         _ => Ok(()),
     }
@@ -138,12 +116,11 @@ pub(crate) fn exclusive_or(
     operands: &[Operand],
     kernels: &mut ListOf<Kernel>,
 ) -> Result<(), AllocError>
-    requires few { AreFew places.now.count places.now.constants.keys }
-    requires declared { All (HasDeclared places.now.count) operands.now }
-    ensures { OnOk result (kernels.new ≡ kernels.old ++ row_of places.now.count places.now.constants.keys ConstraintName.BoolXor operands.now) }
+    requires { All (HasDeclared places.now.count) operands.now }
+    ensures { OnOk result (kernels.new ≡ kernels.old ++ row_of places.now ConstraintName.BoolXor operands.now) }
 {
     match operands {
-        [_, _] => two(alloc, places, OPPOSITE, ALWAYS, operands, kernels),
-        _ => two_reified(alloc, places, EQUAL, false, operands, kernels),
+        [_, _] => compare(alloc, places, OPPOSITE, ALWAYS, operands, kernels),
+        _ => compare_reified(alloc, places, EQUAL, false, operands, kernels),
     }
 }

@@ -1,7 +1,7 @@
 //! The kernels of each row of the table, worked out by hand. The variables x, y, z, a, b and r are declared, so that they
 //! are the variables 1 to 6; the constants 4, 9 and 0 are the variables 7, 8 and 9, and the constant 1 is variable 0.
 
-ghost use Rattle.std.specs.Prelude.{◌≡◌, true};
+ghost use Rattle.std.specs.Prelude.{◌≡◌, true, IfOk};
 ghost use Rattle.decompose.specs.Places.{IsDeclared, HasDeclared};
 
 use crate::kernels::kernels_of;
@@ -35,15 +35,18 @@ const ONE: Term = Term::Number(1);
 const ZERO: Term = Term::Number(0);
 
 /// The variables and constants.
-fn places(alloc: Global) -> Result<Places, AllocError> {
+fn places(alloc: Global) -> Result<Places, AllocError>
+    ensures { IfOk result (λ places. places.count ≡ 6) }
+{
     let mut constants = IndexSet::new(alloc);
     for number in [4, 9, 0] {
         let _ = constants.insert(number)?;
     }
-    Ok(Places {
-        count: 6,
-        constants,
-    })
+    if constants.len() == 3 {
+        Ok(Places::new(6, constants))
+    } else {
+        Err(AllocError)
+    }
 }
 
 /// Whether a term is a number or a declared variable.
@@ -78,13 +81,11 @@ fn kernels(
         name,
         operands: ListOf::from_vec(operands),
     };
-    if places.count == 6
-        && places.constants.len() <= 9
-        && constraint
-            .operands
-            .as_slice()
-            .iter()
-            .all(|operand| has_declared(operand))
+    if constraint
+        .operands
+        .as_slice()
+        .iter()
+        .all(|operand| has_declared(operand))
     {
         kernels_of(alloc, &places, &[constraint])
     } else {

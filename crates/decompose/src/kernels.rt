@@ -2,10 +2,10 @@
 
 ghost use Rattle.std.specs.Prelude.{◌≡◌, ◌++◌, flat_map, All, IfOk, OnOk};
 ghost use Rattle.decompose.specs.Kernels.{kernels_on};
-ghost use Rattle.decompose.specs.Places.{AreFew, HasDeclared};
+ghost use Rattle.decompose.specs.Places.{HasDeclared};
 
 use crate::booleans::{clause, clause_reified, joined_row, joined_two};
-use crate::comparisons::{AT_MOST, EQUAL, LESS, OPPOSITE, exclusive_or, two, two_reified};
+use crate::comparisons::{AT_MOST, EQUAL, LESS, OPPOSITE, compare, compare_reified, exclusive_or};
 use crate::places::{ALWAYS, NEVER, Places};
 use crate::sums::{Relation, plus, sum, sum_equal, sum_reified};
 use crate::terms::{
@@ -25,28 +25,27 @@ fn add_kernels(
     constraint: &Constraint,
     kernels: &mut ListOf<Kernel>,
 ) -> Result<(), AllocError>
-    requires few { AreFew places.now.count places.now.constants.keys }
-    requires declared { All (HasDeclared places.now.count) constraint.now.operands }
-    ensures { OnOk result (kernels.new ≡ kernels.old ++ kernels_on places.now.count places.now.constants.keys constraint.now) }
+    requires { All (HasDeclared places.now.count) constraint.now.operands }
+    ensures { OnOk result (kernels.new ≡ kernels.old ++ kernels_on places.now constraint.now) }
 {
     let operands = constraint.operands.as_slice();
     match constraint.name {
         Name::IntEq | Name::BoolToInt | Name::BoolEq => {
-            two(alloc, places, EQUAL, ALWAYS, operands, kernels)
+            compare(alloc, places, EQUAL, ALWAYS, operands, kernels)
         }
-        Name::IntNe => two(alloc, places, EQUAL, NEVER, operands, kernels),
-        Name::IntLe | Name::BoolLe => two(alloc, places, AT_MOST, ALWAYS, operands, kernels),
-        Name::IntLt | Name::BoolLt => two(alloc, places, LESS, ALWAYS, operands, kernels),
-        Name::BoolNot => two(alloc, places, OPPOSITE, ALWAYS, operands, kernels),
+        Name::IntNe => compare(alloc, places, EQUAL, NEVER, operands, kernels),
+        Name::IntLe | Name::BoolLe => compare(alloc, places, AT_MOST, ALWAYS, operands, kernels),
+        Name::IntLt | Name::BoolLt => compare(alloc, places, LESS, ALWAYS, operands, kernels),
+        Name::BoolNot => compare(alloc, places, OPPOSITE, ALWAYS, operands, kernels),
         Name::IntEqReif | Name::BoolEqReif => {
-            two_reified(alloc, places, EQUAL, true, operands, kernels)
+            compare_reified(alloc, places, EQUAL, true, operands, kernels)
         }
-        Name::IntNeReif => two_reified(alloc, places, EQUAL, false, operands, kernels),
+        Name::IntNeReif => compare_reified(alloc, places, EQUAL, false, operands, kernels),
         Name::IntLeReif | Name::BoolLeReif => {
-            two_reified(alloc, places, AT_MOST, true, operands, kernels)
+            compare_reified(alloc, places, AT_MOST, true, operands, kernels)
         }
         Name::IntLtReif | Name::BoolLtReif => {
-            two_reified(alloc, places, LESS, true, operands, kernels)
+            compare_reified(alloc, places, LESS, true, operands, kernels)
         }
         Name::BoolXor => exclusive_or(alloc, places, operands, kernels),
         Name::IntLinEq => sum(alloc, places, Relation::Equal, ALWAYS, operands, kernels),
@@ -94,9 +93,8 @@ pub(crate) fn kernels_of(
     places: &Places,
     constraints: &[Constraint],
 ) -> Result<ListOf<Kernel>, AllocError>
-    requires few { AreFew places.now.count places.now.constants.keys }
-    requires declared { All (λ c. All (HasDeclared places.now.count) c.operands) constraints.now }
-    ensures { IfOk result (λ kernels. kernels ≡ flat_map (kernels_on places.now.count places.now.constants.keys) constraints.now) }
+    requires { All (λ c. All (HasDeclared places.now.count) c.operands) constraints.now }
+    ensures { IfOk result (λ kernels. kernels ≡ flat_map (kernels_on places.now) constraints.now) }
 {
     let mut kernels = ListOf::new(alloc);
     for constraint in constraints {

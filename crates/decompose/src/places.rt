@@ -13,6 +13,7 @@ use guarded_tell::Lit;
 use indexmap::IndexSet;
 use list_of::ListOf;
 use std::alloc::{AllocError, Global};
+use std::marker::Model;
 
 /// The literal that is always true, since the constant 1 is at least 1.
 pub(crate) const ALWAYS: Lit = Lit {
@@ -26,13 +27,24 @@ pub(crate) const NEVER: Lit = Lit {
     positive: false,
 };
 
-/// For what the variables of a program stand: the constant 1, the declared variables, the other constants.
+/// For what the variables of a program stand: the constant 1, the declared variables, the other constants. There are so
+/// few of them that each has a number.
 #[derive(Drop)]
 pub(crate) struct Places {
     /// How many variables are declared.
-    pub count: u32,
+    count: u32,
     /// The constants other than 1, in the order of their variables.
-    pub constants: IndexSet<i64>,
+    constants: IndexSet<i64>,
+}
+
+impl Model for Places {
+    ghost use Rattle.decompose.specs.Places.{Numbering, AreFew};
+
+    ghost Value = { Numbering };
+
+    ghost view = { λ p. record { count = p.count; constants = p.constants.keys } };
+
+    ghost invariant = { λ p. AreFew (record { count = p.count; constants = p.constants.keys }) };
 }
 
 /// The place of a constant.
@@ -48,10 +60,17 @@ fn place(number: i64, constants: &IndexSet<i64>) -> u32
 }
 
 impl Places {
+    /// The places of so many declared variables and of these other constants.
+    pub(crate) fn new(count: u32, constants: IndexSet<i64>) -> Self
+        requires { AreFew (record { count = count; constants = constants.keys }) }
+        ensures { result ≡ record { count = count; constants = constants.keys } }
+    {
+        Places { count, constants }
+    }
+
     /// The variable of a number.
     fn constant_variable(&self, number: i64) -> u32
-        requires { AreFew self.now.count self.now.constants.keys }
-        ensures { result ≡ variable_of self.now.count self.now.constants.keys (Term.Number number) }
+        ensures { result ≡ variable_of self.now (Term.Number number) }
     {
         if number == 1 {
             0
@@ -62,13 +81,16 @@ impl Places {
 
     /// The variable of a term.
     pub(crate) fn variable(&self, term: Term) -> u32
-        requires few { AreFew self.now.count self.now.constants.keys }
-        requires declared { IsDeclared self.now.count term }
-        ensures { result ≡ variable_of self.now.count self.now.constants.keys term }
+        requires { IsDeclared self.now.count term }
+        ensures { result ≡ variable_of self.now term }
     {
         match term {
             Term::Number(number) => self.constant_variable(number),
-            Term::Var(place) => place + 1,
+            Term::Var(place) => {
+                // The place is below the count, which is small.
+                let _ = &self.count;
+                place + 1
+            }
         }
     }
 
@@ -78,9 +100,8 @@ impl Places {
         terms: &[Term],
         variables: &mut Vec<u32>,
     ) -> Result<(), AllocError>
-        requires few { AreFew self.now.count self.now.constants.keys }
-        requires declared { All (IsDeclared self.now.count) terms.now }
-        ensures { OnOk result (variables.new.items ≡ variables.old.items ++ variables_of self.now.count self.now.constants.keys terms.now) }
+        requires { All (IsDeclared self.now.count) terms.now }
+        ensures { OnOk result (variables.new.items ≡ variables.old.items ++ variables_of self.now terms.now) }
     {
         for term in terms {
             variables.push(self.variable(*term))?;
@@ -90,9 +111,8 @@ impl Places {
 
     /// The variables of terms.
     pub(crate) fn variables(&self, alloc: Global, terms: &[Term]) -> Result<ListOf<u32>, AllocError>
-        requires few { AreFew self.now.count self.now.constants.keys }
-        requires declared { All (IsDeclared self.now.count) terms.now }
-        ensures { IfOk result (λ places. places ≡ variables_of self.now.count self.now.constants.keys terms.now) }
+        requires { All (IsDeclared self.now.count) terms.now }
+        ensures { IfOk result (λ variables. variables ≡ variables_of self.now terms.now) }
     {
         let mut variables = Vec::with_capacity(alloc, terms.len())?;
         self.add_variables(terms, &mut variables)?;
@@ -101,9 +121,8 @@ impl Places {
 
     /// The literal that is true where the boolean is, or where it isn't.
     pub(crate) fn literal(&self, positive: bool, boolean: Term) -> Lit
-        requires few { AreFew self.now.count self.now.constants.keys }
-        requires declared { IsDeclared self.now.count boolean }
-        ensures { result ≡ literal_at self.now.count self.now.constants.keys positive boolean }
+        requires { IsDeclared self.now.count boolean }
+        ensures { result ≡ literal_at self.now positive boolean }
     {
         Lit {
             var: self.variable(boolean),
@@ -118,9 +137,8 @@ impl Places {
         booleans: &[Term],
         literals: &mut Vec<Lit>,
     ) -> Result<(), AllocError>
-        requires few { AreFew self.now.count self.now.constants.keys }
-        requires declared { All (IsDeclared self.now.count) booleans.now }
-        ensures { OnOk result (literals.new.items ≡ literals.old.items ++ map (literal_at self.now.count self.now.constants.keys positive) booleans.now) }
+        requires { All (IsDeclared self.now.count) booleans.now }
+        ensures { OnOk result (literals.new.items ≡ literals.old.items ++ map (literal_at self.now positive) booleans.now) }
     {
         for boolean in booleans {
             literals.push(self.literal(positive, *boolean))?;

@@ -35,10 +35,7 @@ pub fn compile(alloc: Global, model: &FznModel) -> Result<Program, NoMemory>
     let constants = constant_set(alloc, model)?;
     let vars = model.vars.as_slice();
     let start = start_box(alloc, vars, constants.as_slice())?;
-    let places = Places {
-        count: vars.len() as u32,
-        constants,
-    };
+    let places = Places::new(vars.len() as u32, constants);
     let kernels = kernels_of(alloc, &places, model.constraints.as_slice())?;
     Ok(Program { start, kernels })
 }

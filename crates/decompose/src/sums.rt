@@ -3,7 +3,7 @@
 ghost use Rattle.std.specs.Prelude.{◌≡◌, ◌++◌, [], ◌∷◌, map, negsuc, All, IfOk, OnOk};
 ghost use Rattle.constraint_model.specs.declared.table.ConstraintName.{ConstraintName};
 ghost use Rattle.decompose.specs.Kernels.{number_of, variables_of, on_sum, on_reified_sum, row_of};
-ghost use Rattle.decompose.specs.Places.{AreFew, IsDeclared, HasDeclared};
+ghost use Rattle.decompose.specs.Places.{IsDeclared, HasDeclared};
 ghost use Rattle.decompose.specs.Rows.{literal_at, sum_kernel};
 
 use crate::places::{ALWAYS, Places};
@@ -21,22 +21,35 @@ pub(crate) enum Relation {
     Equal,
 }
 
-/// Adds the kernel of a sum.
+/// What is said of some terms: how their sum, each times its coefficient, is to the limit.
+#[derive(Drop)]
+pub(crate) struct LinearComparison {
+    /// The relation of the sum to the limit.
+    pub relation: Relation,
+    /// The coefficients of the terms.
+    pub coeffs: ListOf<i64>,
+    /// The limit.
+    pub limit: i64,
+}
+
+/// Adds the kernel of a comparison of terms that holds exactly where a literal is true.
 pub(crate) fn add_sum(
     alloc: Global,
     places: &Places,
-    relation: Relation,
     lit: Lit,
-    coeffs: ListOf<i64>,
+    comparison: LinearComparison,
     terms: &[Term],
-    limit: i64,
     kernels: &mut ListOf<Kernel>,
 ) -> Result<(), AllocError>
-    requires few { AreFew places.now.count places.now.constants.keys }
-    requires declared { All (IsDeclared places.now.count) terms.now }
-    ensures { OnOk result (kernels.new ≡ kernels.old ++ sum_kernel relation places.now.count places.now.constants.keys lit coeffs terms.now limit) }
+    requires { All (IsDeclared places.now.count) terms.now }
+    ensures { OnOk result (kernels.new ≡ kernels.old ++ sum_kernel comparison.relation places.now lit comparison.coeffs terms.now comparison.limit) }
 {
     let vars = places.variables(alloc, terms)?;
+    let LinearComparison {
+        relation,
+        coeffs,
+        limit,
+    } = comparison;
     let kernel = match relation {
         Relation::AtMost => Kernel::Le {
             lit,
@@ -93,9 +106,8 @@ pub(crate) fn sum(
     operands: &[Operand],
     kernels: &mut ListOf<Kernel>,
 ) -> Result<(), AllocError>
-    requires few { AreFew places.now.count places.now.constants.keys }
-    requires declared { All (HasDeclared places.now.count) operands.now }
-    ensures { OnOk result (kernels.new ≡ kernels.old ++ on_sum (λ cs xs c. sum_kernel relation places.now.count places.now.constants.keys lit cs xs c) operands.now) }
+    requires { All (HasDeclared places.now.count) operands.now }
+    ensures { OnOk result (kernels.new ≡ kernels.old ++ on_sum (λ cs xs c. sum_kernel relation places.now lit cs xs c) operands.now) }
 {
     match operands {
         [
@@ -103,17 +115,12 @@ pub(crate) fn sum(
             Operand::Row(terms),
             Operand::One(limit),
         ] => {
-            let coeffs = numbers(alloc, coefficients.as_slice())?;
-            add_sum(
-                alloc,
-                places,
+            let comparison = LinearComparison {
                 relation,
-                lit,
-                coeffs,
-                terms.as_slice(),
-                number(*limit),
-                kernels,
-            )
+                coeffs: numbers(alloc, coefficients.as_slice())?,
+                limit: number(*limit),
+            };
+            add_sum(alloc, places, lit, comparison, terms.as_slice(), kernels)
         }
         _ => Ok(()),
     }
@@ -128,9 +135,8 @@ pub(crate) fn sum_reified(
     operands: &[Operand],
     kernels: &mut ListOf<Kernel>,
 ) -> Result<(), AllocError>
-    requires few { AreFew places.now.count places.now.constants.keys }
-    requires declared { All (HasDeclared places.now.count) operands.now }
-    ensures { OnOk result (kernels.new ≡ kernels.old ++ on_reified_sum (λ cs xs c r. sum_kernel relation places.now.count places.now.constants.keys (literal_at places.now.count places.now.constants.keys positive r) cs xs c) operands.now) }
+    requires { All (HasDeclared places.now.count) operands.now }
+    ensures { OnOk result (kernels.new ≡ kernels.old ++ on_reified_sum (λ cs xs c r. sum_kernel relation places.now (literal_at places.now positive r) cs xs c) operands.now) }
 {
     match operands {
         [
@@ -139,18 +145,13 @@ pub(crate) fn sum_reified(
             Operand::One(limit),
             Operand::One(r),
         ] => {
-            let coeffs = numbers(alloc, coefficients.as_slice())?;
             let lit = places.literal(positive, *r);
-            add_sum(
-                alloc,
-                places,
+            let comparison = LinearComparison {
                 relation,
-                lit,
-                coeffs,
-                terms.as_slice(),
-                number(*limit),
-                kernels,
-            )
+                coeffs: numbers(alloc, coefficients.as_slice())?,
+                limit: number(*limit),
+            };
+            add_sum(alloc, places, lit, comparison, terms.as_slice(), kernels)
         }
         _ => Ok(()),
     }
@@ -164,23 +165,17 @@ pub(crate) fn plus(
     operands: &[Operand],
     kernels: &mut ListOf<Kernel>,
 ) -> Result<(), AllocError>
-    requires few { AreFew places.now.count places.now.constants.keys }
-    requires declared { All (HasDeclared places.now.count) operands.now }
-    ensures { OnOk result (kernels.new ≡ kernels.old ++ row_of places.now.count places.now.constants.keys ConstraintName.IntPlus operands.now) }
+    requires { All (HasDeclared places.now.count) operands.now }
+    ensures { OnOk result (kernels.new ≡ kernels.old ++ row_of places.now ConstraintName.IntPlus operands.now) }
 {
     match operands {
         [Operand::One(x), Operand::One(y), Operand::One(z)] => {
-            let coeffs = ListOf::from_vec(Vec::from_slice(alloc, &[1, 1, -1])?);
-            add_sum(
-                alloc,
-                places,
-                Relation::Equal,
-                ALWAYS,
-                coeffs,
-                &[*x, *y, *z],
-                0,
-                kernels,
-            )
+            let comparison = LinearComparison {
+                relation: Relation::Equal,
+                coeffs: ListOf::from_vec(Vec::from_slice(alloc, &[1, 1, -1])?),
+                limit: 0,
+            };
+            add_sum(alloc, places, ALWAYS, comparison, &[*x, *y, *z], kernels)
         }
         _ => Ok(()),
     }
@@ -203,10 +198,9 @@ fn variables_and_one(
     terms: &[Term],
     last: Term,
 ) -> Result<ListOf<u32>, AllocError>
-    requires few { AreFew places.now.count places.now.constants.keys }
     requires declared { All (IsDeclared places.now.count) terms.now }
     requires declared_last { IsDeclared places.now.count last }
-    ensures { IfOk result (λ vars. vars ≡ variables_of places.now.count places.now.constants.keys (terms.now ++ last ∷ [])) }
+    ensures { IfOk result (λ vars. vars ≡ variables_of places.now (terms.now ++ last ∷ [])) }
 {
     let mut variables = Vec::with_capacity(alloc, terms.len() + 1)?;
     places.add_variables(terms, &mut variables)?;
@@ -222,9 +216,8 @@ pub(crate) fn sum_equal(
     operands: &[Operand],
     kernels: &mut ListOf<Kernel>,
 ) -> Result<(), AllocError>
-    requires few { AreFew places.now.count places.now.constants.keys }
-    requires declared { All (HasDeclared places.now.count) operands.now }
-    ensures { OnOk result (kernels.new ≡ kernels.old ++ row_of places.now.count places.now.constants.keys ConstraintName.BoolLinEq operands.now) }
+    requires { All (HasDeclared places.now.count) operands.now }
+    ensures { OnOk result (kernels.new ≡ kernels.old ++ row_of places.now ConstraintName.BoolLinEq operands.now) }
 {
     match operands {
         [

@@ -3,7 +3,7 @@
 ghost use Rattle.std.specs.Prelude.{◌≡◌, ◌++◌, [], ◌∷◌, All, OnOk};
 ghost use Rattle.constraint_model.specs.declared.table.ConstraintName.{ConstraintName};
 ghost use Rattle.decompose.specs.Kernels.{row_of, on_three, on_one_of_row, on_entry, variable_of, variables_of};
-ghost use Rattle.decompose.specs.Places.{AreFew, IsDeclared, HasDeclared};
+ghost use Rattle.decompose.specs.Places.{IsDeclared, HasDeclared};
 ghost use Rattle.decompose.specs.Rows.{operation_on, operation_kernel, extreme_kernel};
 
 use crate::places::{ALWAYS, Places};
@@ -50,9 +50,8 @@ pub(crate) fn operation_of_two(
     operands: &[Operand],
     kernels: &mut ListOf<Kernel>,
 ) -> Result<(), AllocError>
-    requires few { AreFew places.now.count places.now.constants.keys }
-    requires declared { All (HasDeclared places.now.count) operands.now }
-    ensures { OnOk result (kernels.new ≡ kernels.old ++ on_three (λ x y z. operation_kernel operation places.now.count places.now.constants.keys x y z) operands.now) }
+    requires { All (HasDeclared places.now.count) operands.now }
+    ensures { OnOk result (kernels.new ≡ kernels.old ++ on_three (λ x y z. operation_kernel operation places.now x y z) operands.now) }
 {
     match operands {
         [Operand::One(x), Operand::One(y), Operand::One(z)] => {
@@ -75,9 +74,8 @@ pub(crate) fn absolute(
     operands: &[Operand],
     kernels: &mut ListOf<Kernel>,
 ) -> Result<(), AllocError>
-    requires few { AreFew places.now.count places.now.constants.keys }
-    requires declared { All (HasDeclared places.now.count) operands.now }
-    ensures { OnOk result (kernels.new ≡ kernels.old ++ row_of places.now.count places.now.constants.keys ConstraintName.IntAbs operands.now) }
+    requires { All (HasDeclared places.now.count) operands.now }
+    ensures { OnOk result (kernels.new ≡ kernels.old ++ row_of places.now ConstraintName.IntAbs operands.now) }
 {
     match operands {
         [Operand::One(x), Operand::One(y)] => {
@@ -96,16 +94,15 @@ fn add_extreme(
     alloc: Global,
     places: &Places,
     extreme: Extreme,
-    of: Term,
+    extreme_term: Term,
     terms: &[Term],
     kernels: &mut ListOf<Kernel>,
 ) -> Result<(), AllocError>
-    requires few { AreFew places.now.count places.now.constants.keys }
-    requires declared_of { IsDeclared places.now.count of }
+    requires declared_extreme { IsDeclared places.now.count extreme_term }
     requires declared { All (IsDeclared places.now.count) terms.now }
-    ensures { OnOk result (kernels.new ≡ kernels.old ++ extreme_kernel extreme places.now.count places.now.constants.keys of terms.now) }
+    ensures { OnOk result (kernels.new ≡ kernels.old ++ extreme_kernel extreme places.now extreme_term terms.now) }
 {
-    let m = places.variable(of);
+    let m = places.variable(extreme_term);
     let xs = places.variables(alloc, terms)?;
     let kernel = match extreme {
         Extreme::Greatest => Kernel::Max { m, xs },
@@ -123,9 +120,8 @@ pub(crate) fn extreme_of_two(
     operands: &[Operand],
     kernels: &mut ListOf<Kernel>,
 ) -> Result<(), AllocError>
-    requires few { AreFew places.now.count places.now.constants.keys }
-    requires declared { All (HasDeclared places.now.count) operands.now }
-    ensures { OnOk result (kernels.new ≡ kernels.old ++ on_three (λ x y m. extreme_kernel extreme places.now.count places.now.constants.keys m (x ∷ y ∷ [])) operands.now) }
+    requires { All (HasDeclared places.now.count) operands.now }
+    ensures { OnOk result (kernels.new ≡ kernels.old ++ on_three (λ x y m. extreme_kernel extreme places.now m (x ∷ y ∷ [])) operands.now) }
 {
     match operands {
         [Operand::One(x), Operand::One(y), Operand::One(m)] => {
@@ -143,9 +139,8 @@ pub(crate) fn extreme_of_row(
     operands: &[Operand],
     kernels: &mut ListOf<Kernel>,
 ) -> Result<(), AllocError>
-    requires few { AreFew places.now.count places.now.constants.keys }
-    requires declared { All (HasDeclared places.now.count) operands.now }
-    ensures { OnOk result (kernels.new ≡ kernels.old ++ on_one_of_row (λ m xs. extreme_kernel extreme places.now.count places.now.constants.keys m xs) operands.now) }
+    requires { All (HasDeclared places.now.count) operands.now }
+    ensures { OnOk result (kernels.new ≡ kernels.old ++ on_one_of_row (λ m xs. extreme_kernel extreme places.now m xs) operands.now) }
 {
     match operands {
         [Operand::One(m), Operand::Row(terms)] => {
@@ -162,9 +157,8 @@ pub(crate) fn element(
     operands: &[Operand],
     kernels: &mut ListOf<Kernel>,
 ) -> Result<(), AllocError>
-    requires few { AreFew places.now.count places.now.constants.keys }
-    requires declared { All (HasDeclared places.now.count) operands.now }
-    ensures { OnOk result (kernels.new ≡ kernels.old ++ on_entry (λ x xs c. Kernel.Element (variable_of places.now.count places.now.constants.keys x) (variables_of places.now.count places.now.constants.keys xs) (variable_of places.now.count places.now.constants.keys c) ∷ []) operands.now) }
+    requires { All (HasDeclared places.now.count) operands.now }
+    ensures { OnOk result (kernels.new ≡ kernels.old ++ on_entry (λ x xs c. Kernel.Element (variable_of places.now x) (variables_of places.now xs) (variable_of places.now c) ∷ []) operands.now) }
 {
     match operands {
         [
@@ -192,9 +186,8 @@ pub(crate) fn member(
     operands: &[Operand],
     kernels: &mut ListOf<Kernel>,
 ) -> Result<(), AllocError>
-    requires few { AreFew places.now.count places.now.constants.keys }
-    requires declared { All (HasDeclared places.now.count) operands.now }
-    ensures { OnOk result (kernels.new ≡ kernels.old ++ row_of places.now.count places.now.constants.keys ConstraintName.SetIn operands.now) }
+    requires { All (HasDeclared places.now.count) operands.now }
+    ensures { OnOk result (kernels.new ≡ kernels.old ++ row_of places.now ConstraintName.SetIn operands.now) }
 {
     match operands {
         [Operand::One(x), Operand::Set(ranges)] => {
@@ -217,9 +210,8 @@ pub(crate) fn member_reified(
     operands: &[Operand],
     kernels: &mut ListOf<Kernel>,
 ) -> Result<(), AllocError>
-    requires few { AreFew places.now.count places.now.constants.keys }
-    requires declared { All (HasDeclared places.now.count) operands.now }
-    ensures { OnOk result (kernels.new ≡ kernels.old ++ row_of places.now.count places.now.constants.keys ConstraintName.SetInReif operands.now) }
+    requires { All (HasDeclared places.now.count) operands.now }
+    ensures { OnOk result (kernels.new ≡ kernels.old ++ row_of places.now ConstraintName.SetInReif operands.now) }
 {
     match operands {
         [Operand::One(x), Operand::Set(ranges), Operand::One(r)] => {

@@ -11,12 +11,12 @@ use Rattle.atomic_table.specs.Seated.{TableId}
 use Rattle.interval.specs.Boxes.{Bounds, low_of, high_of, put_of, IsInRange, IsInside}
 use Rattle.lattice_store.specs.declared.table.View.{View}
 use Rattle.lattice_store.specs.declared.seat.Seat.{Seat}
-use Rattle.lattice_store.specs.Words.{word_of, epoch_of, code_of, IsCode, ceiling, codes_of, low_value, high_value}
+use Rattle.lattice_store.specs.Words.{word_of, epoch_of, code_of, IsCode, IsOriginOf, ceiling, codes_of, low_value, high_value}
 use Rattle.lattice_store.specs.Rule.{Keeps, opened_by, begun}
 use Rattle.lattice_store.specs.Steps.{MayTell, IsReady, Opening}
 use Rattle.lattice_store.specs.Standing.{Stands, IsOwnWord, AreWordsOf}
 use Rattle.lattice_store.specs.Seats.{IsFloorIn, seen_of, floor_of, IsFirst}
-use Rattle.lattice_store.proofs.WordLaws.{code-rises, rises, low-rises, high-falls}
+use Rattle.lattice_store.proofs.WordLaws.{origin-for, code-rises, rises, low-rises, high-falls}
 use Rattle.lattice_store.proofs.BoxLaws.{box-low, box-high}
 use Rattle.lattice_store.proofs.Starting.{start_word, start_stands}
 use Rattle.lattice_store.proofs.Showing.{floor_low, floor_high}
@@ -157,6 +157,10 @@ after_one v = omega arith
 
 pub word_code : (words : List ℕ) (s : Seat) (k w : ℕ) → AtEnd words s → get_elem? words k ≡ some w → 1 ≤ k → k < length words → IsCode w
 word_code words s k w end e one lt = subst IsCode (elem_index words k w e) (end.each k one lt).0.code
+
+-- the seat's word of the bound 0 is that of the epoch of all words at the end
+pub origin_at : (words : List ℕ) (s : Seat) (k w : ℕ) → AtEnd words s → get_elem? words k ≡ some w → 1 ≤ k → k < length words → IsOriginOf (epoch_of w) s.origin
+origin_at words s k w end e one lt = origin-for s.epoch s.origin w s.origin_is (ap epoch_of (sym (elem_index words k w e)) ∙ (end.each k one lt).0.epoch_is)
 
 pub put_next : (words : List ℕ) (into : Bounds) (v : ℕ) (x y : ℤ) → v < length into
     → ((u : ℕ) → u < v → (low_of into u ≡ low_value (code_of (slice_index words (2 * u + 1)))) × (high_of into u ≡ high_value (code_of (slice_index words (2 * u + 2)))))

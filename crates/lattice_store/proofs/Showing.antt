@@ -11,10 +11,10 @@ use mathlib.Core.Bool.{not}
 use lib.Dec.{eqb}
 use Rattle.std.specs.Prelude.{IsTrue, IsFalse}
 use Rattle.lattice_store.specs.declared.seat.Seat.{Seat}
-use Rattle.lattice_store.specs.Words.{middle, word_of, epoch_of, code_of, IsCode, ceiling, box_of, codes_of, low_code, high_code, low_value, high_value}
+use Rattle.lattice_store.specs.Words.{middle, word_of, epoch_of, code_of, IsCode, IsOriginOf, ceiling, box_of, codes_of, low_code, high_code, low_value, high_value}
 use Rattle.lattice_store.specs.Steps.{MayTell}
 use Rattle.lattice_store.specs.Seats.{Moved, seen_of, floor_of}
-use Rattle.lattice_store.proofs.WordLaws.{epoch-word, code-word, code-rises, low-code, high-code, low-bound, high-bound, low-rises, low-climbs, high-falls, high-drops, low-under, high-under, low-within, high-within, low-told, high-told, same_word}
+use Rattle.lattice_store.proofs.WordLaws.{origin-epoch, epoch-word, code-word, code-rises, low-code, high-code, low-bound, high-bound, low-rises, low-climbs, high-falls, high-drops, low-under, high-under, low-within, high-within, low-told, high-told, same_word}
 use Rattle.lattice_store.proofs.BoxLaws.{box-low, box-high, box-set_low, box-set_high, code-low, code-high}
 
 pub cast_bound : (z : ℤ) → IsBound z → to_z w64 (of_z w64 z) ≡ z
@@ -138,6 +138,13 @@ may_tell_high s v k w z e h b f is =
       epoch = ap epoch_of is ∙ epoch-word s.epoch (high_code z) c.1 ∙ sym s.stands.epoch_is;
       held = subst (λ (x : ℕ). x ≤ ceiling (floor_of s) k) (sym (ap code_of is ∙ code-word s.epoch (high_code z) c.1)) (high_held (floor_of s) (length (seen_of s)) v k z s.stands.sized h e b f);
     }
+
+-- the word that a tell writes
+pub told_low : (e origin w : ℕ) (z : ℤ) → IsOriginOf e origin → IsBound z → w ≡ word_of (epoch_of origin) (low_code (to_z w64 (of_z w64 z))) → w ≡ word_of e (low_code z)
+told_low e origin w z is b h = h ∙ (λ i. word_of (origin-epoch e origin is i) (low_code (cast_bound z b i)))
+
+pub told_high : (e origin w : ℕ) (z : ℤ) → IsOriginOf e origin → IsBound z → w ≡ word_of (epoch_of origin) (high_code (to_z w64 (of_z w64 z))) → w ≡ word_of e (high_code z)
+told_high e origin w z is b h = h ∙ (λ i. word_of (origin-epoch e origin is i) (high_code (cast_bound z b i)))
 
 -- the code that was told is at most what the seat has then seen
 pub low_heard : (s : Seat) (k w : ℕ) (z : ℤ) → 1 ≤ k → k < length s.seen.items → IsBound z → w ≡ word_of s.epoch (low_code z) → w ≤ slice_index s.seen.items k → z ≤ℤ low_value (code_of (slice_index s.seen.items k))

@@ -1,7 +1,7 @@
 -- Epochs and codes of words, and the codes of bounds.
-use Rattle.std.proofs.Common.{ℕ, ℤ, ◌≡◌, ◌⊎◌, ◌*◌, ◌<◌, ◌≤◌, ◌≤ℤ◌, ◌<ℤ◌, max, arith}
+use Rattle.std.proofs.Common.{ℕ, ℤ, ◌≡◌, ◌⊎◌, ◌*◌, ◌<◌, ◌≤◌, ◌≤ℤ◌, ◌<ℤ◌, max, sym, subst, arith}
 use Rattle.std.proofs.lemmas.Int.{ints}
-use Rattle.lattice_store.specs.Words.{middle, span, word_of, epoch_of, code_of, low_code, high_code, low_value, high_value, doubled_to}
+use Rattle.lattice_store.specs.Words.{middle, span, word_of, epoch_of, code_of, IsOriginOf, low_code, high_code, low_value, high_value, doubled_to}
 use Rattle.interval.specs.Limits.{bound_limit, largest_number, IsBound}
 
 pub epoch-word : (e c : ℕ) → c < 2 * middle → epoch_of (word_of e c) ≡ e
@@ -15,6 +15,18 @@ code-word e c h = omega arith
 pub word-parts : (w : ℕ) → w ≡ word_of (epoch_of w) (code_of w)
 unfolding code_of epoch_of word_of span middle doubled_to bound_limit largest_number
 word-parts w = omega arith
+
+pub origin-epoch : (e w : ℕ) → IsOriginOf e w → epoch_of w ≡ e
+unfolding epoch_of word_of span middle doubled_to bound_limit largest_number
+origin-epoch e w h = omega (arith, h)
+
+-- a word of the bound 0 is that of its own epoch
+pub origin-own : (e w : ℕ) → IsOriginOf e w → IsOriginOf (epoch_of w) w
+origin-own e w h = subst (λ (x : ℕ). IsOriginOf x w) (sym (origin-epoch e w h)) h
+
+-- a word of the bound 0 is that of the epoch of a word of the same epoch
+pub origin-for : (e z w : ℕ) → IsOriginOf e z → epoch_of w ≡ e → IsOriginOf (epoch_of w) z
+origin-for e z w h same = subst (λ (x : ℕ). IsOriginOf x z) (sym same) h
 
 pub rises : (a b : ℕ) → a ≤ b → epoch_of a ≤ epoch_of b
 unfolding epoch_of span middle doubled_to bound_limit largest_number

@@ -1,7 +1,7 @@
 -- How a bound is kept in a word. A word is an epoch and a code. Both kinds of bound are coded so that a tighter
 -- bound has the greater code, and a word of a later epoch is greater than every word of an earlier one. So one
 -- join, the maximum, serves both kinds, and a word only grows.
-use Rattle.std.specs.Prelude.{ℕ, ℤ, pos, negsuc, zero, suc, ◌+◌, ◌-◌, ◌*◌, ◌/◌, ◌%◌, ◌^◌, ◌<◌, ◌≤◌, ◌+ℤ◌, ◌-ℤ◌, List, [], ◌∷◌, slice_index, cond, Option, None, Some}
+use Rattle.std.specs.Prelude.{ℕ, ℤ, pos, negsuc, zero, suc, ◌+◌, ◌-◌, ◌*◌, ◌/◌, ◌%◌, ◌^◌, ◌<◌, ◌≤◌, ◌≡◌, ◌+ℤ◌, ◌-ℤ◌, List, [], ◌∷◌, slice_index, cond, Option, None, Some}
 use Rattle.std.specs.Prelude.{nat_le}
 use Rattle.interval.specs.Limits.{bound_limit}
 use Rattle.interval.specs.Boxes.{Bounds}
@@ -31,6 +31,10 @@ epoch_of word = word / span
 
 unfoldable pub code_of : ℕ → ℕ
 code_of word = word % span
+
+-- the word of the bound 0, lower or upper, at an epoch
+abbrev pub IsOriginOf : ℕ → ℕ → Type 0
+IsOriginOf epoch word = word ≡ word_of epoch middle
 
 -- the number, or 0 where it is below 0
 abbrev pub from_zero : ℤ → ℕ

@@ -25,7 +25,7 @@ impl Store {
     {
         let k = low_place(v);
         self.look(seat, k);
-        low_bound(at(&seat.seen, k))
+        low_bound(seat.origin, at(&seat.seen, k))
     }
 
     /// The tightest upper bound of variable `v` that the seat has seen at its epoch, after one load of it.
@@ -42,7 +42,7 @@ impl Store {
     {
         let k = high_place(v);
         self.look(seat, k);
-        high_bound(at(&seat.seen, k))
+        high_bound(seat.origin, at(&seat.seen, k))
     }
 
     /// Tells that variable `v` is at least `value`. Answers whether the lower bound that the seat has seen changed.
@@ -61,7 +61,7 @@ impl Store {
     {
         let k = low_place(v);
         let before = at(&seat.seen, k);
-        let word = low_word(seat.epoch, value);
+        let word = low_word(seat.origin, value);
         self.raise(seat, k, word);
         at(&seat.seen, k) != before
     }
@@ -82,7 +82,7 @@ impl Store {
     {
         let k = high_place(v);
         let old = at(&seat.seen, k);
-        let word = high_word(seat.epoch, value);
+        let word = high_word(seat.origin, value);
         self.raise(seat, k, word);
         at(&seat.seen, k) != old
     }

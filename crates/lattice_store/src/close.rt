@@ -23,13 +23,14 @@ impl Store {
         let Seat {
             place,
             seen: _,
+            origin,
             epoch: _,
             past: _,
         } = seat;
         let closed = table.close_with(place);
         for v in 0..into.len() {
-            let low = low_bound(closed.word(low_place(v)));
-            let high = high_bound(closed.word(high_place(v)));
+            let low = low_bound(origin, closed.word(low_place(v)));
+            let high = high_bound(origin, closed.word(high_place(v)));
             into.put(v, low, high);
         }
         closed.free();

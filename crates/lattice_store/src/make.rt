@@ -7,7 +7,7 @@ ghost use Rattle.lattice_store.specs.Standing.{AreWordsOf};
 ghost use Rattle.lattice_store.specs.Rule.{with_floor};
 
 use crate::table::{Names, Naming, Place, Table};
-use crate::words::{high_word, low_word};
+use crate::words::{high_word, low_word, origin_word};
 use interval::BoxOf;
 use std::alloc::{AllocError, Global};
 
@@ -17,11 +17,12 @@ pub(crate) fn words_of(alloc: Global, start: &BoxOf, epoch: u32) -> Result<Vec<u
     ensures words { IfOk result (λ w. AreWordsOf epoch start.now w.items) }
     ensures in_range { IfOk result (λ _. IsInRange start.now) }
 {
+    let origin = origin_word(epoch);
     let mut words = Vec::new(alloc);
     words.push(0)?;
     for v in 0..start.len() {
-        words.push(low_word(epoch, start.low(v)))?;
-        words.push(high_word(epoch, start.high(v)))?;
+        words.push(low_word(origin, start.low(v)))?;
+        words.push(high_word(origin, start.high(v)))?;
     }
     Ok(words)
 }

@@ -2,7 +2,7 @@
 
 ghost use Rattle.std.specs.Prelude.{◌≡◌, ◌+◌, ◌*◌, ◌<◌, ◌≤◌, ◌↔◌, length, true, false, Option, IsErr, OnOk, OnErr, []};
 ghost use Rattle.interval.specs.Boxes.{Bounds, IsInRange};
-ghost use Rattle.lattice_store.specs.Words.{last_epoch};
+ghost use Rattle.lattice_store.specs.Words.{last_epoch, epoch_of, IsOriginOf};
 ghost use Rattle.lattice_store.specs.Steps.{IsReady, Opening};
 ghost use Rattle.lattice_store.specs.Seats.{seen_of, floor_of, seat_epoch, IsFirst, IsSeatOf, IsSameStore, IsFloorIn};
 
@@ -10,7 +10,7 @@ use crate::seat::Seat;
 use crate::steps::{high_place, low_place};
 use crate::store::{Full, Store};
 use crate::table::{Begins, Naming, Opens, Place, Table};
-use crate::words::{LAST_EPOCH, high_word, low_word};
+use crate::words::{LAST_EPOCH, high_word, low_word, origin_word};
 use interval::BoxOf;
 use std::marker::Brand;
 
@@ -19,23 +19,23 @@ fn open_pair<N: Naming>(
     table: &Table,
     place: &mut Place,
     seen: &mut Vec<u64>,
-    epoch: u32,
+    origin: u64,
     start: &BoxOf,
     v: u32,
 )
     requires table { place.old.table_id ≡ table.now.shared.table_id }
     requires variable { v < length start.now }
-    requires last { epoch ≤ last_epoch }
+    requires origin { IsOriginOf (epoch_of origin) origin }
     requires floor { IsFloorIn N.floor start.now }
     requires in_range { IsInRange start.now }
-    requires opening { Opening place.old.table_id place.old.me seen.old.items start.now N.floor epoch (2 * v + 1) }
+    requires opening { Opening place.old.table_id place.old.me seen.old.items start.now N.floor (epoch_of origin) (2 * v + 1) }
     ensures table { place.new.table_id ≡ place.old.table_id }
-    ensures opening { Opening place.new.table_id place.new.me seen.new.items start.now N.floor epoch (2 * v + 3) }
+    ensures opening { Opening place.new.table_id place.new.me seen.new.items start.now N.floor (epoch_of origin) (2 * v + 3) }
 {
-    let low = low_word(epoch, start.low(v));
+    let low = low_word(origin, start.low(v));
     table.shared.fetch_max::<Opens>(place, low_place(v), low);
     seen[low_place(v)] = low;
-    let high = high_word(epoch, start.high(v));
+    let high = high_word(origin, start.high(v));
     table.shared.fetch_max::<Opens>(place, high_place(v), high);
     seen[high_place(v)] = high;
 }
@@ -45,7 +45,7 @@ fn open_words<N: Naming>(
     table: &Table,
     place: &mut Place,
     seen: &mut Vec<u64>,
-    epoch: u32,
+    origin: u64,
     start: &BoxOf,
 )
     requires table { place.old.table_id ≡ table.now.shared.table_id }
@@ -53,8 +53,8 @@ fn open_words<N: Naming>(
     requires first { place.old.me.0.first ≡ true }
     requires empty { place.old.me.1 ≡ [] }
     requires past { place.old.me.0.past ≡ false }
-    requires epoch { place.old.me.0.epoch + 1 ≡ epoch }
-    requires last { epoch ≤ last_epoch }
+    requires epoch { place.old.me.0.epoch + 1 ≡ epoch_of origin }
+    requires origin { IsOriginOf (epoch_of origin) origin }
     requires seen { place.old.me.0.seen ≡ seen.old.items }
     requires length { length seen.old.items ≡ 2 * length start.now + 1 }
     requires words { length seen.old.items ≡ table.now.shared.table_id.words }
@@ -62,11 +62,11 @@ fn open_words<N: Naming>(
     requires floor { IsFloorIn N.floor start.now }
     ensures table { place.new.table_id ≡ place.old.table_id }
     ensures in_range { IsInRange start.now }
-    ensures opening { Opening place.new.table_id place.new.me seen.new.items start.now N.floor epoch (2 * length start.now + 1) }
+    ensures opening { Opening place.new.table_id place.new.me seen.new.items start.now N.floor (epoch_of origin) (2 * length start.now + 1) }
 {
     table.shared.fetch_max::<Begins<N>>(place, 0, 0);
     for v in 0..start.len() {
-        open_pair::<N>(table, place, seen, epoch, start, v);
+        open_pair::<N>(table, place, seen, origin, start, v);
     }
 }
 
@@ -93,8 +93,16 @@ impl Store {
             return Err(Full);
         }
         let epoch = first.epoch + 1;
-        open_words::<Brand>(&self.table, &mut first.place, &mut first.seen, epoch, start);
+        let origin = origin_word(epoch);
+        open_words::<Brand>(
+            &self.table,
+            &mut first.place,
+            &mut first.seen,
+            origin,
+            start,
+        );
         first.epoch = epoch;
+        first.origin = origin;
         Ok(())
     }
 }

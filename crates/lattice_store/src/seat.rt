@@ -3,7 +3,7 @@
 ghost use Rattle.std.specs.Prelude.{◌≡◌, ◌<◌, ◌≤◌, ◌==◌, length, slice_index, IfSome};
 ghost use Rattle.interval.specs.Boxes.{IsInside};
 ghost use Rattle.std.proofs.Props.{props};
-ghost use Rattle.lattice_store.specs.Words.{last_epoch, epoch_of};
+ghost use Rattle.lattice_store.specs.Words.{last_epoch, epoch_of, IsOriginOf};
 ghost use Rattle.lattice_store.specs.Rule.{seen_after, past_after, greater, either};
 ghost use Rattle.lattice_store.specs.Standing.{Stands};
 
@@ -15,9 +15,12 @@ use crate::words::epoch_in;
 pub struct Seat {
     pub(crate) place: Place,
     pub(crate) seen: Vec<u64>,
+    /// The word of the bound 0 at its epoch.
+    pub(crate) origin: u64,
     pub(crate) epoch: u32,
     pub(crate) past: bool,
     ghost in_range: { epoch ≤ last_epoch },
+    ghost origin_is: { IsOriginOf epoch origin },
     ghost stands: { Stands place.table_id place.me seen.items epoch past } by { Prim.hlevel props },
 }
 
@@ -29,13 +32,15 @@ pub(crate) fn at(words: &Vec<u64>, k: usize) -> u64
     words[k]
 }
 
-// Sees a word: it is kept where it is of the seat's epoch, and else the seat is past.
+// Sees a word: it is kept where it is of the seat's epoch, and else the seat is past. Mostly it is the one that was
+// seen before, and then there is nothing to do.
 pub(crate) fn note(seen: &mut Vec<u64>, past: &mut bool, epoch: u32, k: usize, word: u64)
-    requires { k < length seen.old.items }
+    requires inside { k < length seen.old.items }
+    requires own { epoch_of (slice_index seen.old.items k) ≡ epoch }
     ensures seen { seen.new.items ≡ seen_after past.old (epoch_of word == epoch) seen.old.items k word }
     ensures past { past.new ≡ past_after past.old (epoch_of word == epoch) }
 {
-    if !*past {
+    if at(seen, k) != word && !*past {
         if epoch_in(word) == u64::from(epoch) {
             seen[k] = word;
         } else {

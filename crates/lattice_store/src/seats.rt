@@ -9,6 +9,7 @@ use crate::make::{name_floor, words_of};
 use crate::seat::{Seat, keep_greater, one_of};
 use crate::store::Store;
 use crate::table::{Copies, Learns, Made, Merges, Table};
+use crate::words::origin_word;
 use interval::{BoxOf, NoMemory};
 use std::alloc::Global;
 use std::marker::Brand;
@@ -39,6 +40,7 @@ impl Store {
         let seat = Seat {
             place,
             seen,
+            origin: origin_word(epoch),
             epoch,
             past: false,
         };
@@ -58,6 +60,7 @@ impl Store {
         Ok(Seat {
             place,
             seen,
+            origin: seat.origin,
             epoch: seat.epoch,
             past: seat.past,
         })
@@ -76,6 +79,7 @@ impl Store {
         let Seat {
             place,
             seen,
+            origin: _,
             epoch: _,
             past,
         } = other;

@@ -16,7 +16,7 @@ impl Seat {
         ensures value { result ≡ low_of (seen_of self.now) v }
         ensures in_range { IsBound result }
     {
-        low_bound(at(&self.seen, low_place(v)))
+        low_bound(self.origin, at(&self.seen, low_place(v)))
     }
 
     /// The tightest upper bound of variable `v` that the seat has seen at its epoch. It looks at no shared word.
@@ -25,6 +25,6 @@ impl Seat {
         ensures value { result ≡ high_of (seen_of self.now) v }
         ensures in_range { IsBound result }
     {
-        high_bound(at(&self.seen, high_place(v)))
+        high_bound(self.origin, at(&self.seen, high_place(v)))
     }
 }

@@ -2,7 +2,7 @@
 
 ghost use Rattle.std.specs.Prelude.{◌≡◌, ◌≤◌};
 ghost use Rattle.interval.specs.Limits.{IsBound};
-ghost use Rattle.lattice_store.specs.Words.{last_epoch, word_of, epoch_of, code_of, low_code, high_code, low_value, high_value, IsCode};
+ghost use Rattle.lattice_store.specs.Words.{last_epoch, word_of, epoch_of, code_of, low_code, high_code, low_value, high_value, IsOriginOf};
 
 use interval::BOUND_LIMIT;
 
@@ -37,36 +37,47 @@ pub fn epoch_in(word: u64) -> u64
     word / SPAN
 }
 
-/// The word of a lower bound at an epoch.
-pub fn low_word(epoch: u32, bound: i64) -> u64
-    requires epoch { epoch ≤ last_epoch }
-    requires bound { IsBound bound }
-    ensures { result ≡ word_of epoch (low_code bound) }
+// From the word of the bound 0 at an epoch the words of the other bounds lie as far as these do from 0. So a bound is
+// read and written by one addition, where the epoch and the middle would be numbers too long for most instructions.
+
+/// The word of the bound 0 at an epoch. It is the same for a lower and for an upper bound.
+pub fn origin_word(epoch: u32) -> u64
+    requires { epoch ≤ last_epoch }
+    ensures { IsOriginOf epoch result }
 {
-    u64::from(epoch) * SPAN + (bound + MIDDLE) as u64
+    u64::from(epoch) * SPAN + MIDDLE as u64
 }
 
-/// The word of an upper bound at an epoch.
-pub fn high_word(epoch: u32, bound: i64) -> u64
-    requires epoch { epoch ≤ last_epoch }
+/// The word of a lower bound at the epoch of a word of the bound 0.
+pub fn low_word(origin: u64, bound: i64) -> u64
+    requires origin { IsOriginOf (epoch_of origin) origin }
     requires bound { IsBound bound }
-    ensures { result ≡ word_of epoch (high_code bound) }
+    ensures { result ≡ word_of (epoch_of origin) (low_code bound) }
 {
-    u64::from(epoch) * SPAN + (MIDDLE - bound) as u64
+    origin.wrapping_add_signed(bound)
 }
 
-/// The lower bound that a word stands for.
-pub fn low_bound(word: u64) -> i64
-    requires { IsCode word }
+/// The word of an upper bound at the epoch of a word of the bound 0.
+pub fn high_word(origin: u64, bound: i64) -> u64
+    requires origin { IsOriginOf (epoch_of origin) origin }
+    requires bound { IsBound bound }
+    ensures { result ≡ word_of (epoch_of origin) (high_code bound) }
+{
+    origin.wrapping_sub_signed(bound)
+}
+
+/// The lower bound that a word stands for, by the word of the bound 0 at its epoch.
+pub fn low_bound(origin: u64, word: u64) -> i64
+    requires { IsOriginOf (epoch_of word) origin }
     ensures { result ≡ low_value (code_of word) }
 {
-    (word % SPAN) as i64 - MIDDLE
+    word.wrapping_sub(origin).cast_signed()
 }
 
-/// The upper bound that a word stands for.
-pub fn high_bound(word: u64) -> i64
-    requires { IsCode word }
+/// The upper bound that a word stands for, by the word of the bound 0 at its epoch.
+pub fn high_bound(origin: u64, word: u64) -> i64
+    requires { IsOriginOf (epoch_of word) origin }
     ensures { result ≡ high_value (code_of word) }
 {
-    MIDDLE - (word % SPAN) as i64
+    origin.wrapping_sub(word).cast_signed()
 }

@@ -4,22 +4,6 @@ use Rattle.interval.specs.Limits.{bound_limit, largest_number}
 use Rattle.lattice_store.specs.Words.{last_epoch, middle, span, doubled_to, word_of, epoch_of, code_of, low_code, high_code, low_value, high_value}
 use Rattle.lattice_store.proofs.words.low_word.Goals as goal
 
-pub overflow_add-result : goal.overflow_add-result
-unfolding last_epoch bound_limit largest_number middle span doubled_to word_of epoch_of code_of low_code high_code low_value high_value
-overflow_add-result c = grind (arith, ints)
-
-pub overflow_cast-result : goal.overflow_cast-result
-unfolding last_epoch bound_limit largest_number middle span doubled_to word_of epoch_of code_of low_code high_code low_value high_value
-overflow_cast-result c = grind (arith, ints)
-
-pub overflow_add-result-2 : goal.overflow_add-result-2
-unfolding last_epoch bound_limit largest_number middle span doubled_to word_of epoch_of code_of low_code high_code low_value high_value
-overflow_add-result-2 c = grind (arith, ints)
-
-pub overflow_mul-result : goal.overflow_mul-result
-unfolding last_epoch bound_limit largest_number middle span doubled_to word_of epoch_of code_of low_code high_code low_value high_value
-overflow_mul-result c = grind (arith, ints)
-
 pub returns : goal.returns
 unfolding last_epoch bound_limit largest_number middle span doubled_to word_of epoch_of code_of low_code high_code low_value high_value
 returns c = grind (arith, ints)

@@ -8,7 +8,7 @@ use Rattle.interval.specs.Boxes.{Bounds, low_of, high_of}
 use Rattle.lattice_store.specs.Words.{code_of, low_value, high_value}
 use Rattle.lattice_store.proofs.WordLaws.{low-bound, high-bound}
 use Rattle.lattice_store.proofs.Showing.{answered}
-use Rattle.lattice_store.proofs.Pairs.{at_end, word_code, elem_index, put_next, put_length, closed_inside, closed_floor}
+use Rattle.lattice_store.proofs.Pairs.{at_end, word_code, origin_at, elem_index, put_next, put_length, closed_inside, closed_floor}
 use Rattle.lattice_store.proofs.store.Store.close.Goals as goal
 
 pub low_bound-low-requires : goal.low_bound-low-requires
@@ -20,7 +20,7 @@ low_bound-low-requires c =
     let t = c.loop-v-test.true in
     let l = c.len-v-end.ensures.value in
     let k = c.low_place.ensures in
-    word_code (slots_items c.close_with-closed.result.words) c.args.seat c.low_place.result c.word.result end c.word.ensures (omega arith) (omega arith)
+    origin_at (slots_items c.close_with-closed.result.words) c.args.seat c.low_place.result c.word.result end c.word.ensures (omega arith) (omega arith)
 
 pub high_bound-high-requires : goal.high_bound-high-requires
 high_bound-high-requires c =
@@ -31,7 +31,7 @@ high_bound-high-requires c =
     let t = c.loop-v-test.true in
     let l = c.len-v-end.ensures.value in
     let k = c.high_place.ensures in
-    word_code (slots_items c.close_with-closed.result.words) c.args.seat c.high_place.result c.word-in-loop-v.result end c.word-in-loop-v.ensures (omega arith) (omega arith)
+    origin_at (slots_items c.close_with-closed.result.words) c.args.seat c.high_place.result c.word-in-loop-v.result end c.word-in-loop-v.ensures (omega arith) (omega arith)
 
 pub put-requires-clause-low_in_range : goal.put-requires-clause-low_in_range
 put-requires-clause-low_in_range c =

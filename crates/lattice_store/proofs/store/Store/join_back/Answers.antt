@@ -23,6 +23,7 @@ view c = c.load.ensures.2.1 ∙ ap (λ (m : Me ℕ View). m.0) c.join_seat.ensur
 pub invariant_of-seat : goal.invariant_of-seat
 invariant_of-seat c = record {
   in_range = c.args.seat.now.in_range;
+  origin_is = c.args.seat.now.origin_is;
   stands = stands_at c.load.new.seat.table_id c.load.new.seat.table_id c.load.new.seat.me _ _ c.args.seat.now.epoch _ _ refl c.keep_greater.ensures c.one_of-seat.ensures
       (joined_stands c.load.new.seat.table_id c.args.seat.now.place.table_id c.args.other.place.table_id c.load.new.seat.me c.args.seat.now.place.me c.args.other.place.me c.args.seat.now.seen.items c.args.other.seen.items c.args.seat.now.epoch c.args.other.epoch c.args.seat.now.past c.args.other.past (c.load.ensures.0 ∙ c.join_seat.ensures.0) (c.requires.store ∙ sym c.requires.other_store) c.args.seat.now.stands c.args.other.stands (c.load.ensures.2.0 ∙ ap (λ (m : Me ℕ View). m.1) c.join_seat.ensures.2) (view c) (subst (λ (x : View). IsOwn x) (sym c.load.ensures.2.1) c.load.ensures.2.2));
 }

@@ -16,6 +16,7 @@ invariant_of-seat c =
     let s = c.args.seat.now.stands in
     let step = c.load-word.ensures.2 in record {
       in_range = c.args.seat.now.in_range;
+      origin_is = c.args.seat.now.origin_is;
       stands = stands_at _ _ c.load-word.new.seat.me _ _ c.args.seat.now.epoch _ _ c.load-word.ensures.0 c.note.ensures.seen c.note.ensures.past (still_stands _ c.args.seat.now.place.me c.load-word.new.seat.me c.args.seat.now.seen.items c.args.seat.now.epoch c.args.seat.now.past c.args.k c.load-word.result s step.0 step.1 c.requires.above c.requires.inside);
     }
 

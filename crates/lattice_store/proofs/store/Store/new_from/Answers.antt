@@ -41,7 +41,7 @@ invariant_of-seat g c =
       floor_is = ap (λ (x : View). x.floor) v;
       words = sym (ap (λ (x : TableId). x.words) id ∙ t.0 ∙ ap length c.as_slice.ensures.value);
       slots = ap (λ (x : TableId). x.slots) id ∙ t.1;
-    } in record { in_range = c.requires.0; stands = start_stands c.name_floor.new.place.table_id c.name_floor.new.place.me g.floor c.args.epoch c.in_ok-words.words.items c.args.start.now seat c.in_ok-words.ensures.in_range c.requires.1 c.in_ok-words.ensures.words }
+    } in record { in_range = c.requires.0; origin_is = c.origin_word.ensures; stands = start_stands c.name_floor.new.place.table_id c.name_floor.new.place.me g.floor c.args.epoch c.in_ok-words.words.items c.args.start.now seat c.in_ok-words.ensures.in_range c.requires.1 c.in_ok-words.ensures.words }
 
 pub returns : goal.returns
 returns g c =

@@ -20,6 +20,7 @@ invariant_of-seat c =
     let s = c.args.seat.now.stands in
     let step : Notes c.args.seat.now.place.me.0 c.args.k c.max.result c.join-found.new.place.me.0 = subst (λ (n : ℕ). Notes c.args.seat.now.place.me.0 c.args.k n c.join-found.new.place.me.0) (sym c.max.ensures) c.join-found.ensures.seen in record {
       in_range = c.args.seat.now.in_range;
+      origin_is = c.args.seat.now.origin_is;
       stands = stands_at _ _ c.join-found.new.place.me _ _ c.args.seat.now.epoch _ _ c.join-found.ensures.table c.note.ensures.seen c.note.ensures.past (still_stands _ c.args.seat.now.place.me c.join-found.new.place.me c.args.seat.now.seen.items c.args.seat.now.epoch c.args.seat.now.past c.args.k c.max.result s c.join-found.ensures.slots step c.requires.above c.requires.inside);
     }
 

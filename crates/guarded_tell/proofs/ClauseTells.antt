@@ -15,7 +15,7 @@ use Rattle.guarded_tell.specs.Clause.{clause_vars, clause_tells, sole_tells, sol
 abbrev pub left_of : Bounds → List Lit → ℕ
 left_of b ls = count_by (λ k. not (is_out k b)) ls
 
-left_more : (b : Bounds) (l : Lit) (ls : List Lit) → left_of b (l ∷ ls) ≡ cond (is_out l b) 0 1 + left_of b ls
+pub left_more : (b : Bounds) (l : Lit) (ls : List Lit) → left_of b (l ∷ ls) ≡ cond (is_out l b) 0 1 + left_of b ls
 left_more b l ls = sum_by-cons (λ k. cond (not (is_out k b)) 1 0) l ls ∙ ap (λ n. n + left_of b ls) (turned (is_out l b)) where
   turned : (t : Bool) → ◌≡◌ {A = ℕ} (cond (not t) 1 0) (cond t 0 1)
   turned true = refl

@@ -1,4 +1,5 @@
 pub mod HearingLaws
+pub mod NarrowingLaws
 pub mod TermLaws
 pub mod ProductLaws
 pub mod Lists
@@ -33,3 +34,7 @@ pub mod ElementLaws
 pub mod ClauseTells
 pub mod ClauseLaws
 pub mod ListPlaces
+pub mod ShortLaws
+pub mod QuietLaws
+pub mod RoomLaws
+pub mod ClauseQuiet

@@ -14,3 +14,5 @@ pub mod InSet
 pub mod Element
 pub mod Hull
 pub mod Kernels
+pub mod Narrowing
+pub mod Short

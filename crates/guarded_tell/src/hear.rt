@@ -1,7 +1,10 @@
 //! Those who are given tells.
 
 ghost use Rattle.std.specs.Prelude.{◌≡◌};
+ghost use Rattle.std.specs.Bool.{OnTrue};
 ghost use Rattle.guarded_tell.specs.declared.tell.Tell.{Tell};
+ghost use Rattle.guarded_tell.specs.Hearing.{MayHearAll, HearsAll};
+ghost use Rattle.guarded_tell.specs.Linear.{product_at_most, product_at_least};
 
 use crate::Tell;
 
@@ -17,4 +20,21 @@ pub trait Hear {
     fn hear(&mut self, t: Tell)
         requires { can_hear self.old t }
         ensures { hears self.old t self.new };
+
+    /// Whether it is seen to stay as it is where it hears that `coeff` times the variable is at most `room`. It then isn't
+    /// told, and the division that the tell would take is saved. Who doesn't look says no.
+    fn knows_at_most(&self, var: u32, coeff: i64, room: i128) -> bool
+        requires { MayHearAll can_hear hears self.now (product_at_most var coeff room) }
+        ensures { OnTrue result (HearsAll hears self.now (product_at_most var coeff room) self.now) }
+    {
+        false
+    }
+
+    /// The same where it hears that `coeff` times the variable is at least `room`.
+    fn knows_at_least(&self, var: u32, coeff: i64, room: i128) -> bool
+        requires { MayHearAll can_hear hears self.now (product_at_least var coeff room) }
+        ensures { OnTrue result (HearsAll hears self.now (product_at_least var coeff room) self.now) }
+    {
+        false
+    }
 }

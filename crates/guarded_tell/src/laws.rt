@@ -1,12 +1,14 @@
 //! The laws of the kernels. A law does nothing: its contract is what it says.
 
-ghost use Rattle.std.specs.Prelude.{◌≡◌, ◌↔◌, ◌<◌, ℕ, ℤ, List, length};
+ghost use Rattle.std.specs.Prelude.{◌≡◌, ◌↔◌, ◌<◌, ℕ, ℤ, true, false, List, length};
 ghost use Rattle.std.specs.List.{All, Contains};
 ghost use Rattle.interval.specs.Limits.{IsBound, IsNumber};
 ghost use Rattle.interval.specs.Boxes.{Bounds, low_of, IsInRange, IsPoint};
 ghost use Rattle.guarded_tell.specs.declared.kernel.Kernel.{Kernel};
+ghost use Rattle.guarded_tell.specs.declared.tell.Tell.{Tell};
 ghost use Rattle.guarded_tell.specs.Words.{Keeps, IsProperIn, IsInsideIn, AgreeIn, SameValuesIn, point_of};
 ghost use Rattle.guarded_tell.specs.Kernels.{vars_of, tells, Holds, IsKernel, IsClosedUnder};
+ghost use Rattle.guarded_tell.specs.Narrowing.{narrows};
 
 use interval::{law_clamp_order, law_corner_order, law_quotient_order};
 
@@ -43,4 +45,10 @@ pub fn law_tell_place()
 pub fn law_local()
     ensures tells { (k : Kernel) (b c : Bounds) → AgreeIn (vars_of k) b c → tells k b ≡ tells k c }
     ensures relation { (k : Kernel) (f g : List ℤ) → SameValuesIn (vars_of k) f g → Holds k f → Holds k g }
+{}
+
+/// A tell that doesn't narrow a box keeps it, and one that narrows it doesn't.
+pub fn law_narrowing()
+    ensures keeps { (b : Bounds) (t : Tell) → narrows b t ≡ false → Keeps b t }
+    ensures tighter { (b : Bounds) (t : Tell) → narrows b t ≡ true → ¬ Keeps b t }
 {}

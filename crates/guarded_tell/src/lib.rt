@@ -22,7 +22,10 @@ mod list_tests;
 mod literals;
 mod maximum;
 mod minimum;
+mod narrowing;
+mod quiet;
 mod remainder;
+mod short;
 mod tell;
 mod terms;
 #[cfg(test)]
@@ -32,6 +35,8 @@ mod visit;
 
 pub use hear::Hear;
 pub use kernel::Kernel;
-pub use laws::{law_local, law_monotone, law_point, law_tell_place};
+pub use laws::{law_local, law_monotone, law_narrowing, law_point, law_tell_place};
+pub use narrowing::visit_narrowing;
+pub use quiet::Hint;
 pub use tell::{Lit, Side, Tell};
 pub use visit::visit_tells;

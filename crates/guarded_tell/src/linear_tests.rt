@@ -4,8 +4,8 @@ ghost use Rattle.std.specs.Prelude.{◌≡◌, ◌≤◌, IfOk, unsigned_abs};
 ghost use Rattle.interval.specs.Limits.{IsNumber, largest_number};
 ghost use Rattle.guarded_tell.specs.Kernels.{IsKernel};
 
-use crate::test_support::{LARGEST, PAST, Pairs, after, expect, high, low, number};
-use crate::{Kernel, Lit, Tell};
+use crate::test_support::{LARGEST, PAST, Pairs, after, expect, high, low, narrowing_told, number};
+use crate::{Hint, Kernel, Lit, Tell};
 use list_of::ListOf;
 use std::alloc::{AllocError, Global};
 use std::test::Fail;
@@ -350,6 +350,33 @@ fn the_equation_tells_what_is_worked_out_by_hand(rt: HostRuntime) -> Result<(), 
             after_all,
             "at {first}, {second} and {limit}"
         );
+    }
+    Ok(())
+}
+
+#[test]
+fn only_what_narrows_the_box_is_given(rt: HostRuntime) -> Result<(), Fail> {
+    let alloc = rt.alloc();
+    let mut hint = Hint::new();
+    // The coefficients and the limit; the bounds of the literal's variable and of the terms'; the tells that narrow.
+    let table: [(i64, i64, i64, Pairs, &[Tell]); 5] = [
+        (2, -3, 1, [(1, 1), (-5, 5), (0, 2), (0, 0)], &[high(1, 3)]),
+        (1, -1, -4, [(1, 1), (-5, 5), (0, 2), (0, 0)], &[high(1, -2)]),
+        (-1, 1, -2, [(0, 1), (-5, -3), (0, 2), (0, 0)], &[high(0, 0)]),
+        // The box is closed: the sum reaches the limit, and the literal isn't decided.
+        (1, 1, 7, [(1, 1), (0, 5), (0, 2), (0, 0)], &[]),
+        (1, 1, 6, [(0, 1), (0, 5), (0, 2), (0, 0)], &[]),
+    ];
+    for (first, second, limit, pairs, tells) in table {
+        let kernel = inequality(
+            alloc,
+            true,
+            number(&rt, first),
+            number(&rt, second),
+            number(&rt, limit),
+        )?;
+        let narrowing = narrowing_told(&rt, alloc, &kernel, pairs, &mut hint)?;
+        assert_eq!(rt; narrowing.as_slice(), tells);
     }
     Ok(())
 }

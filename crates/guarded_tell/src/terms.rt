@@ -93,6 +93,9 @@ pub fn tell_product_at_most<H: Hear>(var: u32, coeff: i64, room: i128, h: &mut H
     requires hearer { MayHearAll H.can_hear H.hears h.old (product_at_most var coeff room) }
     ensures { HearsAll H.hears h.old (product_at_most var coeff room) h.new }
 {
+    if h.knows_at_most(var, coeff, room) {
+        return;
+    }
     if coeff > 0 {
         let greatest = floor_div(room, coeff as i128);
         h.hear(high_tell(var, greatest));
@@ -107,6 +110,9 @@ pub fn tell_product_at_least<H: Hear>(var: u32, coeff: i64, room: i128, h: &mut 
     requires hearer { MayHearAll H.can_hear H.hears h.old (product_at_least var coeff room) }
     ensures { HearsAll H.hears h.old (product_at_least var coeff room) h.new }
 {
+    if h.knows_at_least(var, coeff, room) {
+        return;
+    }
     if coeff > 0 {
         h.hear(low_tell(var, ceil_div(room, coeff as i128)));
     } else if coeff < 0 {

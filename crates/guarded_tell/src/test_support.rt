@@ -4,7 +4,7 @@ ghost use Rattle.std.specs.Prelude.{◌≡◌, ◌≤◌, IfOk, length, unsigned
 ghost use Rattle.interval.specs.Limits.{IsBound, IsNumber, bound_limit, largest_number};
 ghost use Rattle.guarded_tell.specs.Kernels.{IsKernel};
 
-use crate::{Hear, Kernel, Side, Tell, visit_tells};
+use crate::{Hear, Hint, Kernel, Side, Tell, visit_narrowing, visit_tells};
 use interval::{BoxOf, NoMemory, is_crossed};
 use std::alloc::Global;
 use std::process::Abort;
@@ -90,7 +90,28 @@ fn box_of(rt: &impl Abort, alloc: Global, pairs: Pairs) -> Result<BoxOf, NoMemor
     BoxOf::from_pairs(alloc, &[first, second, third, fourth])
 }
 
-/// The tells of the kernel on the box of these bounds, in order.
+/// A hearer that has heard nothing.
+fn silence(alloc: Global) -> Heard {
+    Heard {
+        tells: Vec::new(alloc),
+        is_short_of_memory: false,
+    }
+}
+
+/// What was heard.
+fn all_heard(heard: Heard) -> Result<Vec<Tell>, NoMemory> {
+    let Heard {
+        tells,
+        is_short_of_memory,
+    } = heard;
+    if is_short_of_memory {
+        return Err(NoMemory);
+    }
+    Ok(tells)
+}
+
+/// The tells of the kernel on the box of these bounds, in order. Those that narrow it are given alone too, whatever is
+/// remembered of the visit before.
 pub fn told(
     rt: &impl Abort,
     alloc: Global,
@@ -102,19 +123,51 @@ pub fn told(
     let b = box_of(rt, alloc, pairs)?;
     let crossed = is_crossed(&b);
     assert!(rt; !crossed);
-    let mut heard = Heard {
-        tells: Vec::new(alloc),
-        is_short_of_memory: false,
-    };
+    let mut heard = silence(alloc);
     visit_tells(kernel, &b, &mut heard);
-    let Heard {
-        tells,
-        is_short_of_memory,
-    } = heard;
-    if is_short_of_memory {
-        return Err(NoMemory);
+    let tells = all_heard(heard)?;
+    let mut hint = Hint::new();
+    for _ in 0..2 {
+        let narrowing = narrowing_told(rt, alloc, kernel, pairs, &mut hint)?;
+        assert!(rt; are_those_that_narrow(&tells, &pairs, &narrowing));
     }
     Ok(tells)
+}
+
+/// The tells of the kernel that narrow the box of these bounds, in order.
+pub fn narrowing_told(
+    rt: &impl Abort,
+    alloc: Global,
+    kernel: &Kernel,
+    pairs: Pairs,
+    hint: &mut Hint,
+) -> Result<Vec<Tell>, NoMemory>
+    requires { IsKernel 4 kernel.now }
+{
+    let b = box_of(rt, alloc, pairs)?;
+    let crossed = is_crossed(&b);
+    assert!(rt; !crossed);
+    let mut heard = silence(alloc);
+    visit_narrowing(kernel, &b, hint, &mut heard);
+    all_heard(heard)
+}
+
+/// Whether `narrowing` are the tells that narrow these bounds, in their order.
+fn are_those_that_narrow(tells: &[Tell], pairs: &[(i64, i64)], narrowing: &[Tell]) -> bool {
+    tells
+        .iter()
+        .filter(|t| narrows(pairs, **t))
+        .eq(narrowing.iter())
+}
+
+/// Whether the tell is tighter than these bounds.
+fn narrows(pairs: &[(i64, i64)], t: Tell) -> bool {
+    let v = t.var as usize;
+    v < pairs.len()
+        && match t.side {
+            Side::Low => pairs[v].0 < t.bound,
+            Side::High => t.bound < pairs[v].1,
+        }
 }
 
 /// Asserts that the kernel gives just these tells on the box of these bounds, in this order.

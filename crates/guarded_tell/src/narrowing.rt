@@ -1,0 +1,155 @@
+//! The tells that narrow a box.
+
+ghost use Rattle.std.specs.Prelude.{◌≡◌, ◌≢◌, ◌<◌, pos, length, [], ◌∷◌};
+ghost use Rattle.std.specs.Bool.{OnTrue};
+ghost use Rattle.std.specs.List.{All};
+ghost use Rattle.guarded_tell.specs.Words.{IsProperIn, Keeps};
+ghost use Rattle.guarded_tell.specs.Hearing.{MayHearAll, HearsAll};
+ghost use Rattle.guarded_tell.specs.Linear.{product_at_most, product_at_least};
+ghost use Rattle.guarded_tell.specs.Kernels.{vars_of, tells, IsKernel};
+ghost use Rattle.guarded_tell.specs.Narrowing.{narrowing, narrowing_tells};
+ghost use Rattle.guarded_tell.specs.Narrowing as words;
+
+use crate::quiet::{Hint, is_at_most_quiet, is_clause_quiet, is_equation_quiet};
+use crate::{Hear, Kernel, Side, Tell, law_tell_place, visit_tells};
+use interval::{BoxOf, law_clamp_order, law_quotient_order};
+
+/// Gives the tells of the kernel that narrow the box to `h`, each once and in order. It takes no memory.
+pub fn visit_narrowing<H: Hear>(k: &Kernel, b: &BoxOf, hint: &mut Hint, h: &mut H)
+    requires kernel { IsKernel (length b.now) k.now }
+    requires proper { IsProperIn (vars_of k.now) b.now }
+    requires hearer { MayHearAll H.can_hear H.hears h.old (narrowing_tells k.now b.now) }
+    ensures { HearsAll H.hears h.old (narrowing_tells k.now b.now) h.new }
+{
+    if !is_quiet(k, b, hint) {
+        pass_tells(k, b, h);
+    }
+}
+
+/// Whether the kernel is seen to narrow nothing, without its tells being formed.
+#[tactic(auto, unfolding(crate::specs::Kernels::tells, crate::specs::Kernels::vars_of, crate::specs::Kernels::HasNumbers))]
+fn is_quiet(k: &Kernel, b: &BoxOf, hint: &mut Hint) -> bool
+    requires kernel { IsKernel (length b.now) k.now }
+    requires proper { IsProperIn (vars_of k.now) b.now }
+    ensures { OnTrue result (All (Keeps b.now) (tells k.now b.now)) }
+{
+    match k {
+        Kernel::Le {
+            lit,
+            coeffs,
+            vars,
+            limit,
+        } => is_at_most_quiet(*lit, coeffs.as_slice(), vars.as_slice(), *limit, b),
+        Kernel::Eq {
+            lit,
+            coeffs,
+            vars,
+            limit,
+        } => is_equation_quiet(*lit, coeffs.as_slice(), vars.as_slice(), *limit, b),
+        Kernel::Clause { lits } => is_clause_quiet(lits.as_slice(), b, hint),
+        _ => false,
+    }
+}
+
+/// Passes the kernel's tells that narrow the box on to `h`.
+fn pass_tells<H: Hear>(k: &Kernel, b: &BoxOf, h: &mut H)
+    requires kernel { IsKernel (length b.now) k.now }
+    requires proper { IsProperIn (vars_of k.now) b.now }
+    requires hearer { MayHearAll H.can_hear H.hears h.old (narrowing_tells k.now b.now) }
+    ensures { HearsAll H.hears h.old (narrowing_tells k.now b.now) h.new }
+{
+    let mut passing = Passing { b, to: h };
+    pass_all(k, &mut passing);
+}
+
+/// Has a hearer that passes on hear the kernel's tells on its box.
+fn pass_all<H: Hear>(k: &Kernel, passing: &mut Passing<H>)
+    requires kernel { IsKernel (length passing.old.b.now) k.now }
+    requires proper { IsProperIn (vars_of k.now) passing.old.b.now }
+    requires hearer { MayHearAll H.can_hear H.hears passing.old.to.now (narrowing_tells k.now passing.old.b.now) }
+    ensures same_hearer { passing.new.to.ghost_name ≡ passing.old.to.ghost_name }
+    ensures passed { HearsAll H.hears passing.old.to.now (narrowing_tells k.now passing.old.b.now) passing.new.to.now }
+{
+    law_tell_place();
+    visit_tells(k, passing.b, passing);
+}
+
+/// Passes on the tells that narrow a box.
+#[derive(Drop)]
+struct Passing<'a, 'b, H> {
+    b: &'a BoxOf,
+    to: &'b mut H,
+}
+
+impl<H: Hear> Hear for Passing<'_, '_, H> {
+    ghost can_hear = { λ p t. (t.var < length p.b.now) × MayHearAll H.can_hear H.hears p.to.now (narrowing p.b.now (t ∷ [])) };
+
+    ghost hears = { λ p t after. HearsAll H.hears p.to.now (narrowing p.b.now (t ∷ [])) after.to.now × (after.b.now ≡ p.b.now) × (after.to.ghost_name ≡ p.to.ghost_name) };
+
+    fn hear(&mut self, t: Tell) {
+        tell_narrowing(t, self.b, self.to);
+    }
+
+    fn knows_at_most(&self, var: u32, coeff: i64, room: i128) -> bool {
+        is_at_most_kept(var, coeff, room, self.b)
+    }
+
+    fn knows_at_least(&self, var: u32, coeff: i64, room: i128) -> bool {
+        is_at_least_kept(var, coeff, room, self.b)
+    }
+}
+
+/// Whether `coeff` times the variable is at most `room` at the bound that makes it greatest: nothing of it is then tighter
+/// than the box.
+fn is_at_most_kept(var: u32, coeff: i64, room: i128, b: &BoxOf) -> bool
+    requires variable { coeff ≢ pos 0 → var < length b.now }
+    ensures { OnTrue result (All (Keeps b.now) (product_at_most var coeff room)) }
+{
+    law_quotient_order();
+    law_clamp_order();
+    if coeff > 0 {
+        coeff as i128 * b.high(var) as i128 <= room
+    } else if coeff < 0 {
+        coeff as i128 * b.low(var) as i128 <= room
+    } else {
+        true
+    }
+}
+
+/// Whether `coeff` times the variable is at least `room` at the bound that makes it least.
+fn is_at_least_kept(var: u32, coeff: i64, room: i128, b: &BoxOf) -> bool
+    requires variable { coeff ≢ pos 0 → var < length b.now }
+    ensures { OnTrue result (All (Keeps b.now) (product_at_least var coeff room)) }
+{
+    law_quotient_order();
+    law_clamp_order();
+    if coeff > 0 {
+        room <= coeff as i128 * b.low(var) as i128
+    } else if coeff < 0 {
+        room <= coeff as i128 * b.high(var) as i128
+    } else {
+        true
+    }
+}
+
+/// Gives the tell to `h` where it narrows the box.
+pub fn tell_narrowing<H: Hear>(t: Tell, b: &BoxOf, h: &mut H)
+    requires variable { t.var < length b.now }
+    requires hearer { MayHearAll H.can_hear H.hears h.old (narrowing b.now (t ∷ [])) }
+    ensures { HearsAll H.hears h.old (narrowing b.now (t ∷ [])) h.new }
+{
+    if narrows(t, b) {
+        h.hear(t);
+    }
+}
+
+/// Whether the tell's bound is tighter than the box's.
+fn narrows(t: Tell, b: &BoxOf) -> bool
+    requires { t.var < length b.now }
+    ensures { result ≡ words.narrows b.now t }
+{
+    match t.side {
+        Side::Low => b.low(t.var) < t.bound,
+        Side::High => t.bound < b.high(t.var),
+    }
+}

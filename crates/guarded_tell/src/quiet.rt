@@ -1,0 +1,178 @@
+//! Tests that a kernel narrows nothing.
+
+ghost use Rattle.std.specs.Prelude.{◌≡◌, ◌<◌, ◌≤◌, false, pos, unsigned_abs, ◌∷◌, length};
+ghost use Rattle.std.specs.Bool.{OnTrue};
+ghost use Rattle.std.specs.List.{All};
+ghost use Rattle.interval.specs.Limits.{IsNumber};
+ghost use Rattle.guarded_tell.specs.Words.{AreVariables, IsProperIn, Keeps};
+ghost use Rattle.guarded_tell.specs.Words as words;
+ghost use Rattle.guarded_tell.specs.Clause.{clause_vars, clause_tells, IsShortClause, AreLiterals};
+ghost use Rattle.guarded_tell.specs.Linear.{at_most_tells, IsLinear};
+ghost use Rattle.guarded_tell.specs.Equality.{eq_tells};
+ghost use Rattle.guarded_tell.specs.Short.{short_sum_limit, AreSums, IsAtMostQuiet, IsEquationQuiet};
+
+use crate::Lit;
+use crate::literals::{is_out, is_sure};
+use crate::short::{Sums, short_sums};
+use interval::{BoxOf, law_clamp_order, law_quotient_order};
+
+/// Whether the inequality is seen to narrow nothing. Where its numbers are large, it isn't seen.
+pub fn is_at_most_quiet(lit: Lit, coeffs: &[i64], vars: &[u32], limit: i64, b: &BoxOf) -> bool
+    requires linear { IsLinear coeffs.now vars.now limit }
+    requires variables { AreVariables (length b.now) (lit.var ∷ vars.now) }
+    requires proper { IsProperIn (lit.var ∷ vars.now) b.now }
+    ensures { OnTrue result (All (Keeps b.now) (at_most_tells lit coeffs.now vars.now limit b.now)) }
+{
+    law_quotient_order();
+    law_clamp_order();
+    match short_sums(coeffs, vars, b) {
+        Some(sums) => leaves_room(lit, limit, sums, b),
+        None => false,
+    }
+}
+
+/// Whether the sums leave more room to the limit than a term can grow by.
+#[tactic(auto, unfolding(crate::specs::Short::short_sum_limit, interval::specs::Limits::largest_number))]
+fn leaves_room(lit: Lit, limit: i64, sums: Sums, b: &BoxOf) -> bool
+    requires variable { lit.var < length b.now }
+    requires limit { IsNumber limit }
+    requires least { unsigned_abs sums.least ≤ short_sum_limit }
+    requires greatest { unsigned_abs sums.greatest ≤ short_sum_limit }
+    ensures { OnTrue result (IsAtMostQuiet b.now lit limit sums) }
+{
+    if is_sure(lit, b) {
+        sums.widest <= limit - sums.least
+    } else if is_out(lit, b) {
+        sums.widest < sums.greatest - limit
+    } else {
+        sums.least <= limit && limit < sums.greatest
+    }
+}
+
+/// Whether the equation is seen to narrow nothing. Where its numbers are large, it isn't seen.
+pub fn is_equation_quiet(lit: Lit, coeffs: &[i64], vars: &[u32], limit: i64, b: &BoxOf) -> bool
+    requires linear { IsLinear coeffs.now vars.now limit }
+    requires variables { AreVariables (length b.now) (lit.var ∷ vars.now) }
+    requires proper { IsProperIn (lit.var ∷ vars.now) b.now }
+    ensures { OnTrue result (All (Keeps b.now) (eq_tells lit coeffs.now vars.now limit b.now)) }
+{
+    law_quotient_order();
+    law_clamp_order();
+    match short_sums(coeffs, vars, b) {
+        Some(sums) => leaves_room_on_both_sides(lit, limit, sums, b),
+        None => false,
+    }
+}
+
+/// Whether the sums leave more room to the limit, on either side, than a term can grow by.
+#[tactic(auto, unfolding(crate::specs::Short::short_sum_limit, interval::specs::Limits::largest_number))]
+fn leaves_room_on_both_sides(lit: Lit, limit: i64, sums: Sums, b: &BoxOf) -> bool
+    requires variable { lit.var < length b.now }
+    requires limit { IsNumber limit }
+    requires least { unsigned_abs sums.least ≤ short_sum_limit }
+    requires greatest { unsigned_abs sums.greatest ≤ short_sum_limit }
+    ensures { OnTrue result (IsEquationQuiet b.now lit limit sums) }
+{
+    if is_sure(lit, b) {
+        let room = (limit - sums.least).min(sums.greatest - limit);
+        sums.widest <= room
+    } else if is_out(lit, b) {
+        sums.widest < sums.greatest - sums.least
+    } else {
+        sums.least <= limit && limit <= sums.greatest && sums.least < sums.greatest
+    }
+}
+
+/// What a visit of a kernel may remember for the next: it makes a visit faster and changes nothing of what is told.
+#[derive(Clone, Copy, PartialEq, Eq, Debug)]
+pub struct Hint {
+    // two places of a clause, the lower first, or one place twice
+    first: u32,
+    second: u32,
+}
+
+impl Hint {
+    /// Nothing is remembered.
+    pub fn new() -> Hint {
+        Hint {
+            first: 0,
+            second: 0,
+        }
+    }
+}
+
+/// Whether the clause is seen to narrow nothing. What the hint remembers is looked at first, and then what is found.
+pub fn is_clause_quiet(lits: &[Lit], b: &BoxOf, hint: &mut Hint) -> bool
+    requires variables { AreVariables (length b.now) (clause_vars lits.now) }
+    requires short { IsShortClause lits.now }
+    ensures { OnTrue result (All (Keeps b.now) (clause_tells lits.now b.now)) }
+{
+    if lits.is_empty() {
+        return false;
+    }
+    if is_quiet_at(lits, *hint, b) {
+        return true;
+    }
+    let found = places_left(lits, b);
+    *hint = found;
+    is_quiet_at(lits, found, b)
+}
+
+/// Whether the literal at the hint's place is sure, or those at its two places aren't out.
+fn is_quiet_at(lits: &[Lit], hint: Hint, b: &BoxOf) -> bool
+    requires some { 0 < length lits.now }
+    requires variables { AreLiterals (length b.now) lits.now }
+    ensures { OnTrue result (All (Keeps b.now) (clause_tells lits.now b.now)) }
+{
+    law_clamp_order();
+    let first = hint.first as usize;
+    let second = hint.second as usize;
+    if second >= lits.len() || first > second {
+        return false;
+    }
+    if first == second {
+        is_sure(lits[first], b)
+    } else {
+        are_left(lits[first], lits[second], b)
+    }
+}
+
+/// Whether neither literal is out.
+fn are_left(first: Lit, second: Lit, b: &BoxOf) -> bool
+    requires first { first.var < length b.now }
+    requires second { second.var < length b.now }
+    ensures first { OnTrue result (words.is_out first b.now ≡ false) }
+    ensures second { OnTrue result (words.is_out second b.now ≡ false) }
+{
+    !is_out(first, b) && !is_out(second, b)
+}
+
+/// The place of a literal that is sure, twice, or the first two places of literals that aren't out, if there are such.
+#[tactic(auto, unfolding(crate::specs::Clause::literal_limit))]
+fn places_left(lits: &[Lit], b: &BoxOf) -> Hint
+    requires variables { AreLiterals (length b.now) lits.now }
+    requires short { IsShortClause lits.now }
+{
+    let mut found = None;
+    for i in 0..lits.len() {
+        let place = i as u32;
+        if is_sure(lits[i], b) {
+            return Hint {
+                first: place,
+                second: place,
+            };
+        }
+        if !is_out(lits[i], b) {
+            match found {
+                Some(first) => {
+                    return Hint {
+                        first,
+                        second: place,
+                    };
+                }
+                None => found = Some(place),
+            }
+        }
+    }
+    Hint::new()
+}

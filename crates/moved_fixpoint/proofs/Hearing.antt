@@ -1,20 +1,22 @@
 -- A box that hears a list of tells, one after another, with the variables that move noted.
-use Rattle.std.proofs.Common.{◌≡◌, ◌≢◌, ℕ, ◌<◌, ◌<ℤ◌, List, [], ◌∷◌, length, ◌⊎◌, inl, inr, ap, sym, refl, ◌∙◌, subst, arith}
-use Rattle.std.specs.List.{All}
+use Rattle.std.proofs.Common.{◌≡◌, ◌≢◌, ℕ, ◌+◌, ◌<◌, ◌<ℤ◌, Bool, true, false, cond, List, [], ◌∷◌, ◌++◌, length, take, get_or, add-one, ◌⊎◌, inl, inr, sym, refl, ◌∙◌, subst, arith}
+use Rattle.std.specs.List.{All, filter}
 use Rattle.std.proofs.lemmas.Int.{ints}
-use Rattle.std.proofs.lemmas.List.Elements.{All-nil, All-cons, All-head, All-tail}
+use Rattle.std.proofs.Math.Seq.{take-suc}
+use Rattle.std.proofs.lemmas.List.Elements.{All-nil, All-cons, All-head, All-tail, All-filter}
 use Rattle.interval.specs.Boxes.{Bounds, IsInside, IsProper, IsCrossed, InsideOrder}
 use Rattle.interval.specs.Limits.{IsBound}
 use Rattle.guarded_tell.specs.declared.tell.Tell.{Tell}
 use Rattle.guarded_tell.specs.Words.{Keeps}
-use Rattle.guarded_tell.specs.Hearing.{HearsAll, MayHearAll}
+use Rattle.guarded_tell.specs.Hearing.{HearsAll}
 use Rattle.fixpoint_laws.specs.Changes.{TightensOne}
 use Rattle.fixpoint_laws.specs.Rounds.{Narrows}
 use Rattle.moved_set.specs.Sets.{IsIn}
+use Rattle.guarded_tell.specs.Narrowing.{narrows}
 use Rattle.moved_fixpoint.specs.Moved.{Set}
 use Rattle.moved_fixpoint.specs.declared.joiner.Progress.{Progress}
 use Rattle.moved_fixpoint.specs.declared.joiner.Progress.TheVariants.{Still, Moved, Crossed, Refused}
-use Rattle.moved_fixpoint.specs.Heard.{GainsOne, GoesOn, HasPut, told_low, told_high, IsHeard}
+use Rattle.moved_fixpoint.specs.Heard.{GainsOne, GoesOn, HasPut, told_low, told_high, IsHeard, Joined, Hears}
 use Rattle.moved_fixpoint.specs.Runs.{SameAt, Grows, Fit}
 use Rattle.moved_fixpoint.proofs.Telling.{told_box, same_elsewhere, keeps_or_narrows, tightening, told_holds, told_kept, told_moves, put_low, put_high, keeps_inside}
 
@@ -190,55 +192,81 @@ module _ (order : InsideOrder) (tightens : TightensOne) where
 abbrev pub IsPlaced : ℕ → Tell → Type 0
 IsPlaced n t = (t.var < n) × IsBound t.bound
 
-pub fit_after : (b : Bounds) (m n : Set) (p : Progress) (ts : List Tell) (after : Bounds) (m' n' : Set) (p' : Progress) →
-    Effect b m n p ts after m' n' p' → Fit b m n → Fit after m' n'
-fit_after b m n p ts after m' n' p' e f =
-    let same = e.inside in let length_is = same.same_length in
-    let grows_m = e.moved_grows in let grows_n = e.noted_grows in
-    let count_m = grows_m.same_count in let count_n = grows_n.same_count in
-    record { moved_count = count_m ∙ f.moved_count ∙ sym length_is; noted_count = count_n ∙ f.noted_count ∙ sym length_is }
+-- a list of tells
+module _ (order : InsideOrder) (tightens : TightensOne) where
+  abbrev pub Turns : Joined → List Tell → Joined → Type 0
+  Turns j ts k = Effect j.box j.moved_set j.noted_set j.progress ts k.box k.moved_set k.noted_set k.progress
 
--- any hearer with a box, two sets and a progress in it
-module _ (order : InsideOrder) (tightens : TightensOne) {H : Type 0} (box : H → Bounds) (moved noted : H → Set) (progress : H → Progress)
-    (heard : H → Tell → H → Type 0)
-    (hears : (h : H) (t : Tell) (g : H) → heard h t g → IsHeard (box h) (moved h) (noted h) (progress h) t (box g) (moved g) (noted g) (progress g)) where
   -- what hearing one tell does
-  abbrev Step : H → Tell → H → Type 0
-  Step h t g = Effect (box h) (moved h) (noted h) (progress h) (t ∷ []) (box g) (moved g) (noted g) (progress g)
+  step : (j : Joined) (t : Tell) (k : Joined) → t.var < length j.box → Hears j t k → Turns j (t ∷ []) k
+  step j t k h i = one order tightens j.box j.moved_set j.noted_set j.progress t k.box k.moved_set k.noted_set k.progress h i
 
-  step : (h : H) (t : Tell) (g : H) → t.var < length (box h) → heard h t g → Step h t g
-  step h t g k j = one order tightens (box h) (moved h) (noted h) (progress h) t (box g) (moved g) (noted g) (progress g) k (hears h t g j)
+  placed_after : (j : Joined) (t : Tell) (ts : List Tell) (k : Joined) → Turns j (t ∷ []) k → All (IsPlaced (length j.box)) (t ∷ ts) → All (IsPlaced (length k.box)) ts
+  placed_after j t ts k e a = subst (λ (n : ℕ). All (IsPlaced n) ts) (sym e.inside.same_length) (All-tail (IsPlaced (length j.box)) t ts a)
 
-  placed_after : (h : H) (t : Tell) (ts : List Tell) (g : H) → Step h t g → All (IsPlaced (length (box h))) (t ∷ ts) → All (IsPlaced (length (box g))) ts
-  placed_after h t ts g e a =
-      subst (λ (n : ℕ). All (IsPlaced n) ts) (sym e.inside.same_length) (All-tail (IsPlaced (length (box h))) t ts a)
-
-  pub may_hear_all : (may : H → Tell → Type 0) → ((h : H) (t : Tell) → IsPlaced (length (box h)) t → Fit (box h) (moved h) (noted h) → may h t) →
-      (h : H) (ts : List Tell) → All (IsPlaced (length (box h))) ts → Fit (box h) (moved h) (noted h) → MayHearAll may heard h ts
-  may_hear_all may placed h [] a f = tt
-  may_hear_all may placed h (t ∷ ts) a f =
-      let here : IsPlaced (length (box h)) t = All-head (IsPlaced (length (box h))) t ts a in (
-        placed h t here f,
-        λ g j.
-            let e : Step h t g = step h t g here.0 j in
-            may_hear_all may placed g ts (placed_after h t ts g e a)
-            (fit_after (box h) (moved h) (noted h) (progress h) (t ∷ []) (box g) (moved g) (noted g) (progress g) e f),
-      )
-
-  -- what no tell changes is the same at the end
-  pub kept_by_all : {N : Type 0} (name : H → N) → ((h : H) (t : Tell) (g : H) → heard h t g → name g ≡ name h) →
-      (h : H) (ts : List Tell) (g : H) → HearsAll heard h ts g → name g ≡ name h
-  kept_by_all name keeps h [] g e = ap name (sym e)
-  kept_by_all name keeps h (t ∷ ts) g (mid, j, rest) = kept_by_all name keeps mid ts g rest ∙ keeps h t mid j
-
-  pub effect : (h : H) (ts : List Tell) (g : H) → All (IsPlaced (length (box h))) ts → HearsAll heard h ts g →
-      Effect (box h) (moved h) (noted h) (progress h) ts (box g) (moved g) (noted g) (progress g)
-  effect h [] g a e =
-      subst (λ (x : H). Effect (box h) (moved h) (noted h) (progress h) [] (box x) (moved x) (noted x) (progress x)) e
-      (effect_none order (box h) (moved h) (noted h) (progress h) [] (λ k. All-nil (Keeps (box h))))
-  effect h (t ∷ ts) g a (mid, j, rest) =
-      let here : IsPlaced (length (box h)) t = All-head (IsPlaced (length (box h))) t ts a in
-      let e : Step h t mid = step h t mid here.0 j in
+  pub effect : (j : Joined) (ts : List Tell) (k : Joined) → All (IsPlaced (length j.box)) ts → HearsAll Hears j ts k → Turns j ts k
+  effect j [] k a e = subst (λ (x : Joined). Turns j [] x) e (effect_none order j.box j.moved_set j.noted_set j.progress [] (λ g. All-nil (Keeps j.box)))
+  effect j (t ∷ ts) k a (mid, i, rest) =
+      let here : IsPlaced (length j.box) t = All-head (IsPlaced (length j.box)) t ts a in
+      let e : Turns j (t ∷ []) mid = step j t mid here.0 i in
       let length_is = e.inside.same_length in
-      effect_more order tightens (box h) (moved h) (noted h) (progress h) t ts (box mid) (moved mid) (noted mid) (progress mid) (box g) (moved g) (noted g) (progress g)
-      (omega (arith, here.0)) e (effect mid ts g (placed_after h t ts mid e a) rest)
+      effect_more order tightens j.box j.moved_set j.noted_set j.progress t ts mid.box mid.moved_set mid.noted_set mid.progress k.box k.moved_set k.noted_set k.progress
+      (omega (arith, here.0)) e (effect mid ts k (placed_after j t ts mid e a) rest)
+
+-- one tell more
+pub hears_next : (j : Joined) (ts : List Tell) (k : Joined) (t : Tell) (l : Joined) → HearsAll Hears j ts k → Hears k t l → HearsAll Hears j (ts ++ (t ∷ [])) l
+hears_next j [] k t l e h = (l, subst (λ (x : Joined). Hears x t l) (sym e) h, refl)
+hears_next j (s ∷ ts) k t l (mid, i, rest) h = (mid, i, hears_next mid ts k t l rest h)
+
+-- where the hearing of a list stands after some of its tells
+pub record Heard (start : Joined) (ts : List Tell) (i : ℕ) (now : Joined) : Type 0 where
+  pub same_length : length now.box ≡ length start.box
+  pub fit : Fit now.box now.moved_set now.noted_set
+  pub heard : HearsAll Hears start (take i ts) now
+
+pub heard_one : InsideOrder → TightensOne → (start : Joined) (ts : List Tell) (i : ℕ) (d : Tell) (now next : Joined) → All (IsPlaced (length start.box)) ts → i < length ts →
+    Heard start ts i now → Hears now (get_or ts i d) next → Heard start ts (i + 1) next
+heard_one order tightens start ts i d now next placed within h here =
+    let same = h.same_length in
+    let inside : IsPlaced (length start.box) (get_or ts i d) = placed i d within in
+    let e : Turns order tightens now (get_or ts i d ∷ []) next = step order tightens now (get_or ts i d) next (omega (arith, inside.0)) here in
+    let length_is = e.inside.same_length in
+    let count_m = e.moved_grows.same_count in let count_n = e.noted_grows.same_count in
+    record {
+      same_length = length_is ∙ same;
+      fit = record { moved_count = count_m ∙ h.fit.moved_count ∙ sym length_is; noted_count = count_n ∙ h.fit.noted_count ∙ sym length_is };
+      heard = rw (add-one, take-suc ts i d within) (hears_next start (take i ts) now (get_or ts i d) next h.heard here);
+    }
+
+-- a tell that narrows the box at the start
+one_of_all : (b after : Bounds) (t : Tell) (rest : List Tell) (s : Bool) → (s ≡ false → Keeps after t) → All (Keeps after) (cond s (t ∷ rest) rest) →
+    Keeps after t × All (Keeps after) rest
+one_of_all b after t rest true keeps all = (All-head (Keeps after) t rest all, All-tail (Keeps after) t rest all)
+one_of_all b after t rest false keeps all = (keeps refl, all)
+
+-- what doesn't narrow a box leaves each box inside it as it is, so hearing what narrows it is hearing all
+module _ (laws : (b : Bounds) (t : Tell) → narrows b t ≡ false → Keeps b t) (b : Bounds) where
+  kept_all : (after : Bounds) → IsInside after b → (ts : List Tell) → All (IsPlaced (length b)) ts → All (Keeps after) (filter (narrows b) ts) → All (Keeps after) ts
+  kept_all after i [] placed all = All-nil (Keeps after)
+  kept_all after i (t ∷ ts) placed all =
+      let here : IsPlaced (length b) t = All-head (IsPlaced (length b)) t ts placed in
+      let both : Keeps after t × All (Keeps after) (filter (narrows b) ts) =
+      one_of_all b after t (filter (narrows b) ts) (narrows b t) (λ e. keeps_inside b after t here.0 i (laws b t e)) all in
+      All-cons (Keeps after) t ts both.0 (kept_all after i ts (All-tail (IsPlaced (length b)) t ts placed) both.1)
+
+  pub effect_of_all : (ts : List Tell) → All (IsPlaced (length b)) ts → (m n : Set) (p : Progress) (after : Bounds) (m' n' : Set) (p' : Progress) →
+      Effect b m n p (filter (narrows b) ts) after m' n' p' → Effect b m n p ts after m' n' p'
+  effect_of_all ts placed m n p after m' n' p' e = record {
+    inside = e.inside;
+    holds = λ c i a. e.holds c i (All-filter (narrows b) (Keeps c) ts a);
+    moved_grows = e.moved_grows;
+    noted_grows = e.noted_grows;
+    going = e.going;
+    unmoved = e.unmoved;
+    unnoted = e.unnoted;
+    heard = λ g. kept_all after e.inside ts placed (e.heard g);
+    still = e.still;
+    moves = e.moves;
+    proper = e.proper;
+    crossed = e.crossed;
+  }

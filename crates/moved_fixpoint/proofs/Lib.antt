@@ -1,6 +1,7 @@
 pub mod Joining
 pub mod Telling
 pub mod Hearing
+pub mod Gathering
 pub mod RunLemmas
 pub mod Rounding
 pub mod Settling

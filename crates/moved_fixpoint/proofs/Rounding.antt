@@ -10,14 +10,15 @@ use Rattle.guarded_tell.specs.declared.tell.Tell.{Tell}
 use Rattle.guarded_tell.specs.Kernels.{vars_of, tells, IsKernel, IsClosedUnder}
 use Rattle.fixpoint_laws.specs.Rounds.{HaveRun}
 use Rattle.fixpoint_laws.specs.OneRound.{IsHeardBetween}
-use Rattle.moved_set.specs.Sets.{IsIn}
+use Rattle.moved_set.specs.Sets.{IsIn, Meets, Naming, set_at, IsNaming}
 use Rattle.moved_fixpoint.specs.declared.joiner.Progress.{Progress}
 use Rattle.moved_fixpoint.specs.declared.joiner.Progress.TheVariants.{Still, Moved, Crossed}
 use Rattle.moved_fixpoint.specs.Moved.{Set, IsEmpty, Misses, IsQuietUnlessIn, AreMovedOrQuiet}
 use Rattle.moved_fixpoint.specs.Heard.{GoesOn}
 use Rattle.moved_fixpoint.specs.Runs.{Fit, Grows, SameAt, KernelRuns}
-use Rattle.moved_fixpoint.specs.Round.{AreMissed, IsRound}
+use Rattle.moved_fixpoint.specs.Round.{IsRound}
 use Rattle.moved_fixpoint.proofs.Telling.{keeps_inside}
+use Rattle.moved_fixpoint.proofs.Asking.{kernel_missed}
 use Rattle.moved_fixpoint.proofs.RunLemmas.{Local, TellPlace, stays_closed}
 
 pub record Stands (kernels : List Kernel) (a : Bounds) (lo hi : ℕ) (b : Bounds) (m n : Set) (p : Progress) : Type 0 where
@@ -204,16 +205,6 @@ pub down_out : (i n j : ℕ) → (j < i - 1) ⊎ (n ≤ j) → (j < i) ⊎ (n �
 down_out i n j (inl x) = inl (omega arith)
 down_out i n j (inr x) = inr x
 
-pub missed_up : (set : Set) (kernels : List Kernel) (i count : ℕ) → AreMissed set kernels i count →
-    (j : ℕ) (k : Kernel) → 0 ≤ j → j < i + count → (j < 0) ⊎ (i ≤ j) → Misses set (vars_of (get_or kernels j k))
-missed_up set kernels i count missed j k l h (inl x) = absurd (omega arith)
-missed_up set kernels i count missed j k l h (inr x) = missed j k x h
-
-pub missed_down : (set : Set) (kernels : List Kernel) (i count n : ℕ) → count ≤ i → AreMissed set kernels (i - count) count →
-    (j : ℕ) (k : Kernel) → i - count ≤ j → j < n → (j < i) ⊎ (n ≤ j) → Misses set (vars_of (get_or kernels j k))
-missed_down set kernels i count n within missed j k l h (inl x) = missed j k l (omega arith)
-missed_down set kernels i count n within missed j k l h (inr x) = absurd (omega arith)
-
 module _ (order : InsideOrder) (place : TellPlace) (local : Local) (kernels : List Kernel) (a : Bounds) (all : All (IsKernel (length a)) kernels) where
   pub stands_up : (i : ℕ) (b : Bounds) (m n : Set) (p : Progress) → Stands kernels a 0 i b m n p → i < length kernels → (k : Kernel) → k ≡ get_or kernels i k →
       (c : Bounds) (m' n' : Set) (p' : Progress) → KernelRuns k b m n p c m' n' p' → Stands kernels a 0 (i + 1) c m' n' p'
@@ -226,3 +217,19 @@ module _ (order : InsideOrder) (place : TellPlace) (local : Local) (kernels : Li
   stands_down i b m n p s some h k is c m' n' p' r =
       stands_run order place local kernels a all i (length kernels) b m n p s (i - 1) (omega arith) k is c m' n' p' r (i - 1) (length kernels)
       (down_cover i (length kernels)) (down_out i (length kernels))
+
+  -- kernels of which masks say that they name no variable of the set are passed over
+  module _ (naming : Naming) (is : IsNaming kernels naming) (b : Bounds) (m n : Set) (p : Progress) where
+    pub passed_up : (i j : ℕ) → Stands kernels a 0 i b m n p → i ≤ j → j ≤ length kernels →
+        ((x : ℕ) → i ≤ x → x < j → Meets (set_at naming x) m → ⊥) → Stands kernels a 0 j b m n p
+    passed_up i j s l h misses = stands_passed order place local kernels a all 0 i b m n p s 0 j (omega arith) l missed where
+      missed : (x : ℕ) (k : Kernel) → 0 ≤ x → x < j → (x < 0) ⊎ (i ≤ x) → Misses m (vars_of (get_or kernels x k))
+      missed x k above below (inl y) = absurd (omega arith)
+      missed x k above below (inr y) = kernel_missed kernels naming is m x (omega arith) (misses x y below) k
+
+    pub passed_down : (i j : ℕ) → Stands kernels a i (length kernels) b m n p → j ≤ i → i ≤ length kernels →
+        ((x : ℕ) → j ≤ x → x < i → Meets (set_at naming x) m → ⊥) → Stands kernels a j (length kernels) b m n p
+    passed_down i j s l h misses = stands_passed order place local kernels a all i (length kernels) b m n p s j (length kernels) l (omega arith) missed where
+      missed : (x : ℕ) (k : Kernel) → j ≤ x → x < length kernels → (x < i) ⊎ (length kernels ≤ x) → Misses m (vars_of (get_or kernels x k))
+      missed x k above below (inl y) = kernel_missed kernels naming is m x below (misses x above y) k
+      missed x k above below (inr y) = absurd (omega arith)

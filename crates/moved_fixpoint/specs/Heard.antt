@@ -50,3 +50,17 @@ pub record IsHeard (b : Bounds) (moved noted : Set) (progress : Progress) (t : T
       HasPut progress_after b t.var (told_low b t.side t.var t.bound) (told_high b t.side t.var t.bound) after
   pub moves : GoesOn progress → Narrows b t → GainsOne t.var moved moved_after
   pub notes : GoesOn progress → Narrows b t → GainsOne t.var noted noted_after
+
+-- where the joining of tells stands: the box, the two sets and the round's progress
+pub record Joined : Type 0 where
+  pub box : Bounds
+  pub moved_set : Set
+  pub noted_set : Set
+  pub progress : Progress
+
+abbrev pub joined : Bounds → Set → Set → Progress → Joined
+joined b moved noted p = record { box = b; moved_set = moved; noted_set = noted; progress = p }
+
+-- a tell is heard there
+abbrev pub Hears : Joined → Tell → Joined → Type 0
+Hears j t after = IsHeard j.box j.moved_set j.noted_set j.progress t after.box after.moved_set after.noted_set after.progress

@@ -1,21 +1,15 @@
 -- What one round of the kernels whose variables moved does.
-use Rattle.std.specs.Prelude.{ℕ, ◌≡◌, ◌≢◌, ◌≤◌, ◌<◌, ◌+◌, List, get_or}
+use Rattle.std.specs.Prelude.{◌≡◌, ◌≢◌, List}
 use Rattle.std.specs.List.{All}
 use Rattle.interval.specs.Boxes.{Bounds, IsProper, IsCrossed}
 use Rattle.guarded_tell.specs.declared.kernel.Kernel.{Kernel}
-use Rattle.guarded_tell.specs.Kernels.{vars_of}
 use Rattle.fixpoint_laws.specs.Rounds.{HaveRun}
 use Rattle.fixpoint_laws.specs.OneRound.{IsHeardBetween}
 use Rattle.moved_fixpoint.specs.declared.joiner.Progress.{Progress}
 use Rattle.moved_fixpoint.specs.declared.joiner.Progress.TheVariants.{Still, Moved, Crossed}
-use Rattle.moved_fixpoint.specs.Moved.{Set, IsEmpty, Misses, AreMovedOrQuiet}
+use Rattle.moved_fixpoint.specs.Moved.{Set, IsEmpty, AreMovedOrQuiet}
 use Rattle.moved_fixpoint.specs.Heard.{GoesOn}
 use Rattle.moved_fixpoint.specs.Runs.{Fit}
-
--- none of the kernels from a place on, so many, names a variable of the set
-abbrev pub AreMissed : Set → List Kernel → ℕ → ℕ → Type 0
-AreMissed set kernels from count =
-    (j : ℕ) (k : Kernel) → from ≤ j → j < from + count → Misses set (vars_of (get_or kernels j k))
 
 -- a round led from a proper box to another: no closed box was lost; unless it is over before its end, each kernel was heard
 -- on the way, and is quiet there if none of its variables was noted

@@ -66,7 +66,7 @@ fn settle_both(
     let mut all = b.current().copy(alloc)?;
     let mut spare = all.copy(alloc)?;
     let settled = settle_alone(&mut all, &mut spare, kernels);
-    let limited = settle_moved(b, &mut spare, kernels, masks, sets, 0)?;
+    let limited = settle_moved(b, kernels, masks, sets, 0)?;
     let alike = are_alike(settled, limited, &all, b.current());
     match limited {
         Limited::Fixed { .. } => Ok(Ended { alike, fixed: true }),
@@ -144,7 +144,7 @@ fn walk(
     law_quiet_unless_moved();
     let first = start(alloc, draws)?;
     let masks = Masks::new(alloc, kernels, 40)?;
-    let mut sets = MovedSets::new(alloc, 40)?;
+    let mut sets = MovedSets::new(alloc, 40, kernels.len())?;
     sets.moved.mark_all();
     let mut b = TrailedBox::new(alloc, first)?;
     for _ in 0..8 {

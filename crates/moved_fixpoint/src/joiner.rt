@@ -1,49 +1,17 @@
-//! A hearer that joins tells into a box and notes which variables moved.
+//! How tells are joined into a box, with the variables that moved noted.
 
-ghost use Rattle.std.specs.Prelude.{◌≡◌, ◌<◌, ◌↔◌, length, IsTrue, IfOk};
+ghost use Rattle.std.specs.Prelude.{◌≡◌, ◌<◌, ◌↔◌, length, IsTrue};
+ghost use Rattle.std.specs.List.{All};
 ghost use Rattle.interval.specs.Limits.{IsBound};
-ghost use Rattle.moved_fixpoint.specs.Heard.{GainsOne, GoesOn, HasPut, IsHeard};
-ghost use Rattle.moved_fixpoint.specs.Moved.{count_of, IsEmpty};
+ghost use Rattle.guarded_tell.specs.Hearing.{HearsAll};
+ghost use Rattle.moved_fixpoint.specs.Heard.{GainsOne, GoesOn, HasPut, IsHeard, Hears, joined};
 ghost use Rattle.moved_fixpoint.specs.Runs.{Fit};
 
-use guarded_tell::{Hear, Side, Tell};
-use interval::NoMemory;
+use fixpoint_laws::law_tightens_one;
+use guarded_tell::{Side, Tell};
+use interval::law_inside_order;
 use moved_set::MovedSet;
-use std::alloc::Global;
 use trailed_box::TrailedBox;
-
-/// The variables that moved.
-#[derive(Drop)]
-pub struct MovedSets {
-    /// Those that moved in the last round or in this one.
-    pub moved: MovedSet,
-    /// Those that moved in this round.
-    pub noted: MovedSet,
-}
-
-impl MovedSets {
-    /// Two empty sets of so many variables.
-    pub fn new(alloc: Global, count: u32) -> Result<MovedSets, NoMemory>
-        ensures moved { IfOk result (λ s. IsEmpty s.moved × (count_of s.moved ≡ count)) }
-        ensures noted { IfOk result (λ s. IsEmpty s.noted × (count_of s.noted ≡ count)) }
-    {
-        Ok(MovedSets {
-            moved: MovedSet::new(alloc, count)?,
-            noted: MovedSet::new(alloc, count)?,
-        })
-    }
-
-    /// What moved in the round that ends is what moved before the next.
-    pub(crate) fn begin_round(&mut self)
-        requires { count_of self.old.noted ≡ count_of self.old.moved }
-        ensures moved { self.new.moved ≡ self.old.noted }
-        ensures count { count_of self.new.noted ≡ count_of self.old.noted }
-        ensures empty { IsEmpty self.new.noted }
-    {
-        self.moved.copy_from(&self.noted);
-        self.noted.clear();
-    }
-}
 
 /// How far a round has come.
 #[derive(Clone, Copy, PartialEq, Eq, Debug)]
@@ -70,53 +38,82 @@ impl Progress {
     }
 }
 
-/// Joins tells into a box until it is crossed or memory is refused, and notes the variables that move.
-#[derive(Drop)]
-pub(crate) struct Joiner<'a> {
-    pub(crate) b: &'a mut TrailedBox,
-    pub(crate) sets: &'a mut MovedSets,
-    pub(crate) progress: Progress,
+/// Joins tells into a box, one after the other, until it is crossed or memory is refused, and notes the variables that
+/// move.
+pub(crate) fn join_all(
+    told: &[Tell],
+    b: &mut TrailedBox,
+    moved: &mut MovedSet,
+    noted: &mut MovedSet,
+    mut progress: Progress,
+) -> Progress
+    requires placed { All (λ t. (t.var < length b.old.current) × IsBound t.bound) told.now }
+    requires sets { Fit b.old.current moved.old noted.old }
+    ensures stack { b.new.stack ≡ b.old.stack }
+    ensures heard { HearsAll Hears (joined b.old.current moved.old noted.old progress) told.now (joined b.new.current moved.new noted.new result) }
+{
+    law_inside_order();
+    law_tightens_one();
+    for t in told {
+        progress = join(*t, b, moved, noted, progress);
+    }
+    progress
 }
 
-impl Hear for Joiner<'_> {
-    ghost can_hear = { λ h t. (t.var < length h.b.now.current) × IsBound t.bound × Fit h.b.now.current h.sets.now.moved h.sets.now.noted };
-
-    ghost hears = { λ h t after. IsHeard h.b.now.current h.sets.now.moved h.sets.now.noted h.progress t after.b.now.current after.sets.now.moved after.sets.now.noted after.progress × (after.b.now.stack ≡ h.b.now.stack) × (after.b.ghost_name ≡ h.b.ghost_name) × (after.sets.ghost_name ≡ h.sets.ghost_name) };
-
-    fn hear(&mut self, t: Tell) {
-        if !self.progress.goes_on() {
-            return;
-        }
-        let low = self.b.low(t.var);
-        let high = self.b.high(t.var);
-        match t.side {
-            Side::Low => {
-                if low < t.bound {
-                    self.progress = put_and_note(self.b, self.sets, t.var, t.bound, high);
-                }
+/// Joins a tell into a box, unless the round is over, and notes its variable where it moves.
+fn join(
+    t: Tell,
+    b: &mut TrailedBox,
+    moved: &mut MovedSet,
+    noted: &mut MovedSet,
+    progress: Progress,
+) -> Progress
+    requires variable { t.var < length b.old.current }
+    requires bound { IsBound t.bound }
+    requires sets { Fit b.old.current moved.old noted.old }
+    ensures stack { b.new.stack ≡ b.old.stack }
+    ensures heard { IsHeard b.old.current moved.old noted.old progress t b.new.current moved.new noted.new result }
+{
+    if !progress.goes_on() {
+        return progress;
+    }
+    let low = b.low(t.var);
+    let high = b.high(t.var);
+    match t.side {
+        Side::Low => {
+            if low < t.bound {
+                return put_and_note(b, moved, noted, t.var, t.bound, high);
             }
-            Side::High => {
-                if t.bound < high {
-                    self.progress = put_and_note(self.b, self.sets, t.var, low, t.bound);
-                }
+        }
+        Side::High => {
+            if t.bound < high {
+                return put_and_note(b, moved, noted, t.var, low, t.bound);
             }
         }
     }
+    progress
 }
 
 /// Puts bounds of a variable, and notes it. Nothing is put where memory is refused.
-fn put_and_note(b: &mut TrailedBox, sets: &mut MovedSets, v: u32, low: i64, high: i64) -> Progress
+fn put_and_note(
+    b: &mut TrailedBox,
+    moved: &mut MovedSet,
+    noted: &mut MovedSet,
+    v: u32,
+    low: i64,
+    high: i64,
+) -> Progress
     requires variable { v < length b.old.current }
     requires low_in_range { IsBound low }
     requires high_in_range { IsBound high }
-    requires sets { Fit b.old.current sets.old.moved sets.old.noted }
+    requires sets { Fit b.old.current moved.old noted.old }
     ensures stack { b.new.stack ≡ b.old.stack }
     ensures put { HasPut result b.old.current v low high b.new.current }
-    ensures moves { GainsOne v sets.old.moved sets.new.moved }
-    ensures notes { GainsOne v sets.old.noted sets.new.noted }
+    ensures moves { GainsOne v moved.old moved.new }
+    ensures notes { GainsOne v noted.old noted.new }
 {
-    sets.moved.mark(v);
-    sets.noted.mark(v);
+    moved.mark(v);
+    noted.mark(v);
     if b.put(v, low, high).is_err() {
         Progress::Refused
     } else if low > high {

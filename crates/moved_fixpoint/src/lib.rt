@@ -9,10 +9,12 @@ mod joiner;
 mod laws;
 mod round;
 mod running;
+mod sets;
 mod settle;
 #[cfg(test)]
 mod tests;
+mod told;
 
-pub use joiner::MovedSets;
 pub use laws::law_quiet_unless_moved;
+pub use sets::MovedSets;
 pub use settle::{settle_moved, settle_proper};

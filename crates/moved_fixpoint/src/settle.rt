@@ -10,11 +10,12 @@ ghost use Rattle.moved_fixpoint.specs.Runs.{Fit};
 ghost use Rattle.moved_fixpoint.specs.Round.{IsRound};
 ghost use Rattle.moved_fixpoint.specs.Ends.{HasEnded};
 
-use crate::joiner::{MovedSets, Progress};
+use crate::joiner::Progress;
 use crate::round::{run_down, run_up};
+use crate::sets::MovedSets;
 use fixpoint_laws::{Limited, law_rounds_lead};
 use guarded_tell::Kernel;
-use interval::{BoxOf, NoMemory, is_crossed, law_inside_order};
+use interval::{NoMemory, is_crossed, law_inside_order};
 use moved_set::Masks;
 use trailed_box::TrailedBox;
 
@@ -24,24 +25,21 @@ fn run_round(
     kernels: &[Kernel],
     masks: &Masks,
     b: &mut TrailedBox,
-    spare: &mut BoxOf,
     sets: &mut MovedSets,
 ) -> Progress
     requires kernels { All (IsKernel (length b.old.current)) kernels.now }
     requires masks { AreMasksOf kernels.now (length b.old.current) masks.now }
-    requires spare { length spare.old ≡ length b.old.current }
     requires sets { Fit b.old.current sets.old.moved sets.old.noted }
     requires proper { IsProper b.old.current }
     requires quiet { AreMovedOrQuiet sets.old.moved b.old.current kernels.now }
     requires empty { IsEmpty sets.old.noted }
-    ensures spare { length spare.new ≡ length b.old.current }
     ensures stack { b.new.stack ≡ b.old.stack }
     ensures round { IsRound kernels.now b.old.current b.new.current sets.new.moved sets.new.noted result }
 {
     if up {
-        run_up(kernels, masks, b, spare, sets)
+        run_up(kernels, masks, b, sets)
     } else {
-        run_down(kernels, masks, b, spare, sets)
+        run_down(kernels, masks, b, sets)
     }
 }
 
@@ -55,7 +53,6 @@ fn are_spent(round_limit: u64, rounds: u128) -> bool
 /// Runs rounds up and down the kernels in turn.
 fn run_rounds(
     b: &mut TrailedBox,
-    spare: &mut BoxOf,
     kernels: &[Kernel],
     masks: &Masks,
     sets: &mut MovedSets,
@@ -63,12 +60,10 @@ fn run_rounds(
 ) -> Result<Limited, NoMemory>
     requires kernels { All (IsKernel (length b.old.current)) kernels.now }
     requires masks { AreMasksOf kernels.now (length b.old.current) masks.now }
-    requires spare { length spare.old ≡ length b.old.current }
     requires sets { Fit b.old.current sets.old.moved sets.old.noted }
     requires proper { IsProper b.old.current }
     requires quiet { AreMovedOrQuiet sets.old.moved b.old.current kernels.now }
     requires empty { IsEmpty sets.old.noted }
-    ensures spare { length spare.new ≡ length b.old.current }
     ensures stack { b.new.stack ≡ b.old.stack }
     ensures sets { Fit b.old.current sets.new.moved sets.new.noted }
     ensures ends { IfOk result (HasEnded kernels.now round_limit b.old.current b.new.current) }
@@ -82,7 +77,7 @@ fn run_rounds(
     let mut up = true;
     'rounds: loop {
         rounds += 1;
-        match run_round(up, kernels, masks, b, spare, sets) {
+        match run_round(up, kernels, masks, b, sets) {
             Progress::Still => return Ok(Limited::Fixed { rounds }),
             Progress::Moved => {}
             Progress::Crossed => return Ok(Limited::Failed { rounds }),
@@ -99,7 +94,6 @@ fn run_rounds(
 /// Narrows a proper box as [`settle_moved`] does.
 pub fn settle_proper(
     b: &mut TrailedBox,
-    spare: &mut BoxOf,
     kernels: &[Kernel],
     masks: &Masks,
     sets: &mut MovedSets,
@@ -107,11 +101,9 @@ pub fn settle_proper(
 ) -> Result<Limited, NoMemory>
     requires kernels { All (IsKernel (length b.old.current)) kernels.now }
     requires masks { AreMasksOf kernels.now (length b.old.current) masks.now }
-    requires spare { length spare.old ≡ length b.old.current }
     requires sets { Fit b.old.current sets.old.moved sets.old.noted }
     requires quiet { AreMovedOrQuiet sets.old.moved b.old.current kernels.now }
     requires proper { IsProper b.old.current }
-    ensures spare { length spare.new ≡ length b.old.current }
     ensures stack { b.new.stack ≡ b.old.stack }
     ensures sets { Fit b.old.current sets.new.moved sets.new.noted }
     ensures empty { IsEmpty sets.new.moved }
@@ -119,7 +111,7 @@ pub fn settle_proper(
     ensures err { OnErr result (HaveRun kernels.now b.old.current b.new.current) }
 {
     sets.noted.clear();
-    let ending = run_rounds(b, spare, kernels, masks, sets, round_limit);
+    let ending = run_rounds(b, kernels, masks, sets, round_limit);
     sets.moved.clear();
     ending
 }
@@ -127,10 +119,9 @@ pub fn settle_proper(
 /// Narrows the box of `b` to the greatest closed box inside it, in rounds that run only those kernels of which some
 /// variable moved, until a round moves nothing. Where no closed box is inside, the box ends crossed. After `round_limit`
 /// rounds (0: no limit) it stops. Each kernel that names none of the variables of `sets.moved` has to be quiet on the box;
-/// that set is empty then. The stack stays as it is. `spare` is where the kernels read from.
+/// that set is empty then. The stack stays as it is.
 pub fn settle_moved(
     b: &mut TrailedBox,
-    spare: &mut BoxOf,
     kernels: &[Kernel],
     masks: &Masks,
     sets: &mut MovedSets,
@@ -138,10 +129,8 @@ pub fn settle_moved(
 ) -> Result<Limited, NoMemory>
     requires kernels { All (IsKernel (length b.old.current)) kernels.now }
     requires masks { AreMasksOf kernels.now (length b.old.current) masks.now }
-    requires spare { length spare.old ≡ length b.old.current }
     requires sets { Fit b.old.current sets.old.moved sets.old.noted }
     requires quiet { AreMovedOrQuiet sets.old.moved b.old.current kernels.now }
-    ensures spare { length spare.new ≡ length b.old.current }
     ensures stack { b.new.stack ≡ b.old.stack }
     ensures sets { Fit b.old.current sets.new.moved sets.new.noted }
     ensures empty { IsEmpty sets.new.moved }
@@ -153,5 +142,5 @@ pub fn settle_moved(
         sets.moved.clear();
         return Ok(Limited::Failed { rounds: 0 });
     }
-    settle_proper(b, spare, kernels, masks, sets, round_limit)
+    settle_proper(b, kernels, masks, sets, round_limit)
 }

@@ -14,7 +14,8 @@ use std::alloc::Global;
 use std::test::Fail;
 use trailed_box::TrailedBox;
 
-/// How a box of two variables ends where all may have moved, and the upper bounds that they then have.
+/// How a box of two variables ends where all may have moved, and the upper bounds that they then have. No kernel has a
+/// place for its hint.
 fn settled(
     alloc: Global,
     start: [(i64, i64); 2],
@@ -26,12 +27,11 @@ fn settled(
 {
     law_quiet_unless_moved();
     let first = BoxOf::from_pairs(alloc, &start)?;
-    let mut spare = first.copy(alloc)?;
     let masks = Masks::new(alloc, kernels, 2)?;
-    let mut sets = MovedSets::new(alloc, 2)?;
+    let mut sets = MovedSets::new(alloc, 2, 0)?;
     sets.moved.mark_all();
     let mut b = TrailedBox::new(alloc, first)?;
-    let ended = settle_moved(&mut b, &mut spare, kernels, &masks, &mut sets, round_limit)?;
+    let ended = settle_moved(&mut b, kernels, &masks, &mut sets, round_limit)?;
     Ok((ended, [b.high(0), b.high(1)]))
 }
 

@@ -14,7 +14,7 @@ use Rattle.std.specs.Int.{trailing_zeros}
 use Rattle.guarded_tell.specs.declared.kernel.Kernel.{Kernel}
 use Rattle.guarded_tell.specs.Words.{AreVariables}
 use Rattle.guarded_tell.specs.Kernels.{vars_of, IsKernel}
-use Rattle.moved_set.specs.Sets.{IsIn, Meets, IsNaming, SomeMeets}
+use Rattle.moved_set.specs.Sets.{IsIn, Meets, Naming, set_at, IsNaming, SomeMeets, NoneMeets}
 use Rattle.moved_set.specs.Words.{has_bit, hits, names, named_by}
 use Rattle.moved_set.specs.Building.{AreWithin, NamesBelow, AreNamed, IsMerged}
 use Rattle.moved_set.specs.Questions.{AreBelow, NamesOne}
@@ -214,3 +214,23 @@ sixty_four_answer r count lower middle upper g set masks h below merged above is
           let named = (merged.each (some.0 / 8) one.0 eight).1 (some.0, inside, refl, one.1) in
           said.1 (one.0, (above.each g one.0 h).1 (some.0 / 8, eight, place, named), one.2),
     )
+
+-- ---- kernels that name no variable of a set
+
+-- two parts that follow each other
+pub missed_both : (n : Naming) (set : List Bool) (from mid to : ℕ) → NoneMeets n from mid set → NoneMeets n mid to set → NoneMeets n from to set
+missed_both n set from mid to first second j le lt meets =
+    ⊎_elim (λ (below : j < mid). first j le below meets) (λ (above : mid ≤ j). second j above lt meets) (cases_lt j mid)
+
+-- one kernel
+pub missed_one : (n : Naming) (set : List Bool) (place to : ℕ) → to ≡ place + 1 → (Meets (set_at n place) set → ⊥) → NoneMeets n place to set
+missed_one n set place to e none j le lt meets =
+    let is : j ≡ place = omega arith in
+    none (subst (λ (k : ℕ). Meets (set_at n k) set) is meets)
+
+-- a group
+pub missed_eight : (n : Naming) (set : List Bool) (g from to : ℕ) → g * 8 ≤ from → to ≤ g * 8 + 8 → to ≤ length n.sets → (SomeMeets n 8 g set → ⊥) → NoneMeets n from to set
+missed_eight n set g from to start end within none j le lt meets = none (j, omega arith, omega arith, meets)
+
+pub missed_sixty_four : (n : Naming) (set : List Bool) (g from to : ℕ) → g * 64 ≤ from → to ≤ g * 64 + 64 → to ≤ length n.sets → (SomeMeets n 64 g set → ⊥) → NoneMeets n from to set
+missed_sixty_four n set g from to start end within none j le lt meets = none (j, omega arith, omega arith, meets)

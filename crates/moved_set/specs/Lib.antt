@@ -1,6 +1,9 @@
 pub mod Sets
+pub mod Listed
 pub mod Words
 pub mod Flat
 pub mod Building
 pub mod Questions
 pub mod Consistent
+pub mod ConsistentSet
+pub mod Rows

@@ -1,5 +1,5 @@
 -- Sets of variables: for each variable whether it is in the set.
-use Rattle.std.specs.Prelude.{◌≡◌, ℕ, ◌<◌, Bool, true, false, List, [], length, slice_index_or, ◌||◌, ◌/◌, ◌↔◌, Contains}
+use Rattle.std.specs.Prelude.{◌≡◌, ℕ, ◌<◌, ◌≤◌, Bool, true, false, List, [], length, slice_index_or, ◌||◌, ◌/◌, ◌↔◌, Contains}
 use Rattle.guarded_tell.specs.declared.kernel.Kernel.{Kernel}
 use Rattle.guarded_tell.specs.Kernels.{vars_of}
 
@@ -35,3 +35,15 @@ pub record IsNaming (kernels : List Kernel) (naming : Naming) : Type 0 where
 -- some kernel of a group names a variable of the set; the groups have so many kernels each, the last one maybe fewer
 abbrev pub SomeMeets : Naming → ℕ → ℕ → List Bool → Type 0
 SomeMeets naming size group set = (j : ℕ) × (j < length naming.sets) × (j / size ≡ group) × Meets (set_at naming j) set
+
+-- no kernel from one place up to another names a variable of the set
+abbrev pub NoneMeets : Naming → ℕ → ℕ → List Bool → Type 0
+NoneMeets naming from to set = (j : ℕ) → from ≤ j → j < to → Meets (set_at naming j) set → ⊥
+
+-- no kernel from one place up to another names the variable
+abbrev pub NoneName : Naming → ℕ → ℕ → ℕ → Type 0
+NoneName naming from to v = (j : ℕ) → from ≤ j → j < to → IsIn (set_at naming j) v → ⊥
+
+-- one of the variables is in the set
+abbrev pub NamesSome : List Bool → List ℕ → Type 0
+NamesSome set variables = (v : ℕ) × Contains variables v × IsIn set v

@@ -2,9 +2,11 @@
 #![tactic(auto)]
 
 mod build;
+mod few;
 mod groups;
 mod mask;
 mod masks;
+mod rows;
 mod set;
 
 pub use masks::Masks;

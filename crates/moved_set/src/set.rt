@@ -1,22 +1,25 @@
 //! Sets of variables.
 
-ghost use Rattle.std.specs.Prelude.{◌≡◌, ◌<◌, ◌*◌, ◌+◌, ◌/◌, ℕ, true, false, length, replicate, slice_set, slice_index, slice_index_or, EachIndex, IfOk, bit_or};
+ghost use Rattle.std.specs.Prelude.{◌≡◌, ◌<◌, ◌*◌, ◌+◌, ◌/◌, ℕ, true, false, length, replicate, slice_set, slice_index, slice_index_or, EachIndex, IfOk, IfSome, bit_or};
+ghost use Rattle.moved_set.specs.Listed.{AreAllOf};
 ghost use Rattle.moved_set.specs.Sets.{IsUnion};
-ghost use Rattle.moved_set.specs.Words.{has_bit};
+ghost use Rattle.moved_set.specs.Words.{has, has_bit};
 
+use crate::few::Few;
 use interval::NoMemory;
 use std::alloc::Global;
 use std::marker::Model;
 
-/// A set of variables, as bits. Contracts see for each variable whether it is in the set.
+/// A set of variables, as bits, and as a list while they are few. Contracts see for each variable whether it is in the set.
 #[derive(Drop)]
 pub struct MovedSet {
     words: Vec<u64>,
     count: u32,
+    few: Few,
 }
 
 impl Model for MovedSet {
-    ghost use Rattle.std.specs.Prelude.{◌≡◌, ◌+◌, ◌/◌, List, Bool, length};
+    ghost use Rattle.std.specs.Prelude.{List, Bool};
 
     ghost Value = { List Bool };
 
@@ -24,7 +27,9 @@ impl Model for MovedSet {
 
     ghost view = { λ s. set_of s.words.items s.count };
 
-    ghost invariant = { λ s. length s.words.items ≡ (s.count + 63) / 64 };
+    ghost use Rattle.moved_set.specs.ConsistentSet.{IsConsistent};
+
+    ghost invariant = { IsConsistent };
 }
 
 impl MovedSet {
@@ -33,7 +38,8 @@ impl MovedSet {
         ensures { IfOk result (λ s. s ≡ replicate count false) }
     {
         let words = vec![in alloc; 0; word_count(count)]?;
-        Ok(MovedSet { words, count })
+        let few = Few::new(alloc)?;
+        Ok(MovedSet { words, count, few })
     }
 
     /// How many variables there are, in the set or not.
@@ -48,7 +54,7 @@ impl MovedSet {
         requires { v < length self.now }
         ensures { result ≡ slice_index_or self.now v false }
     {
-        (self.words[v as usize / 64] >> (v % 64)) & 1 == 1
+        is_set(self.words.as_slice(), v)
     }
 
     /// Puts the variable into the set.
@@ -56,6 +62,8 @@ impl MovedSet {
         requires { v < length self.old }
         ensures { self.new ≡ slice_set self.old v true }
     {
+        let is_known = is_set(self.words.as_slice(), v);
+        self.few.put(v, is_known);
         self.words[v as usize / 64] |= 1 << (v % 64);
     }
 
@@ -64,6 +72,7 @@ impl MovedSet {
         ensures { self.new ≡ replicate (length self.old) false }
     {
         self.words.as_mut_slice().fill(0);
+        self.few.clear();
     }
 
     /// Puts all variables into the set.
@@ -71,6 +80,7 @@ impl MovedSet {
         ensures { self.new ≡ replicate (length self.old) true }
     {
         self.words.as_mut_slice().fill(u64::MAX);
+        self.few.give_up();
     }
 
     /// Puts the variables of the other set into this one too.
@@ -79,6 +89,7 @@ impl MovedSet {
         ensures { IsUnion self.old other.now self.new }
     {
         unite_words(self.words.as_mut_slice(), other.words.as_slice());
+        self.few.give_up();
     }
 
     /// Becomes the other set.
@@ -87,6 +98,18 @@ impl MovedSet {
         ensures { self.new ≡ other.now }
     {
         self.words.as_mut_slice().copy_from_slice(&other.words);
+        self.few.copy_from(&other.few);
+    }
+
+    /// The variables of the set, if they are few.
+    pub(crate) fn few(&self) -> Option<&[u32]>
+        ensures { IfSome result (λ variables. AreAllOf self.now variables.now) }
+    {
+        if self.few.is_whole() {
+            Some(self.few.variables())
+        } else {
+            None
+        }
     }
 
     /// A word: the bits of 64 variables.
@@ -96,6 +119,14 @@ impl MovedSet {
     {
         self.words[place as usize]
     }
+}
+
+/// Whether the bit of a variable is 1.
+fn is_set(words: &[u64], v: u32) -> bool
+    requires { v / 64 < length words.now }
+    ensures { result ≡ has words.now v }
+{
+    (words[v as usize / 64] >> (v % 64)) & 1 == 1
 }
 
 /// How many words hold the bits of so many variables.

@@ -58,18 +58,27 @@ fn a_set_becomes_another_or_all(rt: HostRuntime) -> Result<(), Fail> {
 }
 
 #[test]
-fn kernels_are_asked_alone_and_in_groups(rt: HostRuntime) -> Result<(), Fail> {
+fn kernels_are_found_one_after_the_other(rt: HostRuntime) -> Result<(), Fail> {
     let kernels = seventy_kernels(rt.alloc())?;
     let masks = Masks::new(rt.alloc(), kernels.as_slice(), 130)?;
     let mut moved = MovedSet::new(rt.alloc(), 130)?;
     moved.mark(65);
-    assert!(rt; masks.meets_kernel(5, &moved) && masks.meets_kernel(65, &moved));
-    assert!(rt; !masks.meets_kernel(4, &moved) && !masks.meets_kernel(69, &moved));
-    assert!(rt; masks.meets_eight(0, &moved) && masks.meets_eight(8, &moved));
-    assert!(rt; !masks.meets_eight(1, &moved) && !masks.meets_eight(7, &moved));
-    assert!(rt; masks.meets_sixty_four(0, &moved) && masks.meets_sixty_four(1, &moved));
-    moved.clear();
-    moved.mark(129);
-    assert!(rt; !masks.meets_sixty_four(0, &moved) && masks.meets_sixty_four(1, &moved));
+    let found = masks.next(6, &moved);
+    assert_eq!(rt; found, 65);
+    let found = masks.next_back(65, &moved);
+    assert_eq!(rt; found, 6);
+    Ok(())
+}
+
+#[test]
+fn all_kernels_are_found_where_all_moved(rt: HostRuntime) -> Result<(), Fail> {
+    let kernels = seventy_kernels(rt.alloc())?;
+    let masks = Masks::new(rt.alloc(), kernels.as_slice(), 130)?;
+    let mut moved = MovedSet::new(rt.alloc(), 130)?;
+    moved.mark_all();
+    let found = masks.next(9, &moved);
+    assert_eq!(rt; found, 9);
+    let found = masks.next_back(9, &moved);
+    assert_eq!(rt; found, 9);
     Ok(())
 }

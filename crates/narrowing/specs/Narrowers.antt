@@ -3,7 +3,7 @@ use Rattle.std.specs.Prelude.{◌≡◌, ◌≤◌, ℕ, List, [], ◌∷◌, le
 use Rattle.interval.specs.Boxes.{Bounds}
 use Rattle.guarded_tell.specs.declared.kernel.Kernel.{Kernel}
 use Rattle.fixpoint_laws.specs.Fixpoints.{IsClosed}
-use Rattle.moved_fixpoint.specs.Moved.{count_of, AreMovedOrQuiet}
+use Rattle.moved_fixpoint.specs.Moved.{count_of, IsEmpty, AreMovedOrQuiet}
 use Rattle.rounds.specs.Shares.{IsCut}
 use Rattle.rounds.specs.Engines.{engine_len, engine_shares}
 use Rattle.narrowing.specs.declared.alone.Alone.{Alone}
@@ -14,7 +14,6 @@ use Rattle.narrowing.specs.declared.narrower.Narrower.{Narrower}
 pub record IsAloneFor (alone : Alone) (count : ℕ) : Type 0 where
   pub moved : count_of alone.sets.moved ≡ count
   pub noted : count_of alone.sets.noted ≡ count
-  pub spare : length alone.spare ≡ count
 
 -- lanes serve these kernels and boxes of so many variables
 pub record AreLanesFor (lanes : Lanes) (kernels : List Kernel) (count : ℕ) : Type 0 where
@@ -52,6 +51,11 @@ lanes_for (k ∷ kernels) lanes = lanes
 abbrev pub AreQuietUnlessNoted : Narrower → List Kernel → Bounds → Type 0
 AreQuietUnlessNoted (Narrower.Alone alone) kernels b = AreMovedOrQuiet alone.sets.moved b kernels
 AreQuietUnlessNoted (Narrower.Lanes lanes) kernels b = Unit {0}
+
+-- it has noted no variable
+abbrev pub NotesNone : Narrower → Type 0
+NotesNone (Narrower.Alone alone) = IsEmpty alone.sets.moved
+NotesNone (Narrower.Lanes lanes) = Unit {0}
 
 -- on a closed box all kernels are quiet, whatever is noted
 abbrev pub QuietWhereClosed : Type 0

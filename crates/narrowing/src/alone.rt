@@ -1,9 +1,10 @@
 //! What narrows alone, by propagation that asks what moved.
 
-ghost use Rattle.std.specs.Prelude.{◌≡◌, ◌≤◌, length, All, IfOk};
+ghost use Rattle.std.specs.Prelude.{◌≡◌, ◌≤◌, ℕ, length, All, IfOk};
 ghost use Rattle.interval.specs.Limits.{box_limit};
+ghost use Rattle.interval.specs.Boxes.{IsProper};
 ghost use Rattle.guarded_tell.specs.Kernels.{IsKernel};
-ghost use Rattle.moved_fixpoint.specs.Moved.{AreMasksOf, AreMovedOrQuiet};
+ghost use Rattle.moved_fixpoint.specs.Moved.{AreMasksOf, IsEmpty, AreMovedOrQuiet};
 ghost use Rattle.narrowing.specs.Narrowing.{IsNarrowed};
 ghost use Rattle.narrowing.specs.Narrowers.{IsAloneFor};
 
@@ -11,7 +12,7 @@ use crate::narrowed::Narrowed;
 use crate::propagation::Propagation;
 use fixpoint_laws::Limited;
 use interval::{BoxOf, NoMemory};
-use moved_fixpoint::{MovedSets, settle_moved};
+use moved_fixpoint::{MovedSets, settle_proper};
 use rounds::Gate;
 use std::alloc::Global;
 use trailed_box::TrailedBox;
@@ -25,26 +26,31 @@ pub(crate) fn flat_box(alloc: Global, len: u32) -> Result<BoxOf, NoMemory>
     BoxOf::from_pairs(alloc, pairs.as_slice())
 }
 
-/// What narrows alone: the variables that are noted, and where the kernels read from.
+/// What narrows alone: the variables that are noted.
 #[derive(Drop)]
 pub struct Alone {
     pub(crate) sets: MovedSets,
-    pub(crate) spare: BoxOf,
 }
 
 impl Alone {
-    /// For boxes of so many variables. None is noted.
-    pub(crate) fn new(alloc: Global, len: u32) -> Result<Alone, NoMemory>
-        requires { len ≤ box_limit }
+    /// For boxes of so many variables and so many kernels. No variable is noted.
+    pub(crate) fn new(alloc: Global, len: u32, kernels: usize) -> Result<Alone, NoMemory>
         ensures { IfOk result (λ alone. IsAloneFor alone len) }
     {
         Ok(Alone {
-            sets: MovedSets::new(alloc, len)?,
-            spare: flat_box(alloc, len)?,
+            sets: MovedSets::new(alloc, len, kernels)?,
         })
     }
 
-    /// Narrows the box by the kernels that name a noted variable, and so on. No variable is noted then.
+    /// Notes no variable any more.
+    pub(crate) fn forget(&mut self)
+        ensures fits { (count : ℕ) → IsAloneFor self.old count → IsAloneFor self.new count }
+        ensures none { IsEmpty self.new.sets.moved }
+    {
+        self.sets.moved.clear();
+    }
+
+    /// Narrows the proper box by the kernels that name a noted variable, and so on. No variable is noted then.
     pub(crate) fn narrow<L: Gate>(
         &mut self,
         what: &Propagation<'_, L>,
@@ -54,14 +60,15 @@ impl Alone {
         requires masks { AreMasksOf what.now.kernels.now (length b.old.current) what.now.masks.now }
         requires fits { IsAloneFor self.old (length b.old.current) }
         requires quiet { AreMovedOrQuiet self.old.sets.moved b.old.current what.now.kernels.now }
+        requires proper { IsProper b.old.current }
         ensures fits { IsAloneFor self.new (length b.old.current) }
         ensures stack { b.new.stack ≡ b.old.stack }
         ensures same_length { length b.new.current ≡ length b.old.current }
+        ensures none { IsEmpty self.new.sets.moved }
         ensures narrowed { IfOk result (IsNarrowed what.now.kernels.now what.now.round_limit b.old.current b.new.current) }
     {
-        match settle_moved(
+        match settle_proper(
             b,
-            &mut self.spare,
             what.kernels,
             what.masks,
             &mut self.sets,

@@ -2,13 +2,13 @@
 
 ghost use Rattle.std.specs.Prelude.{◌≡◌, ◌≤◌, ◌<◌, ℕ, ℤ, List, length, All, IfOk};
 ghost use Rattle.interval.specs.Limits.{box_limit};
-ghost use Rattle.interval.specs.Boxes.{Bounds, put_of};
+ghost use Rattle.interval.specs.Boxes.{Bounds, IsProper, put_of};
 ghost use Rattle.guarded_tell.specs.declared.kernel.Kernel.{Kernel};
 ghost use Rattle.guarded_tell.specs.Kernels.{IsKernel};
 ghost use Rattle.moved_fixpoint.specs.Moved.{AreMasksOf};
 ghost use Rattle.rounds.specs.Shares.{share_limit};
 ghost use Rattle.narrowing.specs.Narrowing.{IsNarrowed};
-ghost use Rattle.narrowing.specs.Narrowers.{Fits, AreQuietUnlessNoted, len_of, lanes_of, lanes_for};
+ghost use Rattle.narrowing.specs.Narrowers.{Fits, AreQuietUnlessNoted, NotesNone, len_of, lanes_of, lanes_for};
 
 use crate::alone::Alone;
 use crate::lanes::Lanes;
@@ -22,7 +22,7 @@ use std::alloc::Global;
 use std::thread::Threads;
 use trailed_box::TrailedBox;
 
-/// What narrows the boxes of one searcher, kept over its nodes and its runs. The searcher notes each variable whose bounds
+/// What narrows the boxes of one searcher, kept over its nodes. The searcher notes each variable whose bounds
 /// it puts.
 #[derive(Drop)]
 pub enum Narrower {
@@ -48,7 +48,7 @@ impl Narrower {
         ensures lanes { IfOk result (λ made. lanes_of made ≡ lanes_for kernels.now lanes) }
     {
         if lanes == 1 || kernels.is_empty() {
-            Ok(Narrower::Alone(Alone::new(alloc, len)?))
+            Ok(Narrower::Alone(Alone::new(alloc, len, kernels.len())?))
         } else {
             Ok(Narrower::Lanes(Lanes::new(alloc, kernels, len, lanes)?))
         }
@@ -81,7 +81,18 @@ impl Narrower {
         }
     }
 
-    /// Narrows the box to the greatest closed box inside it, or finds that there is none, or gives up after so many rounds
+    /// Notes no variable any more: what was noted of a box that is let go.
+    pub fn forget(&mut self)
+        ensures fits { (kernels : List Kernel) (count : ℕ) → Fits self.old kernels count → Fits self.new kernels count }
+        ensures lanes { lanes_of self.new ≡ lanes_of self.old }
+        ensures none { NotesNone self.new }
+    {
+        if let Narrower::Alone(alone) = self {
+            alone.forget();
+        }
+    }
+
+    /// Narrows the proper box to the greatest closed box inside it, or finds that there is none, or gives up after so many rounds
     /// as the limit. Each kernel that names none of the variables that are noted has to be quiet on the box; none is noted
     /// then. The stack stays as it is, and so it does where memory is refused.
     pub fn narrow<R: Threads + Sync, L: Gate + Sync>(
@@ -95,10 +106,12 @@ impl Narrower {
         requires masks { AreMasksOf what.now.kernels.now (length b.old.current) what.now.masks.now }
         requires fits { Fits self.old what.now.kernels.now (length b.old.current) }
         requires quiet { AreQuietUnlessNoted self.old what.now.kernels.now b.old.current }
+        requires proper { IsProper b.old.current }
         ensures fits { Fits self.new what.now.kernels.now (length b.old.current) }
         ensures lanes { lanes_of self.new ≡ lanes_of self.old }
         ensures stack { b.new.stack ≡ b.old.stack }
         ensures same_length { length b.new.current ≡ length b.old.current }
+        ensures none { NotesNone self.new }
         ensures narrowed { IfOk result (IsNarrowed what.now.kernels.now what.now.round_limit b.old.current b.new.current) }
     {
         match self {

@@ -1,9 +1,11 @@
 -- A searcher's boxes, and what it knows of them, at each move.
-use Rattle.std.proofs.Common.{◌≡◌, ◌≢◌, ℕ, ℤ, pos, ◌-ℤ◌, Option, Some, None, ◌<◌, Bool, true, false, cond, List, [], ◌∷◌, ◌++◌, length, map, refl, sym, ap, subst, ◌∙◌, arith, length-append}
+use Rattle.std.proofs.Common.{◌≡◌, ◌≢◌, ◌⊎◌, inl, inr, ℕ, ℤ, pos, ◌-ℤ◌, ◌≤ℤ◌, ◌<ℤ◌, Option, Some, None, ◌<◌, Bool, true, false, cond, List, [], ◌∷◌, ◌++◌, length, map, refl, sym, ap, subst, ◌∙◌, arith, length-append}
 use Rattle.std.specs.List.{All}
-use Rattle.std.proofs.lemmas.List.{append_assoc, map-append}
+use Rattle.std.specs.Bool.{OnTrue, OnFalse}
+use Rattle.std.proofs.lemmas.Int.{ints}
+use Rattle.std.proofs.lemmas.List.{append_assoc, map-append, length-set, get_or-set_same}
 use Rattle.std.proofs.lemmas.List.Elements.{All-nil, All-cons, All-append}
-use Rattle.interval.specs.Boxes.{Bounds, IsInside, IsProper, InsideOrder, put_of}
+use Rattle.interval.specs.Boxes.{Bounds, low_of, high_of, IsInside, IsProper, IsCrossed, InsideOrder, put_of}
 use Rattle.constraint_model.specs.declared.model.FznModel.{FznModel}
 use Rattle.trailed_box.specs.Trailed.{Left, left_of, box_of, boxes_of as left_boxes}
 use Rattle.branching.specs.declared.fronts.Front.{Front}
@@ -13,7 +15,8 @@ use Rattle.constraint_model.specs.declared.model.Goal.{Goal}
 use Rattle.search.specs.declared.kind.Kind.{Kind}
 use Rattle.search.specs.Machine.{cut_by}
 use Rattle.search.proofs.CutLaws.{at_most_inside}
-use Rattle.search.specs.Stacks.{IsLeft, AreFronts, AreSound, IsFrontNear}
+use Rattle.fixpoint_laws.specs.Changes.{TightensOne}
+use Rattle.search.specs.Stacks.{IsLeft, TellsCrossed, AreFronts, AreSound, IsFrontNear}
 use Rattle.search.proofs.StackLaws.{all_last, all_front}
 
 -- ---- fronts of what is left
@@ -124,3 +127,39 @@ front_here stay model b front proper h = stay model h.outer b front h.is_front h
 pub cut_lies : InsideOrder → (goal : Goal) (best : Option ℤ) (b : Bounds) → IsInside (cut_by Kind.Least goal best b) b
 cut_lies order goal None b = order.itself b
 cut_lies order goal (Some best) b = at_most_inside order goal (best -ℤ pos 1) b
+
+-- ---- crossed boxes
+
+-- what lies inside a crossed box is crossed
+crossed_inside : (inner outer : Bounds) → IsInside inner outer → IsCrossed outer → IsCrossed inner
+crossed_inside inner outer i (v, h, lt) =
+    let low = i.lows v h in
+    let high = i.highs v h in
+    let same = i.same_length in
+    (v, omega (arith, h, same), omega (arith, ints, low, high, lt))
+
+-- a box that is proper isn't told to be crossed
+pub told_proper : (b : Bounds) → IsProper b → TellsCrossed false b
+told_proper b proper = record { crossed = λ e. absurd (let f : false ≡ true = e in cc); proper = λ _. proper }
+
+-- no number is left for a pair
+pair_crossed : (b : Bounds) (v : ℕ) (low high : ℤ) → v < length b → high <ℤ low → IsCrossed (put_of b v low high)
+pair_crossed b v low high h lt =
+    let at = get_or-set_same b v (low, high) (pos 0, pos 0) h in
+    let l : low_of (put_of b v low high) v ≡ low = ap (λ (q : ℤ × ℤ). q.0) at in
+    let u : high_of (put_of b v low high) v ≡ high = ap (λ (q : ℤ × ℤ). q.1) at in
+    let same = length-set b v (low, high) in
+    (v, omega (arith, h, same), omega (arith, ints, l, u, lt))
+
+-- it is known whether a box is crossed once a pair is cut
+pub told_cut : TightensOne → (b : Bounds) (v : ℕ) (low high : ℤ) (was now : Bool) → v < length b → IsInside (put_of b v low high) b → TellsCrossed was b →
+    OnTrue now ((was ≡ true) ⊎ (high <ℤ low)) → OnFalse now ((was ≡ false) × (low ≤ℤ high)) → TellsCrossed now (put_of b v low high)
+told_cut tightens b v low high was true h i told (inl e) k = record {
+  crossed = λ _. crossed_inside (put_of b v low high) b i (told.crossed e);
+  proper = λ e. absurd (let f : true ≡ false = e in cc);
+}
+told_cut tightens b v low high was true h i told (inr lt) k = record {
+  crossed = λ _. pair_crossed b v low high h lt;
+  proper = λ e. absurd (let f : true ≡ false = e in cc);
+}
+told_cut tightens b v low high was false h i told j (e, le) = told_proper (put_of b v low high) (tightens.proper b v low high h (told.proper e) le)

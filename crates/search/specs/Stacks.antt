@@ -1,6 +1,6 @@
 -- The boxes of a searcher, and what it knows of them.
-use Rattle.std.specs.Prelude.{◌≡◌, ℕ, Bool, true, cond, List, [], ◌∷◌, ◌++◌, length, All}
-use Rattle.interval.specs.Boxes.{Bounds, IsInside}
+use Rattle.std.specs.Prelude.{◌≡◌, ℕ, Bool, true, false, cond, List, [], ◌∷◌, ◌++◌, length, All}
+use Rattle.interval.specs.Boxes.{Bounds, IsInside, IsProper, IsCrossed}
 use Rattle.guarded_tell.specs.declared.kernel.Kernel.{Kernel}
 use Rattle.fixpoint_laws.specs.Fixpoints.{IsClosed}
 use Rattle.constraint_model.specs.declared.model.FznModel.{FznModel}
@@ -20,10 +20,16 @@ boxes_of s = cond s.is_open (left_boxes s.boxes.stack ++ s.boxes.current ∷ [])
 abbrev pub count_of : Searcher → ℕ
 count_of s = length s.boxes.current
 
--- what is left is a part of a closed box
+-- what is left is a part of a closed box, and some number is left there for each variable
 pub record IsLeft (kernels : List Kernel) (left : Left) : Type 0 where
   pub closed : IsClosed left.base kernels
   pub inside : IsInside (box_of left) left.base
+  pub proper : IsProper (box_of left)
+
+-- it is rightly told of the box whether it is crossed
+pub record TellsCrossed (is_crossed : Bool) (b : Bounds) : Type 0 where
+  pub crossed : is_crossed ≡ true → IsCrossed b
+  pub proper : is_crossed ≡ false → IsProper b
 
 -- these are fronts of the boxes of which parts are left
 abbrev pub AreFronts : FznModel → List Left → List Front → Type 0
@@ -48,8 +54,10 @@ pub record AreLeft {L : Type 0} (run : Run L) (s : Searcher) : Type 0 where
   pub sound : AreSound run.model.now run.program.now.kernels s.boxes.stack s.fronts.items
   pub fits : Fits s.narrower run.program.now.kernels (length s.boxes.current)
 
--- so is the current box, if it is still to be searched: a kernel that narrows it names a variable that is noted
+-- so is the current box, if it is still to be searched: a kernel that narrows it names a variable that is noted, and it is
+-- known whether it is crossed
 pub record IsReady {L : Type 0} (run : Run L) (s : Searcher) : Type 0 where
   pub left : AreLeft run s
   pub quiet : s.is_open ≡ true → AreQuietUnlessNoted s.narrower run.program.now.kernels s.boxes.current
   pub front : s.is_open ≡ true → IsFrontNear run.model.now s.boxes.current s.front
+  pub told : s.is_open ≡ true → TellsCrossed s.is_crossed s.boxes.current

@@ -1,6 +1,6 @@
 //! The boxes that are still to be searched, and what narrows them.
 
-ghost use Rattle.std.specs.Prelude.{◌≡◌, ◌≢◌, ◌<◌, ◌-◌, ℕ, List, true, [], ◌∷◌, ◌++◌, length, All, IfOk, OnOk, IfSome};
+ghost use Rattle.std.specs.Prelude.{◌≡◌, ◌≢◌, ◌<◌, ◌-◌, ◌<ℤ◌, ◌≤ℤ◌, ◌⊎◌, ℕ, List, true, false, [], ◌∷◌, ◌++◌, length, All, IfOk, OnOk, IfSome};
 ghost use Rattle.std.specs.Bool.{OnTrue, OnFalse};
 ghost use Rattle.interval.specs.Limits.{IsNumber};
 ghost use Rattle.interval.specs.Boxes.{put_of};
@@ -23,8 +23,9 @@ use crate::costs::cut_below;
 use crate::node::{Visit, record};
 use crate::run::Run;
 use branching::{Branching, Front, branch_from, law_fronts};
+use fixpoint_laws::law_tightens_one;
 use guarded_tell::Kernel;
-use interval::{BoxOf, NoMemory, law_inside_order};
+use interval::{BoxOf, NoMemory, is_crossed, law_inside_order};
 use list_of::ListOf;
 use narrowing::{Narrowed, Narrower, Propagation, law_quiet_where_closed};
 use rounds::Gate;
@@ -44,6 +45,8 @@ pub(crate) struct Searcher {
     pub(crate) narrower: Narrower,
     // whether the current box is still to be searched
     pub(crate) is_open: bool,
+    // whether it is crossed; that is known from how it came about, so that no node looks at all its pairs
+    pub(crate) is_crossed: bool,
 }
 
 /// Sets the bounds of a pair of the current box, and notes it.
@@ -59,6 +62,14 @@ fn put(boxes: &mut TrailedBox, narrower: &mut Narrower, part: Part) -> Result<()
     boxes.put(part.var, part.low, part.high)?;
     narrower.note(part.var);
     Ok(())
+}
+
+/// Whether a box is crossed once a pair is cut to these bounds: it was crossed, or no number is left for the pair.
+fn is_crossed_by(was_crossed: bool, cut: Part) -> bool
+    ensures crossed { OnTrue result ((was_crossed ≡ true) ⊎ (cut.high <ℤ cut.low)) }
+    ensures proper { OnFalse result ((was_crossed ≡ false) × (cut.low ≤ℤ cut.high)) }
+{
+    was_crossed || cut.high < cut.low
 }
 
 /// Leaves the other part of a box for later.
@@ -132,6 +143,7 @@ impl Searcher {
             front,
             narrower,
             is_open: true,
+            is_crossed: is_crossed(sub),
         })
     }
 
@@ -161,6 +173,7 @@ impl Searcher {
             Some(part) => {
                 let front = last(&mut self.fronts);
                 self.front = front;
+                self.is_crossed = false;
                 put(&mut self.boxes, &mut self.narrower, part)?;
                 Ok(())
             }
@@ -184,6 +197,7 @@ impl Searcher {
         leave(&mut self.boxes, parts)?;
         keep(&mut self.fronts, front)?;
         self.front = front;
+        self.is_crossed = false;
         put(&mut self.boxes, &mut self.narrower, first_part(parts))?;
         Ok(())
     }
@@ -231,16 +245,19 @@ impl Searcher {
         ensures stack { OnOk result (self.new.boxes.stack ≡ self.old.boxes.stack) }
     {
         law_inside_order();
+        law_tightens_one();
         match cut_below(run.model.goal, best, self.boxes.current()) {
             None => Ok(()),
             Some(cut) => {
                 put(&mut self.boxes, &mut self.narrower, cut)?;
+                self.is_crossed = is_crossed_by(self.is_crossed, cut);
                 Ok(())
             }
         }
     }
 
-    /// Narrows the current box.
+    /// Narrows the current box. No closed box is inside a crossed one: that fails at once, and what was noted of it is
+    /// forgotten.
     fn narrow<R: Threads + Sync, L: Gate + Sync>(
         &mut self,
         rt: &R,
@@ -257,6 +274,10 @@ impl Searcher {
         ensures stack { IfOk result (λ _. self.new.boxes.stack ≡ self.old.boxes.stack) }
         ensures narrowed { IfOk result (IsNarrowed run.now.program.now.kernels run.now.round_limit self.old.boxes.current self.new.boxes.current) }
     {
+        if self.is_crossed {
+            self.narrower.forget();
+            return Ok(Narrowed::Failed);
+        }
         let what = Propagation {
             kernels: run.program.kernels.as_slice(),
             masks: run.masks,

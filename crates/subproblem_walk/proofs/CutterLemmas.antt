@@ -58,7 +58,7 @@ node_of_closed model kernels b closed greatest (Node.Fixed kept) h = record {
 node_of_closed model kernels b closed greatest (Node.Parted pair left right) h = record {
   is_cut = record { closed = closed; greatest = greatest; branch = h.branch };
   parts = (
-    record { closed = closed; is_closed = greatest.closed; in_box = h.in_box; low = h.left_put.0; high = h.left_put.1; is_put = h.left_put.2 },
-    record { closed = closed; is_closed = greatest.closed; in_box = h.in_box; low = h.right_put.0; high = h.right_put.1; is_put = h.right_put.2 },
+    record { closed = closed; is_closed = greatest.closed; in_box = h.in_box; low = h.left_put.0; high = h.left_put.1; is_put = h.left_put.2; proper = h.are_parts.first_part.proper },
+    record { closed = closed; is_closed = greatest.closed; in_box = h.in_box; low = h.right_put.0; high = h.right_put.1; is_put = h.right_put.2; proper = h.are_parts.second_part.proper },
   );
 }

@@ -1,10 +1,10 @@
 -- How a box on a way is cut, where it is known which of its variables may have moved.
 use Rattle.std.specs.Prelude.{◌≡◌, ◌<◌, ℕ, ℤ, List, length, Option, None, Some}
-use Rattle.interval.specs.Boxes.{Bounds, put_of}
+use Rattle.interval.specs.Boxes.{Bounds, IsProper, put_of}
 use Rattle.guarded_tell.specs.declared.kernel.Kernel.{Kernel}
 use Rattle.fixpoint_laws.specs.Fixpoints.{IsClosed}
 use Rattle.constraint_model.specs.declared.model.FznModel.{FznModel}
-use Rattle.branching.specs.Parts.{IsBranch}
+use Rattle.branching.specs.Parts.{IsBranch, AreParts}
 use Rattle.branching.specs.Tree.{AreFixed}
 use Rattle.moved_fixpoint.specs.Moved.{count_of}
 use Rattle.subproblems.specs.declared.cutting.Cut.{Cut}
@@ -12,7 +12,8 @@ use Rattle.subproblems.specs.Cuts.{IsCutInto}
 use Rattle.subproblem_walk.specs.declared.cutter.Bench.{Bench}
 use Rattle.subproblem_walk.specs.declared.cutter.Node.{Node}
 
--- the box that a cut makes of a closed one: the bounds of one of its pairs are put
+-- the box that a cut makes of a closed one: the bounds of one of its pairs are put, and some number is left for each
+-- variable
 pub record IsMadeAt (kernels : List Kernel) (pair : ℕ) (b : Bounds) : Type 0 where
   pub closed : Bounds
   pub is_closed : IsClosed closed kernels
@@ -20,6 +21,7 @@ pub record IsMadeAt (kernels : List Kernel) (pair : ℕ) (b : Bounds) : Type 0 w
   pub low : ℤ
   pub high : ℤ
   pub is_put : b ≡ put_of closed pair low high
+  pub proper : IsProper b
 
 -- the box comes of a closed one by other bounds for this pair; none: nothing is known of it
 abbrev pub IsMadeBy : Option ℕ → List Kernel → Bounds → Type 0
@@ -46,6 +48,7 @@ pub record IsNodeOf (model : FznModel) (kernels : List Kernel) (b : Bounds) (nod
 -- a box is parted by the model's search, at this pair
 pub record IsPartedAt (model : FznModel) (closed : Bounds) (pair : ℕ) (left right : Bounds) : Type 0 where
   pub branch : IsBranch model closed left right
+  pub are_parts : AreParts closed left right
   pub in_box : pair < length closed
   pub left_put : (low : ℤ) × (high : ℤ) × (left ≡ put_of closed pair low high)
   pub right_put : (low : ℤ) × (high : ℤ) × (right ≡ put_of closed pair low high)
@@ -60,4 +63,3 @@ IsKeptOrParted model closed (Node.Parted pair left right) = IsPartedAt model clo
 pub record IsBenchFor (bench : Bench) (count : ℕ) : Type 0 where
   pub moved : count_of bench.sets.moved ≡ count
   pub noted : count_of bench.sets.noted ≡ count
-  pub spare : length bench.spare ≡ count

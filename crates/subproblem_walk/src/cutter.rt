@@ -1,7 +1,8 @@
 //! How the boxes on a way are cut, by propagation that asks what moved.
 
 ghost use Rattle.std.specs.Prelude.{◌≡◌, ◌<◌, ℕ, List, length, All, IfOk, IfSome};
-ghost use Rattle.interval.specs.Boxes.{Bounds, IsProper};
+ghost use Rattle.std.specs.Bool.{OnTrue, OnFalse};
+ghost use Rattle.interval.specs.Boxes.{Bounds, IsProper, IsCrossed};
 ghost use Rattle.guarded_tell.specs.declared.kernel.Kernel.{Kernel};
 ghost use Rattle.guarded_tell.specs.Kernels.{IsKernel};
 ghost use Rattle.constraint_model.specs.Searches.{IsSearchOf};
@@ -15,8 +16,8 @@ use branching::{Branching, Front, branch_from};
 use constraint_model::FznModel;
 use fixpoint_laws::Limited;
 use guarded_tell::Kernel;
-use interval::{BoxOf, NoMemory};
-use moved_fixpoint::{MovedSets, law_quiet_unless_moved, settle_moved};
+use interval::{BoxOf, NoMemory, is_crossed, law_inside_order};
+use moved_fixpoint::{MovedSets, law_quiet_unless_moved, settle_proper};
 use moved_set::Masks;
 use std::alloc::Global;
 use trailed_box::TrailedBox;
@@ -39,21 +40,19 @@ pub enum Node {
     },
 }
 
-/// What propagation works with: the variables that moved, and where the kernels read from.
+/// What propagation works with: the variables that moved.
 #[derive(Drop)]
 pub struct Bench {
     pub(crate) sets: MovedSets,
-    pub(crate) spare: BoxOf,
 }
 
 impl Bench {
-    /// For boxes of as many variables.
-    pub(crate) fn new(alloc: Global, start: &BoxOf) -> Result<Bench, NoMemory>
+    /// For boxes of as many variables, and so many kernels.
+    pub(crate) fn new(alloc: Global, start: &BoxOf, kernels: usize) -> Result<Bench, NoMemory>
         ensures { IfOk result (λ bench. IsBenchFor bench (length start.now)) }
     {
         Ok(Bench {
-            sets: MovedSets::new(alloc, start.len())?,
-            spare: start.copy(alloc)?,
+            sets: MovedSets::new(alloc, start.len(), kernels)?,
         })
     }
 }
@@ -71,6 +70,14 @@ fn note(sets: &mut MovedSets, changed: Option<u32>)
         Some(pair) => sets.moved.mark(pair),
         None => sets.moved.mark_all(),
     }
+}
+
+/// Whether a box is crossed. One that a cut made of a closed one isn't; only a box of which nothing is known is looked at.
+fn is_crossed_start(b: &BoxOf, changed: Option<u32>) -> bool
+    ensures crossed { OnTrue result (IsCrossed b.now) }
+    ensures proper { OnFalse result ((kernels : List Kernel) → IsMadeBy changed kernels b.now → IsProper b.now) }
+{
+    changed.is_none() && is_crossed(b)
 }
 
 /// The two parts of a closed box.
@@ -125,16 +132,13 @@ pub(crate) fn cut_changed(
     ensures node { IfOk result (IsNodeOf model.now kernels.now b) }
     ensures bench { IsBenchFor bench.new (length b) }
 {
+    law_inside_order();
+    if is_crossed_start(&b, changed) {
+        return Ok(Node::Failed);
+    }
     note(&mut bench.sets, changed);
     let mut settled = TrailedBox::new(alloc, b)?;
-    match settle_moved(
-        &mut settled,
-        &mut bench.spare,
-        kernels,
-        masks,
-        &mut bench.sets,
-        0,
-    )? {
+    match settle_proper(&mut settled, kernels, masks, &mut bench.sets, 0)? {
         Limited::Fixed { .. } => {
             let node = keep_or_part(alloc, model, settled.current())?;
             Ok(node)

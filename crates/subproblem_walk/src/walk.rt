@@ -245,7 +245,7 @@ impl Walk {
         // its contract says that the bounds are in range
         let _length = start.len();
         let kernels = program.kernels.as_slice();
-        let mut bench = Bench::new(alloc, start)?;
+        let mut bench = Bench::new(alloc, start, kernels.len())?;
         match lead(
             alloc,
             model,

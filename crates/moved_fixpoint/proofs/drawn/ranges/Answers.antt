@@ -1,4 +1,4 @@
-use Rattle.std.proofs.Common.{ℤ, pos, negsuc, arith}
+use Rattle.std.proofs.Common.{pos, negsuc, arith}
 use Rattle.std.proofs.lemmas.Int.{ints}
 use Rattle.moved_fixpoint.proofs.SmallKernels.{AreApart, two_ranges}
 use Rattle.moved_fixpoint.proofs.drawn.ranges.Goals as goal

@@ -1,12 +1,13 @@
 use Rattle.std.proofs.Common.{◌≡◌, ◌-◌, ◌≤◌, length}
+use Rattle.moved_fixpoint.specs.Heard.{GoesOn}
 use Rattle.moved_fixpoint.proofs.Rounding.{Stands}
 use Rattle.moved_fixpoint.proofs.round.run_up.Given as goal
 
 abbrev pub invariant-kernels : goal.invariant-kernels
 invariant-kernels l = record {
-  spare_length : length l.spare ≡ length l.initial.b.current;
   stack : l.b.stack ≡ l.initial.b.stack;
   within : l.place ≤ length l.kernels;
+  going : GoesOn l.progress;
   stands : Stands l.kernels l.initial.b.current 0 l.place l.b.current l.sets.moved l.sets.noted l.progress;
 }
 

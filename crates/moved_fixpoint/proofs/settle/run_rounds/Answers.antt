@@ -33,7 +33,6 @@ rounds-smaller c =
 
 pub rounds-preserved : goal.rounds-preserved
 rounds-preserved c = record {
-  spare_length = omega (arith, c.run_round.ensures.spare, c.rounds.invariant.goes.run.inside.same_length);
   stack = cc;
   goes =
       goes_on c.law_inside_order.ensures c.law_rounds_lead.ensures c.args.kernels.now c.args.round_limit c.args.b.now.current

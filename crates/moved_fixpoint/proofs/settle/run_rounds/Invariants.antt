@@ -1,11 +1,10 @@
-use Rattle.std.proofs.Common.{◌≡◌, length}
+use Rattle.std.proofs.Common.{◌≡◌}
 use Rattle.interval.specs.Boxes.{width_sum_of}
 use Rattle.moved_fixpoint.proofs.Settling.{Goes}
 use Rattle.moved_fixpoint.proofs.settle.run_rounds.Given as goal
 
 abbrev pub invariant-rounds : goal.invariant-rounds
 invariant-rounds l = record {
-  spare_length : length l.spare ≡ length l.initial.b.current;
   stack : l.b.stack ≡ l.initial.b.stack;
   goes : Goes l.kernels l.round_limit l.initial.b.current l.rounds l.b.current l.sets.moved l.sets.noted;
 }

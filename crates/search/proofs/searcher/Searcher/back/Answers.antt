@@ -1,12 +1,12 @@
 use Rattle.std.proofs.Common.{◌≡◌, ℕ, true, false, cond, List, [], ◌∷◌, ◌++◌, length, ap, sym, subst, ◌∙◌, arith}
 use Rattle.std.specs.List.{All}
 use Rattle.std.proofs.lemmas.List.{length-set}
-use Rattle.interval.specs.Boxes.{Bounds, IsInside}
+use Rattle.interval.specs.Boxes.{Bounds, IsInside, IsProper}
 use Rattle.guarded_tell.specs.Kernels.{IsKernel}
 use Rattle.trailed_box.specs.Trailed.{Trailed, Left, left_of, boxes_of as left_boxes}
 use Rattle.narrowing.specs.Narrowers.{Fits}
 use Rattle.search.specs.Stacks.{AreSound}
-use Rattle.search.proofs.SearcherLaws.{sound_pop, last_left, last_front, some_fronts, boxes_back}
+use Rattle.search.proofs.SearcherLaws.{sound_pop, last_left, last_front, some_fronts, boxes_back, told_proper}
 use Rattle.search.proofs.searcher.Searcher.back.Goals as goal
 
 pub returns-in-None-clause-ready : goal.returns-in-None-clause-ready
@@ -17,6 +17,7 @@ returns-in-None-clause-ready g c = record {
   };
   quiet = λ e. absurd (let f : false ≡ true = e in cc);
   front = λ e. absurd (let f : false ≡ true = e in cc);
+  told = λ e. absurd (let f : false ≡ true = e in cc);
 }
 
 pub returns-in-None-clause-boxes : goal.returns-in-None-clause-boxes
@@ -53,6 +54,7 @@ returns-in_ok-put-in-Some-clause-ready g c =
         inside = subst (λ (b : Bounds). IsInside b base) (sym c.in_ok-put-in-Some.ensures.current) is_left.inside;
         is_front = last_front c.args.run.now.model.now c.args.run.now.program.now.kernels c.args.self.now.boxes.stack c.pop.new.self.stack c.args.self.now.fronts.items c.last-front.new.fronts.items left c.in-Some.ensures.some c.requires.left.sound.parts c.requires.left.sound.fronts c.last-front.result c.last-front.ensures;
       };
+      told = λ _. told_proper c.put.new.boxes.current (subst IsProper (sym c.in_ok-put-in-Some.ensures.current) is_left.proper);
     }
 
 pub returns-in_ok-put-in-Some-clause-count : goal.returns-in_ok-put-in-Some-clause-count

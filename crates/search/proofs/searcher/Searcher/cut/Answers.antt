@@ -8,8 +8,8 @@ use Rattle.narrowing.specs.Narrowers.{Fits}
 use Rattle.search.specs.declared.kind.Kind.{Kind}
 use Rattle.search.specs.Costs.{IsObjectiveIn}
 use Rattle.search.specs.Machine.{cut_by}
-use Rattle.search.specs.Stacks.{AreSound}
-use Rattle.search.proofs.SearcherLaws.{near_inside, cut_lies}
+use Rattle.search.specs.Stacks.{AreSound, TellsCrossed}
+use Rattle.search.proofs.SearcherLaws.{near_inside, cut_lies, told_cut}
 use Rattle.search.proofs.searcher.Searcher.cut.Goals as goal
 
 pub cut_below-requires-clause-some : goal.cut_below-requires-clause-some
@@ -46,6 +46,11 @@ returns-in_ok-put-in-Some-clause-ready g c =
       quiet = λ _. c.in_ok-put-in-Some.ensures.quiet c.args.run.now.program.now.kernels c.requires.run.kernels (c.requires.ready.quiet c.requires.open);
       front = λ _. near_inside c.law_inside_order.ensures c.args.run.now.model.now old c.put.new.boxes.current c.args.self.now.front
           (subst (λ (b : Bounds). IsInside b old) (sym is_cut) (cut_lies c.law_inside_order.ensures c.args.run.now.model.now.goal c.args.best old)) (c.requires.ready.front c.requires.open);
+      told = λ _. subst (TellsCrossed c.is_crossed_by-self.result) (sym c.in_ok-put-in-Some.ensures.current)
+          (told_cut c.law_tightens_one.ensures old c.in-Some.cut.var c.in-Some.cut.low c.in-Some.cut.high c.args.self.now.is_crossed c.is_crossed_by-self.result
+          (subst (λ (b : Bounds). c.in-Some.cut.var < length b) c.current.ensures ((c.in-Some.ensures).1).variable)
+          (subst (λ (b : Bounds). IsInside b old) (sym is_cut ∙ c.in_ok-put-in-Some.ensures.current) (cut_lies c.law_inside_order.ensures c.args.run.now.model.now.goal c.args.best old))
+          (c.requires.ready.told c.requires.open) c.is_crossed_by-self.ensures.crossed c.is_crossed_by-self.ensures.proper);
     }
 
 pub returns-in_ok-put-in-Some-clause-count : goal.returns-in_ok-put-in-Some-clause-count

@@ -1,6 +1,7 @@
 use Rattle.std.proofs.Common.{◌≡◌, List, length, sym, subst, ◌∙◌}
 use Rattle.interval.specs.Boxes.{Bounds}
 use Rattle.narrowing.specs.Narrowers.{Fits, AreQuietUnlessNoted}
+use Rattle.search.specs.Stacks.{TellsCrossed}
 use Rattle.search.proofs.SearcherLaws.{sound_none}
 use Rattle.search.proofs.searcher.Searcher.new.Goals as goal
 
@@ -14,4 +15,5 @@ returns-clause-ready g c =
       };
       quiet = λ _. subst (λ (b : Bounds). AreQuietUnlessNoted c.in_ok-narrower.narrower c.args.run.now.program.now.kernels b) (sym is_sub) c.in_ok-narrower.ensures.quiet;
       front = λ _. record { outer = c.in_ok-boxes.boxes.current; inside = c.law_inside_order.ensures.itself c.in_ok-boxes.boxes.current; is_front = c.first-front.ensures c.args.run.now.model.now c.in_ok-boxes.boxes.current };
+      told = λ _. subst (TellsCrossed c.is_crossed.result) (sym is_sub) (record { crossed = c.is_crossed.ensures.crossed.0; proper = c.is_crossed.ensures.proper.0 });
     }

@@ -1,14 +1,14 @@
 use Rattle.std.proofs.Common.{◌≡◌, ℕ, true, cond, List, [], ◌∷◌, ◌++◌, length, ap, sym, subst, ◌∙◌, arith}
 use Rattle.std.specs.List.{All}
 use Rattle.std.proofs.lemmas.List.{length-set}
-use Rattle.interval.specs.Boxes.{Bounds, IsInside, put_of}
+use Rattle.interval.specs.Boxes.{Bounds, IsInside, IsProper, put_of}
 use Rattle.guarded_tell.specs.Kernels.{IsKernel}
 use Rattle.trailed_box.specs.declared.trail.Part.{Part}
 use Rattle.trailed_box.specs.Trailed.{Left, IsPart, left_of, boxes_of as left_boxes}
 use Rattle.branching.specs.Fronts.{right_by, left_by}
 use Rattle.narrowing.specs.Narrowers.{Fits, AreQuietUnlessNoted}
 use Rattle.search.specs.Stacks.{AreSound}
-use Rattle.search.proofs.SearcherLaws.{sound_push, boxes_parted}
+use Rattle.search.proofs.SearcherLaws.{sound_push, boxes_parted, told_proper}
 use Rattle.search.proofs.searcher.Searcher.part.Goals as goal
 
 pub put-requires-clause-part : goal.put-requires-clause-part
@@ -35,7 +35,7 @@ returns-clause-ready g c =
     record {
       left = record {
         sound = sound_push c.args.run.now.model.now c.args.run.now.program.now.kernels c.args.self.now.boxes.stack c.put.new.boxes.stack c.args.self.now.fronts.items c.keep.new.fronts.items left c.args.front
-            (c.in_ok-put.ensures.stack ∙ c.in_ok-leave.ensures.stack) c.in_ok-keep.ensures (record { closed = c.requires.closed; inside = c.requires.parts.second_part.inside }) c.requires.front c.requires.left.sound;
+            (c.in_ok-put.ensures.stack ∙ c.in_ok-leave.ensures.stack) c.in_ok-keep.ensures (record { closed = c.requires.closed; inside = c.requires.parts.second_part.inside; proper = c.requires.parts.second_part.proper }) c.requires.front c.requires.left.sound;
         fits = subst (λ (n : ℕ). Fits c.put.new.narrower c.args.run.now.program.now.kernels n) (sym lengths) (c.in_ok-put.ensures.fits c.args.run.now.program.now.kernels (length base) c.requires.left.fits);
       };
       quiet = λ _. c.in_ok-put.ensures.quiet c.args.run.now.program.now.kernels (subst (λ (b : Bounds). All (IsKernel (length b)) c.args.run.now.program.now.kernels) (sym same) c.requires.run.kernels)
@@ -45,6 +45,7 @@ returns-clause-ready g c =
         inside = subst (λ (b : Bounds). IsInside b base) (sym is_base) c.requires.parts.first_part.inside;
         is_front = c.requires.front;
       };
+      told = λ _. told_proper c.put.new.boxes.current (subst IsProper (sym is_base) c.requires.parts.first_part.proper);
     }
 
 pub returns-clause-count : goal.returns-clause-count

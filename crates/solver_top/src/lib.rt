@@ -8,6 +8,8 @@ mod constraint_tests;
 #[cfg(test)]
 mod corner_tests;
 #[cfg(test)]
+mod fault_tests;
+#[cfg(test)]
 mod gate_tests;
 mod laws;
 #[cfg(test)]

@@ -1,6 +1,7 @@
 //! Refused texts: the kind of the first fault, and its line.
 
-use crate::tests::assert_refusals;
+use crate::Status;
+use crate::tests::{BOUNDS, assert_refusals, run_text};
 use std::test::Fail;
 
 /// Each kind but the limits, on one line.
@@ -209,4 +210,29 @@ fn refused_texts_have_their_kinds(rt: HostRuntime) -> Result<(), Fail> {
 #[test]
 fn refused_texts_have_their_lines(rt: HostRuntime) -> Result<(), Fail> {
     assert_refusals(&rt, rt.alloc(), LINES)
+}
+
+/// The fault of the first bytes of a text of 65, so many of them: after an item the solve item is missing, one byte of two
+/// dots is no token, and elsewhere an item isn't ended.
+fn fault_of_front(count: usize) -> (u8, &'static str) {
+    match count {
+        0 | 26 | 27 | 50 | 51 => (10, "refused 10 NoSolve line 1\n"),
+        6 => (1, "refused 1 Lex line 1\n"),
+        _ => (2, "refused 2 Syntax line 1\n"),
+    }
+}
+
+#[test]
+fn each_front_of_a_text_is_refused(rt: HostRuntime) -> Result<(), Fail> {
+    let text = BOUNDS.as_bytes();
+    assert_eq!(rt; text.len(), 65);
+    for count in 0..text.len() {
+        let outcome = run_text(&rt, rt.alloc(), &text[..count])?;
+        let (kind, told) = fault_of_front(count);
+        let status = Status::Refused { kind, line: 1 };
+        assert_eq!(rt; outcome.status, status, "at {count} bytes");
+        assert!(rt; outcome.out.is_empty(), "at {count} bytes");
+        assert_eq!(rt; outcome.err.as_slice(), told.as_bytes(), "at {count} bytes");
+    }
+    Ok(())
 }

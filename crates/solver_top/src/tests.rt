@@ -1,15 +1,15 @@
-//! The top call on files and streams that are lists of bytes: its words, and faults of the file and of the streams. Tables of
-//! texts stand in the other files of tests.
+//! The top call on files and streams that are lists of bytes, and its words. Tables of texts and of faults stand in the other
+//! files of tests.
 
 use crate::{Gate, Gates, NoGate, Status, solve_main};
-use fzn_io::{HonestSource, MemSink, MemSource, Named};
+use fzn_io::{HonestSource, MemSink};
 use std::alloc::{AllocError, Global};
 use std::process::Abort;
 use std::test::Fail;
 use std::thread::Threads;
 
 /// The text whose least solution is `x = 2`.
-const BOUNDS: &str = "var 1..3: x :: output_var; constraint int_le(2,x); solve satisfy;";
+pub(crate) const BOUNDS: &str = "var 1..3: x :: output_var; constraint int_le(2,x); solve satisfy;";
 
 /// What a call did.
 #[derive(Drop)]
@@ -19,13 +19,26 @@ pub(crate) struct Outcome {
     pub(crate) err: Vec<u8>,
 }
 
-/// Runs the program on these words, with a blank between each two, and a file that holds the text, where tests hold up its
-/// workers and lanes by these gates.
-pub(crate) fn run_gated<C: Gate + Sync, L: Gate + Sync>(
+/// A stream in memory: the most bytes that a call gives or takes, and the number of the call that fails; 0 is none.
+pub(crate) type Stream = (usize, u64);
+
+/// A stream of which no call fails.
+pub(crate) const SOUND: Stream = (1024, 0);
+
+/// A sink in memory.
+fn sink(alloc: Global, stream: Stream) -> Result<MemSink, AllocError> {
+    let (chunk, failing) = stream;
+    Ok(MemSink::new(alloc, chunk, vec![in alloc; failing]?))
+}
+
+/// Runs the program on these words, with a blank between each two, and a file that holds the text, over these streams, where
+/// tests hold up its workers and lanes by these gates.
+pub(crate) fn run_streams<C: Gate + Sync, L: Gate + Sync>(
     rt: &(impl Threads + Sync),
     alloc: Global,
     words: &str,
     text: &[u8],
+    streams: (Stream, Stream),
     gates: &Gates<C, L>,
 ) -> Result<Outcome, AllocError> {
     let mut list = Vec::new(alloc);
@@ -33,8 +46,8 @@ pub(crate) fn run_gated<C: Gate + Sync, L: Gate + Sync>(
         list.push(String::from_str(alloc, word)?)?;
     }
     let mut files = HonestSource::new(Vec::from_slice(alloc, text)?);
-    let mut out = MemSink::new(alloc, 1024, Vec::new(alloc));
-    let mut err = MemSink::new(alloc, 1024, Vec::new(alloc));
+    let mut out = sink(alloc, streams.0)?;
+    let mut err = sink(alloc, streams.1)?;
     let status = solve_main(rt, alloc, &list, &mut files, &mut out, &mut err, gates);
     Ok(Outcome {
         status,
@@ -43,39 +56,15 @@ pub(crate) fn run_gated<C: Gate + Sync, L: Gate + Sync>(
     })
 }
 
-/// Runs the program on a file that holds the bytes, or that isn't there. Of the calls on the file and of those on standard
-/// output, each of at most `chunk` bytes, the ones with these numbers fail; 0 is none.
-fn run_faulty(
+/// Runs the program over streams of which no call fails.
+pub(crate) fn run_gated<C: Gate + Sync, L: Gate + Sync>(
     rt: &(impl Threads + Sync),
     alloc: Global,
-    bytes: Option<Vec<u8>>,
-    chunk: usize,
-    failing_read: u64,
-    failing_write: u64,
+    words: &str,
+    text: &[u8],
+    gates: &Gates<C, L>,
 ) -> Result<Outcome, AllocError> {
-    let words = vec![in alloc;
-        String::from_str(alloc, "turbofzn")?,
-        String::from_str(alloc, "m.fzn")?,
-    ]?;
-    let file = Named {
-        name: String::from_str(alloc, "m.fzn")?,
-        bytes,
-    };
-    let failing_reads = vec![in alloc; failing_read]?;
-    let mut files = MemSource::new(vec![in alloc; file]?, 1024, failing_reads);
-    let failing_writes = vec![in alloc; failing_write]?;
-    let mut out = MemSink::new(alloc, chunk, failing_writes);
-    let mut err = MemSink::new(alloc, 1024, Vec::new(alloc));
-    let gates = Gates {
-        crew: &NoGate,
-        lanes: &NoGate,
-    };
-    let status = solve_main(rt, alloc, &words, &mut files, &mut out, &mut err, &gates);
-    Ok(Outcome {
-        status,
-        out: Vec::from_slice(alloc, out.bytes())?,
-        err: Vec::from_slice(alloc, err.bytes())?,
-    })
+    run_streams(rt, alloc, words, text, (SOUND, SOUND), gates)
 }
 
 /// Runs the program.
@@ -148,28 +137,6 @@ pub(crate) fn assert_refusals(
         assert!(rt; outcome.out.is_empty(), "at {text}");
         assert_eq!(rt; outcome.err.as_slice(), told.as_bytes(), "at {text}");
     }
-    Ok(())
-}
-
-#[test]
-fn faults_have_their_status(rt: HostRuntime) -> Result<(), Fail> {
-    let bytes = Vec::from_slice(rt.alloc(), BOUNDS.as_bytes())?;
-    let outcome = run_faulty(&rt, rt.alloc(), Some(bytes), 4, 0, 2)?;
-    assert_eq!(rt; outcome.status, Status::WriteFault);
-    assert_eq!(rt; outcome.out.as_slice(), b"x = ".as_slice());
-    assert_eq!(rt; outcome.err.as_slice(), b"write fault\n".as_slice());
-    let bytes = Vec::from_slice(rt.alloc(), BOUNDS.as_bytes())?;
-    let outcome = run_faulty(&rt, rt.alloc(), Some(bytes), 1024, 2, 0)?;
-    assert_eq!(rt; outcome.status, Status::ReadFault);
-    assert!(rt; outcome.out.is_empty());
-    assert_eq!(rt; outcome.err.as_slice(), b"read fault\n".as_slice());
-    let outcome = run_faulty(&rt, rt.alloc(), None, 1024, 0, 0)?;
-    assert_eq!(rt;
-        outcome.status,
-        Status::ReadFault,
-        "at a file that isn't there"
-    );
-    assert!(rt; outcome.out.is_empty());
     Ok(())
 }
 

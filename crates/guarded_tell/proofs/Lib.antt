@@ -36,5 +36,6 @@ pub mod ClauseLaws
 pub mod ListPlaces
 pub mod ShortLaws
 pub mod QuietLaws
+pub mod QuotientLaws
 pub mod RoomLaws
 pub mod ClauseQuiet

@@ -12,8 +12,8 @@ use Rattle.interval.specs.Quotients.{floor_of, ceiling_of, QuotientOrder}
 use Rattle.interval.specs.Boxes.{Bounds, low_of, high_of}
 use Rattle.guarded_tell.specs.Words.{low_tell, high_tell, when, Keeps, literal_true, sign_true, sign_tell, is_sure, is_out, tell_true, tell_false}
 use Rattle.guarded_tell.specs.Linear.{Term, least_of, greatest_of, sum_over, product_at_most, product_at_least, at_most_tell, at_least_tell, more_than_tell, literal_tells, sure_tells, out_tells, bound_tells, at_most_tells}
-use Rattle.guarded_tell.specs.Equality.{is_same, product_is_not, equation_tells, equal_tell, unequal_tell, equal_tells, unequal_tells, eq_tells}
-use Rattle.guarded_tell.specs.Short.{small_limit, AreSums, IsAtMostQuiet, IsEquationQuiet}
+use Rattle.guarded_tell.specs.Equality.{is_same, is_product, low_is_not, high_is_not, product_is_not, equation_tells, equal_tell, unequal_tell, equal_tells, unequal_tells, eq_tells}
+use Rattle.guarded_tell.specs.Short.{small_limit, AreSums, IsAtMostQuiet, IsUnequalQuiet, IsEquationQuiet}
 use Rattle.guarded_tell.proofs.Lists.{All-one, All-flat_map, All-when}
 use Rattle.guarded_tell.proofs.TermLaws.{length-zip, get_or-zip}
 use Rattle.guarded_tell.proofs.LiteralLaws.{by_bool, not_true}
@@ -103,6 +103,24 @@ module _ (quotients : QuotientOrder) (clamped : ClampOrder) (b : Bounds) where
       let high : r ≤ℤ (high_of b x *ℤ a) = omega (arith, ints, clamps) in
       at_least_kept x a r (λ s. (low_bound, low)) (λ s. (high_bound, high))
 
+  -- a term that isn't the product at either bound isn't told apart
+  not_product : (x : ℕ) (a p : ℤ) → (p ≡ least_of b (a, x) → ⊥) → (p ≡ greatest_of b (a, x) → ⊥) → All (Keeps b) (product_is_not x a p b)
+  unfolding least_of greatest_of
+  not_product x a p least greatest =
+      All-append (Keeps b) (low_is_not x a p b) (high_is_not x a p b)
+      (All-when (Keeps b) (is_product a (low_of b x) p) (low_tell x (low_of b x +ℤ pos 1) ∷ []) (λ e.
+      let parts = and_parts (not (is_same a (pos 0))) (is_same (a *ℤ low_of b x) p) e in
+      let both = and_parts (int_le (a *ℤ low_of b x) p) (int_le p (a *ℤ low_of b x)) parts.1 in
+      let y = both.0 in
+      let z = both.1 in
+      absurd (omega (arith, ints, clamps))))
+      (All-when (Keeps b) (is_product a (high_of b x) p) (high_tell x (high_of b x -ℤ pos 1) ∷ []) (λ e.
+      let parts = and_parts (not (is_same a (pos 0))) (is_same (a *ℤ high_of b x) p) e in
+      let both = and_parts (int_le (a *ℤ high_of b x) p) (int_le p (a *ℤ high_of b x)) parts.1 in
+      let y = both.0 in
+      let z = both.1 in
+      absurd (omega (arith, ints, clamps))))
+
   module _ (l : Lit) (coeffs : List ℤ) (vars : List ℕ) (s : Sums) (same : length coeffs ≡ length vars) (sums : AreSums b coeffs vars s) where
     -- a term whose growth is within the room tells nothing that narrows
     at_most_term : (limit : ℤ) → s.widest ≤ℤ (limit -ℤ s.least) → (i : ℕ) → i < length (zip coeffs vars)
@@ -158,10 +176,10 @@ module _ (quotients : QuotientOrder) (clamped : ClampOrder) (b : Bounds) where
         let far = q.out (not_sure clamped b l e) e in
         All-flat_map (Keeps b) (more_than_tell b limit n) ts (pos 0, 0) (at_least_term (limit +ℤ pos 1) (omega (arith, ints))))))
 
-    -- a term that doesn't make the whole difference of the sums isn't told apart
-    unequal_term : (limit : ℤ) → s.widest <ℤ (s.greatest -ℤ s.least) → (i : ℕ) → i < length (zip coeffs vars)
+    -- a term isn't told apart where it doesn't make the whole difference of the sums, or the limit is neither of them
+    unequal_term : (limit : ℤ) → IsUnequalQuiet limit s → (i : ℕ) → i < length (zip coeffs vars)
         → All (Keeps b) (unequal_tell b limit (sum_over (least_of b) (zip coeffs vars)) (sum_over (greatest_of b) (zip coeffs vars)) (get_or (zip coeffs vars) i (pos 0, 0)))
-    unequal_term limit h i inside =
+    unequal_term limit apart i inside =
         let at : i < length coeffs = omega (arith, length-zip coeffs vars same) in
         let a = get_or coeffs i (pos 0) in
         let x = get_or vars i 0 in
@@ -176,7 +194,10 @@ module _ (quotients : QuotientOrder) (clamped : ClampOrder) (b : Bounds) where
         let parts = and_parts (int_le (m -ℤ least_of b (a, x)) (n -ℤ greatest_of b (a, x))) (int_le (n -ℤ greatest_of b (a, x)) (m -ℤ least_of b (a, x))) e in
         let p = parts.0 in
         let q = parts.1 in
-        absurd (omega (arith, ints))))
+        let whole : (s.greatest -ℤ s.least) ≤ℤ s.widest = omega (arith, ints) in
+        not_product x a (limit -ℤ (m -ℤ least_of b (a, x)))
+        (λ r. let same_sum : limit ≡ s.least = omega (arith, ints) in apart.low whole same_sum)
+        (λ r. let same_sum : limit ≡ s.greatest = omega (arith, ints) in apart.high whole same_sum)))
 
     pub equation_quiet : (limit : ℤ) → IsEquationQuiet b l limit s → All (Keeps b) (eq_tells l coeffs vars limit b)
     unfolding eq_tells
@@ -203,7 +224,7 @@ module _ (quotients : QuotientOrder) (clamped : ClampOrder) (b : Bounds) where
         let r = second.0 in
         by_bool (is_sure l b) (λ t. sure_keeps clamped b l t)
         (λ f. by_bool (is_out l b)
-        (λ o. let far = q.out f o in absurd (omega (arith, ints)))
+        (λ o. let same_sum : limit ≡ s.least = omega (arith, ints) in absurd ((q.out f o).low (omega (arith, ints)) same_sum))
         (λ o. let far = q.open_wide f o in absurd (omega (arith, ints))))))))
         (All-append (Keeps b) (equal_tells l ts limit m n b) (unequal_tells l ts limit m n b)
         (All-when (Keeps b) (is_sure l b) (flat_map (equal_tell b limit m n) ts) (λ e.

@@ -1,5 +1,5 @@
 -- Sums of terms that are small enough to be formed in 64 bits, and what such sums say of the tells.
-use Rattle.std.specs.Prelude.{◌≡◌, ℕ, ℤ, pos, true, false, ◌+ℤ◌, ◌-ℤ◌, ◌≤ℤ◌, ◌<ℤ◌, ◌*◌, ◌<◌, ◌≤◌, List, length, slice_index, slice_index_or, unsigned_abs}
+use Rattle.std.specs.Prelude.{◌≡◌, ◌≢◌, ℕ, ℤ, pos, true, false, ◌+ℤ◌, ◌-ℤ◌, ◌≤ℤ◌, ◌<ℤ◌, ◌*◌, ◌<◌, ◌≤◌, List, length, slice_index, slice_index_or, unsigned_abs}
 use Rattle.std.specs.List.{zip}
 use Rattle.interval.specs.Boxes.{Bounds, low_of, high_of}
 use Rattle.guarded_tell.specs.declared.tell.Lit.{Lit}
@@ -64,11 +64,18 @@ pub record IsAtMostQuiet (b : Bounds) (l : Lit) (limit : ℤ) (s : Sums) : Type 
   pub open_low : is_sure l b ≡ false → is_out l b ≡ false → s.least ≤ℤ limit
   pub open_high : is_sure l b ≡ false → is_out l b ≡ false → limit <ℤ s.greatest
 
--- the same for the equation. Where it isn't to hold, two terms or more aren't fixed
+-- where one term may make the whole difference of the sums, the limit is neither of them. So it isn't the sum at a bound
+-- of that term's variable, the others being fixed
+pub record IsUnequalQuiet (limit : ℤ) (s : Sums) : Type 0 where
+  pub low : (s.greatest -ℤ s.least) ≤ℤ s.widest → limit ≢ s.least
+  pub high : (s.greatest -ℤ s.least) ≤ℤ s.widest → limit ≢ s.greatest
+
+-- the sums leave room to the limit on both sides, or no bound is what the equation must not have, so that it narrows
+-- nothing
 pub record IsEquationQuiet (b : Bounds) (l : Lit) (limit : ℤ) (s : Sums) : Type 0 where
   pub sure_low : is_sure l b ≡ true → s.widest ≤ℤ (limit -ℤ s.least)
   pub sure_high : is_sure l b ≡ true → s.widest ≤ℤ (s.greatest -ℤ limit)
-  pub out : is_sure l b ≡ false → is_out l b ≡ true → s.widest <ℤ (s.greatest -ℤ s.least)
+  pub out : is_sure l b ≡ false → is_out l b ≡ true → IsUnequalQuiet limit s
   pub open_low : is_sure l b ≡ false → is_out l b ≡ false → s.least ≤ℤ limit
   pub open_high : is_sure l b ≡ false → is_out l b ≡ false → limit ≤ℤ s.greatest
   pub open_wide : is_sure l b ≡ false → is_out l b ≡ false → s.least <ℤ s.greatest

@@ -9,7 +9,7 @@ ghost use Rattle.guarded_tell.specs.Words as words;
 ghost use Rattle.guarded_tell.specs.Clause.{clause_vars, clause_tells, IsShortClause, AreLiterals};
 ghost use Rattle.guarded_tell.specs.Linear.{at_most_tells, IsLinear};
 ghost use Rattle.guarded_tell.specs.Equality.{eq_tells};
-ghost use Rattle.guarded_tell.specs.Short.{short_sum_limit, AreSums, IsAtMostQuiet, IsEquationQuiet};
+ghost use Rattle.guarded_tell.specs.Short.{short_sum_limit, AreSums, IsAtMostQuiet, IsUnequalQuiet, IsEquationQuiet};
 
 use crate::Lit;
 use crate::literals::{is_out, is_sure};
@@ -77,10 +77,21 @@ fn leaves_room_on_both_sides(lit: Lit, limit: i64, sums: Sums, b: &BoxOf) -> boo
         let room = (limit - sums.least).min(sums.greatest - limit);
         sums.widest <= room
     } else if is_out(lit, b) {
-        sums.widest < sums.greatest - sums.least
+        leaves_bounds_alone(limit, sums)
     } else {
         sums.least <= limit && limit <= sums.greatest && sums.least < sums.greatest
     }
+}
+
+/// Whether no bound of a variable makes the sum the limit once all other terms are fixed: two terms or more aren't
+/// fixed, or the limit is neither of the sums.
+#[tactic(auto, unfolding(crate::specs::Short::short_sum_limit))]
+fn leaves_bounds_alone(limit: i64, sums: Sums) -> bool
+    requires least { unsigned_abs sums.least ≤ short_sum_limit }
+    requires greatest { unsigned_abs sums.greatest ≤ short_sum_limit }
+    ensures { OnTrue result (IsUnequalQuiet limit sums) }
+{
+    sums.widest < sums.greatest - sums.least || (limit != sums.least && limit != sums.greatest)
 }
 
 /// What a visit of a kernel may remember for the next: it makes a visit faster and changes nothing of what is told.

@@ -1,15 +1,16 @@
 //! Sums of terms, each a coefficient times a variable.
 
-ghost use Rattle.std.specs.Prelude.{◌≡◌, ◌<◌, ◌≤◌, ◌+◌, ◌*◌, ◌+ℤ◌, ◌-ℤ◌, ℤ, pos, unsigned_abs, length};
+ghost use Rattle.std.specs.Prelude.{◌≡◌, ◌≢◌, ◌<◌, ◌≤◌, ◌+◌, ◌*◌, ◌+ℤ◌, ◌-ℤ◌, ℤ, pos, unsigned_abs, length};
 ghost use Rattle.std.specs.List.{zip};
 ghost use Rattle.interval.specs.Limits.{IsNumber, dividend_limit};
+ghost use Rattle.interval.specs.Quotients.{floor_of, ceiling_of};
 ghost use Rattle.guarded_tell.specs.Words.{AreVariables};
 ghost use Rattle.guarded_tell.specs.Hearing.{MayHearAll, HearsAll};
 ghost use Rattle.guarded_tell.specs.Linear.{least_of, greatest_of, sum_over, sum_limit, product_limit, product_at_most, product_at_least, IsLinear};
 
 use crate::Hear;
 use crate::literals::{high_tell, low_tell};
-use interval::{BoxOf, ceil_div, floor_div};
+use interval::{BoxOf, ceil_div, floor_div, law_quotient_order};
 
 /// What a term, or a sum of terms, is at least and at most in a box.
 #[derive(Clone, Copy)]
@@ -97,10 +98,10 @@ pub fn tell_product_at_most<H: Hear>(var: u32, coeff: i64, room: i128, h: &mut H
         return;
     }
     if coeff > 0 {
-        let greatest = floor_div(room, coeff as i128);
+        let greatest = floor_quotient(room, coeff);
         h.hear(high_tell(var, greatest));
     } else if coeff < 0 {
-        h.hear(low_tell(var, ceil_div(room, coeff as i128)));
+        h.hear(low_tell(var, ceiling_quotient(room, coeff)));
     }
 }
 
@@ -114,8 +115,40 @@ pub fn tell_product_at_least<H: Hear>(var: u32, coeff: i64, room: i128, h: &mut 
         return;
     }
     if coeff > 0 {
-        h.hear(low_tell(var, ceil_div(room, coeff as i128)));
+        h.hear(low_tell(var, ceiling_quotient(room, coeff)));
     } else if coeff < 0 {
-        h.hear(high_tell(var, floor_div(room, coeff as i128)));
+        h.hear(high_tell(var, floor_quotient(room, coeff)));
+    }
+}
+
+/// The greatest whole number that is at most `room` divided by `coeff`. A coefficient 1 or -1 takes no division.
+fn floor_quotient(room: i128, coeff: i64) -> i128
+    requires coefficient { coeff ≢ pos 0 }
+    requires dividend { unsigned_abs room ≤ dividend_limit }
+    ensures { result ≡ floor_of room coeff }
+{
+    law_quotient_order();
+    if coeff == 1 {
+        room
+    } else if coeff == -1 {
+        -room
+    } else {
+        floor_div(room, coeff as i128)
+    }
+}
+
+/// The least whole number that is at least `room` divided by `coeff`.
+fn ceiling_quotient(room: i128, coeff: i64) -> i128
+    requires coefficient { coeff ≢ pos 0 }
+    requires dividend { unsigned_abs room ≤ dividend_limit }
+    ensures { result ≡ ceiling_of room coeff }
+{
+    law_quotient_order();
+    if coeff == 1 {
+        room
+    } else if coeff == -1 {
+        -room
+    } else {
+        ceil_div(room, coeff as i128)
     }
 }

@@ -54,3 +54,9 @@ abbrev pub IsLonger : Option (Option (List ℕ)) → ℕ → Type 0
 IsLonger None limit = Unit {0}
 IsLonger (Some None) limit = ⊥
 IsLonger (Some (Some bytes)) limit = limit < length bytes
+
+-- What a name holds, where that is told, is a front of at most `most` bytes, and then those that are left.
+abbrev pub IsPartRead : Option (Option (List ℕ)) → Option (List ℕ) → ℕ → Type 0
+IsPartRead None left most = Unit {0}
+IsPartRead (Some None) left most = ⊥
+IsPartRead (Some (Some bytes)) left most = (front : List ℕ) × Takes (Some bytes) left front × (length front ≤ most)

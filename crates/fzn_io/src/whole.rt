@@ -1,8 +1,8 @@
 //! Calls that read a whole text and write a whole text.
 
-ghost use Rattle.std.specs.Prelude.{◌≡◌, ℕ, ◌+◌, ◌<◌, ◌≤◌, List, length, take, true, IfOk, OnOk, OnErr, IsErrOf, vec_len};
+ghost use Rattle.std.specs.Prelude.{◌≡◌, ℕ, ◌+◌, ◌<◌, ◌≤◌, List, length, take, true, false, IfOk, OnOk, OnErr, IsErrOf, vec_len};
 ghost use Rattle.fzn_io.specs.Faults.{CountRose};
-ghost use Rattle.fzn_io.specs.Streams.{Takes, IsAtEnd, Adds, AddsFront, IsNextName, later_names, IsHeld, IsLonger};
+ghost use Rattle.fzn_io.specs.Streams.{Takes, IsAtEnd, Adds, AddsFront, IsNextName, later_names, IsHeld, IsLonger, IsPartRead};
 ghost use Rattle.fzn_io.specs.declared.whole.ReadError.TheVariants.{ReadFault, NoMemory};
 
 use super::sink::Sink;
@@ -101,7 +101,8 @@ pub fn read_all<S: Source>(
     }
 }
 
-/// Opens a name and reads its text, at most `limit` bytes.
+/// Opens a name and reads its text, at most `limit` bytes. The name stays open, also after a refusal; only where the source
+/// refused may nothing be open: it may have been the opening.
 pub fn read_named<S: Source>(
     alloc: Global,
     source: &mut S,
@@ -116,6 +117,10 @@ pub fn read_named<S: Source>(
     ensures never_falls { S.faults source.old ≤ S.faults source.new }
     ensures held_kept { S.held source.new ≡ S.held source.old }
     ensures name_leaves { S.names source.new ≡ later_names (S.names source.old) }
+    // What is open, and what is left of it.
+    ensures closed { S.is_open source.new ≡ false → IsErrOf result ReadError.ReadFault }
+    ensures open { S.is_open source.new ≡ true → IsPartRead (S.held source.old name.now) (S.left source.new) (limit + 1) }
+    ensures end { OnOk result (IsAtEnd (S.left source.new)) }
 {
     source.open_named(name)?;
     read_all(alloc, source, limit)

@@ -2,6 +2,7 @@
 //! and hold, and what makes a model well-formed.
 #![tactic(auto)]
 
+mod entries;
 mod kernels;
 pub mod meanings;
 pub mod model;
@@ -11,6 +12,7 @@ pub mod table;
 #[cfg(test)]
 mod tests;
 
+pub use entries::Entries;
 pub use kernels::{add_constant, add_constants, kernel_count};
 pub use meanings::{Meaning, Scalar};
 pub use model::{

@@ -1,7 +1,8 @@
 //! What a name or an argument stands for.
 
+use crate::entries::Entries;
 use crate::model::Term;
-use list_of::ListOf;
+use shared_list::SharedList;
 
 /// A boolean or an integer, constant or variable.
 #[derive(Debug, Clone, Copy)]
@@ -18,7 +19,7 @@ pub enum Meaning {
     /// A boolean or an integer.
     One(Scalar),
     /// An array of these.
-    Row(ListOf<Scalar>),
+    Row(Entries),
     /// A set of integers, as its sorted greatest ranges.
-    Set(ListOf<(i64, i64)>),
+    Set(SharedList<(i64, i64)>),
 }

@@ -2,6 +2,7 @@
 
 use crate::table::ConstraintName;
 use list_of::ListOf;
+use shared_list::SharedList;
 
 /// What stands where a variable may stand.
 #[derive(Debug, Clone, Copy)]
@@ -18,9 +19,9 @@ pub enum Operand {
     /// A number or a variable.
     One(Term),
     /// The entries of an array.
-    Row(ListOf<Term>),
+    Row(SharedList<Term>),
     /// A set, as its sorted greatest ranges.
-    Set(ListOf<(i64, i64)>),
+    Set(SharedList<(i64, i64)>),
 }
 
 /// A declared variable.
@@ -116,7 +117,7 @@ pub enum Output {
         /// Its index sets.
         ranges: ListOf<(i64, i64)>,
         /// Its entries.
-        entries: ListOf<Term>,
+        entries: SharedList<Term>,
     },
 }
 

@@ -1,5 +1,6 @@
 //! Sets as ranges, and the table of constraints.
 
+use crate::entries::Entries;
 use crate::kernels::{add_constants, kernel_count};
 use crate::meanings::{Meaning, Scalar};
 use crate::model::{Constraint, Operand, Term};
@@ -7,10 +8,11 @@ use crate::ranges::{range_of, ranges_of};
 use crate::table::{ConstraintName, NAMES, fits_some_row};
 use indexmap::IndexSet;
 use list_of::ListOf;
+use shared_list::SharedList;
 use std::alloc::{AllocError, Global};
 use std::test::Fail;
 
-fn ranges(alloc: Global, numbers: &[i64]) -> Result<ListOf<(i64, i64)>, AllocError> {
+fn ranges(alloc: Global, numbers: &[i64]) -> Result<SharedList<(i64, i64)>, AllocError> {
     ranges_of(alloc, Vec::from_slice(alloc, numbers)?)
 }
 
@@ -54,7 +56,8 @@ fn variable(is_bool: bool, place: u32) -> Meaning {
 }
 
 fn array(alloc: Global, entries: &[Scalar]) -> Result<Meaning, AllocError> {
-    Ok(Meaning::Row(ListOf::from_vec(Vec::from_slice(alloc, entries)?)))
+    let entries = Vec::from_slice(alloc, entries)?;
+    Ok(Meaning::Row(Entries::new(alloc, entries, 0)?))
 }
 
 #[test]
@@ -128,7 +131,7 @@ fn constraints_count_for_kernels_and_constants(rt: HostRuntime) -> Result<(), Fa
         Term::Number(1),
         Term::Number(0),
     ];
-    let row = ListOf::from_vec(Vec::from_slice(alloc, terms.as_slice())?);
+    let row = SharedList::from_vec(Vec::from_slice(alloc, terms.as_slice())?)?;
     let mut operands = ListOf::new(alloc);
     operands.push(Operand::Row(row))?;
     operands.push(Operand::One(Term::Number(5)))?;

@@ -11,6 +11,7 @@ use constraint_model::{Constraint, ConstraintName as Name, Operand, Term};
 use guarded_tell::{Kernel, Lit};
 use indexmap::IndexSet;
 use list_of::ListOf;
+use shared_list::SharedList;
 use std::alloc::{AllocError, Global};
 use std::test::Fail;
 
@@ -95,7 +96,7 @@ fn kernels(
 
 /// An argument that is an array.
 fn row(alloc: Global, terms: &[Term]) -> Result<Operand, AllocError> {
-    Ok(Operand::Row(ListOf::from_vec(Vec::from_slice(alloc, terms)?)))
+    Ok(Operand::Row(SharedList::from_vec(Vec::from_slice(alloc, terms)?)?))
 }
 
 /// The literal of a variable.
@@ -332,10 +333,10 @@ fn entries_and_sets(rt: HostRuntime) -> Result<(), Fail> {
         let found = kernels(alloc, name, operands)?;
         assert!(rt; is_entry(&found, 1, &[7, 2, 0], 3));
     }
-    let set = Operand::Set(ListOf::from_vec(vec![in alloc; (1, 3), (5, 5)]?));
+    let set = Operand::Set(SharedList::from_vec(vec![in alloc; (1, 3), (5, 5)]?)?);
     let found = kernels(alloc, Name::SetIn, vec![in alloc; Operand::One(X), set]?)?;
     assert!(rt; is_member(&found, ALWAYS, 1, &[(1, 3), (5, 5)]));
-    let set = Operand::Set(ListOf::from_vec(vec![in alloc; (1, 3), (5, 5)]?));
+    let set = Operand::Set(SharedList::from_vec(vec![in alloc; (1, 3), (5, 5)]?)?);
     let found = kernels(
         alloc,
         Name::SetInReif,

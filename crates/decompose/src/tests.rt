@@ -10,6 +10,7 @@ use constraint_model::{
 };
 use guarded_tell::{Kernel, Lit};
 use list_of::ListOf;
+use shared_list::SharedList;
 use std::alloc::{AllocError, Global};
 use std::test::Fail;
 
@@ -49,15 +50,11 @@ fn constraints(alloc: Global) -> Result<ListOf<Constraint>, AllocError>
     let mut less = ListOf::new(alloc);
     less.push(Operand::One(x))?;
     less.push(Operand::One(Term::Number(1)))?;
-    let mut coefficients = ListOf::new(alloc);
-    coefficients.push(Term::Number(2))?;
-    coefficients.push(Term::Number(-1))?;
-    let mut terms = ListOf::new(alloc);
-    terms.push(x)?;
-    terms.push(four)?;
+    let coefficients = Vec::from_slice(alloc, &[Term::Number(2), Term::Number(-1)])?;
+    let terms = Vec::from_slice(alloc, &[x, four])?;
     let mut sum = ListOf::new(alloc);
-    sum.push(Operand::Row(coefficients))?;
-    sum.push(Operand::Row(terms))?;
+    sum.push(Operand::Row(SharedList::from_vec(coefficients)?))?;
+    sum.push(Operand::Row(SharedList::from_vec(terms)?))?;
     sum.push(Operand::One(Term::Number(7)))?;
     let mut constraints = ListOf::new(alloc);
     constraints.push(constraint(ConstraintName::IntLeReif, reified))?;

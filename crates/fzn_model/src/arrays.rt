@@ -17,10 +17,10 @@ use crate::scalars::{copy_name, named};
 use crate::scope::Scope;
 use crate::stop::Stop;
 use crate::types::{fits_array_type, is_bool_shape};
-use constraint_model::{Meaning, Output, Scalar, Term};
+use constraint_model::{Meaning, Output, Term};
 use fzn_lexer::Token;
 use fzn_parser::tree::{Ann, Expr, Shape};
-use list_of::ListOf;
+use shared_list::SharedList;
 use std::alloc::Global;
 
 fn is_number(text: &[u8], literal: Token, number: usize) -> bool
@@ -80,22 +80,12 @@ fn read_row(
     }
 }
 
-pub(crate) fn terms_of(alloc: Global, entries: &[Scalar]) -> Result<ListOf<Term>, Stop>
-    ensures { IfOk result (λ ts. ts ≡ map (λ s. s.term) entries.now) }
-{
-    let mut terms = ListOf::new(alloc);
-    for entry in entries {
-        terms.push(entry.term)?;
-    }
-    Ok(terms)
-}
-
-fn terms_in(alloc: Global, value: &Option<Meaning>) -> Result<ListOf<Term>, Stop>
+fn terms_in(alloc: Global, value: &Option<Meaning>) -> Result<SharedList<Term>, Stop>
     ensures { IfOk result (λ ts. ts ≡ effects.terms_in value.now) }
 {
     match value {
-        Some(Meaning::Row(entries)) => terms_of(alloc, entries.as_slice()),
-        Some(Meaning::One(_)) | Some(Meaning::Set(_)) | None => Ok(ListOf::new(alloc)),
+        Some(Meaning::Row(entries)) => Ok(entries.share_terms(alloc)?),
+        Some(Meaning::One(_)) | Some(Meaning::Set(_)) | None => Ok(SharedList::empty(alloc)),
     }
 }
 
@@ -105,7 +95,7 @@ fn array_output(
     anns: &[Ann],
     is_bool: bool,
     name: &[u8],
-    entries: ListOf<Term>,
+    entries: SharedList<Term>,
 ) -> Result<Option<Output>, Stop>
     ensures { IfOk result (λ o. o ≡ effects.array_output text.now (map ann_tree anns.now) is_bool name.now entries) }
 {

@@ -11,8 +11,6 @@ ghost use Rattle.fzn_model.specs.Faults as faults;
 ghost use Rattle.constraint_model.specs.Fits as fitting;
 ghost use Rattle.fzn_model.specs.Scopes as scopes;
 
-use crate::arrays::terms_of;
-use crate::domains::copy_ranges;
 use crate::effect::Effect;
 use crate::exprs::expr_meaning;
 use crate::fault_kinds::FaultKind;
@@ -26,26 +24,26 @@ use fzn_parser::tree::{Aim, Ann, Expr};
 use list_of::ListOf;
 use std::alloc::{AllocError, Global};
 
-fn operand_of(alloc: Global, meaning: &Meaning) -> Result<Operand, Stop>
-    ensures { IfOk result (λ o. o ≡ fitting.operand_of meaning.now) }
+fn operand_of(meaning: Meaning) -> Operand
+    ensures { result ≡ fitting.operand_of meaning }
 {
     match meaning {
-        Meaning::One(scalar) => Ok(Operand::One(scalar.term)),
-        Meaning::Row(entries) => Ok(Operand::Row(terms_of(alloc, entries.as_slice())?)),
-        Meaning::Set(ranges) => Ok(Operand::Set(copy_ranges(alloc, ranges.as_slice())?)),
+        Meaning::One(scalar) => Operand::One(scalar.term),
+        Meaning::Row(entries) => Operand::Row(entries.into_terms()),
+        Meaning::Set(ranges) => Operand::Set(ranges),
     }
 }
 
 fn constraint_on(
     alloc: Global,
     name: ConstraintName,
-    meanings: &[Meaning],
+    meanings: ListOf<Meaning>,
 ) -> Result<Constraint, Stop>
-    ensures { IfOk result (λ c. c ≡ fitting.constraint_on name meanings.now) }
+    ensures { IfOk result (λ c. c ≡ fitting.constraint_on name meanings) }
 {
     let mut operands = ListOf::new(alloc);
-    for meaning in meanings {
-        operands.push(operand_of(alloc, meaning)?)?;
+    for meaning in meanings.into_vec() {
+        operands.push(operand_of(meaning))?;
     }
     Ok(Constraint { name, operands })
 }
@@ -84,8 +82,12 @@ fn one_constraint(alloc: Global, constraint: Constraint) -> Result<Effect, Stop>
     })
 }
 
-fn known_effect(alloc: Global, name: ConstraintName, meanings: &[Meaning]) -> Result<Effect, Stop>
-    ensures { IfOk result (λ e. e ≡ effects.constraint_alone (fitting.constraint_on name meanings.now)) }
+fn known_effect(
+    alloc: Global,
+    name: ConstraintName,
+    meanings: ListOf<Meaning>,
+) -> Result<Effect, Stop>
+    ensures { IfOk result (λ e. e ≡ effects.constraint_alone (fitting.constraint_on name meanings)) }
 {
     let constraint = constraint_on(alloc, name, meanings)?;
     one_constraint(alloc, constraint)
@@ -112,7 +114,7 @@ pub(crate) fn read_constraint(
     if !fits_some_row(known, meanings.as_slice()) {
         return Err(Stop::Fault(FaultKind::WrongArgument));
     }
-    match known_effect(alloc, known, meanings.as_slice()) {
+    match known_effect(alloc, known, meanings) {
         Ok(effect) => Ok(effect),
         Err(_) => Err(Stop::NoMemory),
     }

@@ -12,6 +12,7 @@ use constraint_model::{Constraint, ConstraintName, LARGEST, Operand, Term};
 use fzn_lexer::Token;
 use fzn_parser::tree::{SetLit, Shape};
 use list_of::ListOf;
+use shared_list::SharedList;
 use std::alloc::Global;
 
 /// The number of a literal; 0 where it isn't in the profile.
@@ -80,7 +81,7 @@ fn two_operands(alloc: Global, first: Operand, second: Operand) -> Result<ListOf
 pub(crate) fn membership(
     alloc: Global,
     term: Term,
-    ranges: ListOf<(i64, i64)>,
+    ranges: SharedList<(i64, i64)>,
 ) -> Result<Constraint, Stop>
     ensures { IfOk result (λ c. c ≡ effects.membership term ranges) }
 {
@@ -126,22 +127,16 @@ pub(crate) fn push_domain(
     Ok(())
 }
 
-pub(crate) fn copy_ranges(alloc: Global, ranges: &[(i64, i64)]) -> Result<ListOf<(i64, i64)>, Stop>
-    ensures { IfOk result (λ r. r ≡ ranges.now) }
-{
-    Ok(ListOf::from_vec(Vec::from_slice(alloc, ranges)?))
-}
-
 fn memberships(
     alloc: Global,
-    ranges: &[(i64, i64)],
+    ranges: &SharedList<(i64, i64)>,
     entries: &[Term],
 ) -> Result<ListOf<Constraint>, Stop>
     ensures { IfOk result (λ cs. cs ≡ map (λ t. effects.membership t ranges.now) entries.now) }
 {
     let mut constraints = ListOf::new(alloc);
     for term in entries {
-        let set = copy_ranges(alloc, ranges)?;
+        let set = ranges.share(alloc)?;
         constraints.push(membership(alloc, *term, set)?)?;
     }
     Ok(constraints)
@@ -159,7 +154,7 @@ pub(crate) fn element_constraints(
     match shape {
         Shape::VarIn(set) => {
             let ranges = set_at(alloc, text, set)?;
-            memberships(alloc, ranges.as_slice(), entries)
+            memberships(alloc, &ranges, entries)
         }
         _ => Ok(ListOf::new(alloc)),
     }

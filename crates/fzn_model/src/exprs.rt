@@ -6,10 +6,11 @@ ghost use Rattle.fzn_model.specs.Scopes.{number_at, set_at, boolean, integer, sc
 
 use crate::numbers::number_of;
 use crate::scope::Scope;
-use constraint_model::{Meaning, Scalar, Term, range_of, ranges_of};
+use constraint_model::{Entries, Meaning, Scalar, Term, range_of, ranges_of};
 use fzn_lexer::Token;
 use fzn_parser::tree::{Elem, Expr, SetLit};
 use list_of::ListOf;
+use shared_list::SharedList;
 use std::alloc::{AllocError, Global};
 
 /// The bytes of a token; none where its place is not in the text.
@@ -45,7 +46,7 @@ pub(crate) fn set_at(
     alloc: Global,
     text: &[u8],
     set: &SetLit,
-) -> Result<ListOf<(i64, i64)>, AllocError>
+) -> Result<SharedList<(i64, i64)>, AllocError>
     ensures { IfOk result (λ ranges. ranges ≡ set_at text.now set.now) }
 {
     match set {
@@ -54,21 +55,14 @@ pub(crate) fn set_at(
     }
 }
 
-fn copy_list<T: Copy>(alloc: Global, items: &[T]) -> Result<ListOf<T>, AllocError>
-    ensures { IfOk result (λ list. list ≡ items.now) }
-{
-    let items = Vec::from_slice(alloc, items)?;
-    Ok(ListOf::from_vec(items))
-}
-
-/// The same meaning once more.
-pub(crate) fn copy_meaning(alloc: Global, meaning: &Meaning) -> Result<Meaning, AllocError>
-    ensures { IfOk result (λ copy. copy ≡ meaning.now) }
+/// The same meaning once more. Of a long array or set no entry is copied.
+pub(crate) fn share_meaning(alloc: Global, meaning: &Meaning) -> Result<Meaning, AllocError>
+    ensures { IfOk result (λ shared. shared ≡ meaning.now) }
 {
     match meaning {
         Meaning::One(scalar) => Ok(Meaning::One(*scalar)),
-        Meaning::Row(entries) => Ok(Meaning::Row(copy_list(alloc, entries.as_slice())?)),
-        Meaning::Set(ranges) => Ok(Meaning::Set(copy_list(alloc, ranges.as_slice())?)),
+        Meaning::Row(entries) => Ok(Meaning::Row(entries.share(alloc)?)),
+        Meaning::Set(ranges) => Ok(Meaning::Set(ranges.share(alloc)?)),
     }
 }
 
@@ -122,7 +116,7 @@ fn entries_at(
 ) -> Result<Option<ListOf<Scalar>>, AllocError>
     ensures { IfOk result (λ o. o ≡ all_some (map (entry_at text.now scope.now) entries.now)) }
 {
-    let mut scalars = ListOf::new(alloc);
+    let mut scalars = ListOf::from_vec(Vec::with_capacity(alloc, entries.len())?);
     for entry in entries {
         match entry_at(text, scope, entry) {
             Some(scalar) => scalars.push(scalar)?,
@@ -130,6 +124,22 @@ fn entries_at(
         }
     }
     Ok(Some(scalars))
+}
+
+/// The array of these entries, where each is a boolean or an integer. It is told from those of other declarations by how
+/// many names stand before it.
+fn row_at(
+    alloc: Global,
+    text: &[u8],
+    scope: &Scope,
+    entries: &[Elem],
+) -> Result<Option<Entries>, AllocError>
+    ensures { IfOk result (λ o. o ≡ all_some (map (entry_at text.now scope.now) entries.now)) }
+{
+    match entries_at(alloc, text, scope, entries)? {
+        Some(scalars) => Ok(Some(Entries::new(alloc, scalars.into_vec(), scope.len())?)),
+        None => Ok(None),
+    }
 }
 
 fn simple_at(
@@ -146,7 +156,7 @@ fn simple_at(
         Elem::Int(token) => Ok(Some(Meaning::One(integer(number_at(text, token))))),
         Elem::Float(_) => Ok(None),
         Elem::Name(token) => match scope.meaning(spelling(text, token)) {
-            Some(meaning) => Ok(Some(copy_meaning(alloc, meaning)?)),
+            Some(meaning) => Ok(Some(share_meaning(alloc, meaning)?)),
             None => Ok(None),
         },
         Elem::Set(set) => Ok(Some(Meaning::Set(set_at(alloc, text, set)?))),
@@ -165,8 +175,8 @@ pub(crate) fn expr_meaning(
 {
     match expr {
         Expr::One(elem) => simple_at(alloc, text, scope, elem),
-        Expr::Row(entries) => match entries_at(alloc, text, scope, entries.as_slice())? {
-            Some(scalars) => Ok(Some(Meaning::Row(scalars))),
+        Expr::Row(entries) => match row_at(alloc, text, scope, entries.as_slice())? {
+            Some(entries) => Ok(Some(Meaning::Row(entries))),
             None => Ok(None),
         },
     }

@@ -4,11 +4,11 @@ use crate::exprs::expr_meaning;
 use crate::outputs::{has_output_var, output_ranges};
 use crate::scope::Scope;
 use crate::searches::{last_phase, phases_of};
-use constraint_model::{Meaning, Scalar, Term, ValSel, VarSel};
+use constraint_model::{Entries, Meaning, Scalar, Term, ValSel, VarSel};
 use fzn_lexer::lex;
 use fzn_parser::parse;
 use fzn_parser::tree::{Ann, Item, What};
-use list_of::ListOf;
+use shared_list::SharedList;
 use std::alloc::{AllocError, Global};
 use std::test::Fail;
 
@@ -56,15 +56,25 @@ fn declare(
 fn some_names(alloc: Global) -> Result<Scope, AllocError> {
     let mut scope = Scope::new(alloc);
     let (x, c, y) = (Term::Var(0), Term::Number(7), Term::Var(1));
-    let mut row = ListOf::new(alloc);
+    let mut row = Vec::new(alloc);
     for term in [x, c, y] {
         row.push(scalar(term))?;
     }
     declare(alloc, &mut scope, "x", Meaning::One(scalar(x)))?;
     declare(alloc, &mut scope, "c", Meaning::One(scalar(c)))?;
     declare(alloc, &mut scope, "y", Meaning::One(scalar(y)))?;
-    declare(alloc, &mut scope, "row", Meaning::Row(row))?;
-    declare(alloc, &mut scope, "s", Meaning::Set(ListOf::new(alloc)))?;
+    declare(
+        alloc,
+        &mut scope,
+        "row",
+        Meaning::Row(Entries::new(alloc, row, 3)?),
+    )?;
+    declare(
+        alloc,
+        &mut scope,
+        "s",
+        Meaning::Set(SharedList::empty(alloc)),
+    )?;
     Ok(scope)
 }
 

@@ -3,6 +3,7 @@
 use crate::{Mark, mark_text, print_solution};
 use constraint_model::{FznModel, Goal, Output, Term};
 use list_of::ListOf;
+use shared_list::SharedList;
 use std::alloc::{AllocError, Global};
 use std::test::Fail;
 
@@ -32,7 +33,7 @@ fn array(
 ) -> Result<Output, AllocError> {
     let name = name_of(alloc, name)?;
     let ranges = ListOf::from_vec(Vec::from_slice(alloc, ranges)?);
-    let entries = ListOf::from_vec(Vec::from_slice(alloc, entries)?);
+    let entries = SharedList::from_vec(Vec::from_slice(alloc, entries)?)?;
     Ok(Output::Array {
         name,
         is_bool,

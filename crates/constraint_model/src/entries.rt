@@ -1,0 +1,87 @@
+//! The entries of an array.
+
+ghost use Rattle.std.specs.Prelude.{◌≡◌, length, map, IfOk};
+
+use crate::meanings::Scalar;
+use crate::model::Term;
+use shared_list::SharedList;
+use std::alloc::{AllocError, Global};
+use std::marker::Model;
+
+/// The entries of an array, seen by contracts as the list of what they stand for. Beside them stand their terms alone,
+/// which the constraints that name the array share.
+#[derive(Drop)]
+pub struct Entries {
+    scalars: SharedList<Scalar>,
+    terms: SharedList<Term>,
+}
+
+impl Model for Entries {
+    ghost use Rattle.std.specs.Prelude.{◌≡◌, List, map};
+    ghost use Rattle.constraint_model.specs.declared.meanings.Scalar.{Scalar};
+
+    ghost Value = { List Scalar };
+
+    ghost view = { λ e. e.scalars };
+
+    ghost invariant = { λ e. e.terms ≡ map (λ s. s.term) e.scalars };
+}
+
+/// The terms of scalars.
+fn terms_of(alloc: Global, scalars: &[Scalar]) -> Result<Vec<Term>, AllocError>
+    ensures { IfOk result (λ terms. terms.items ≡ map (λ s. s.term) scalars.now) }
+{
+    scalars.iter().map(|scalar| scalar.term).collect(alloc)
+}
+
+impl Entries {
+    /// These entries, with a mark by which their list of terms is told from others.
+    pub fn new(alloc: Global, scalars: Vec<Scalar>, mark: usize) -> Result<Entries, AllocError>
+        ensures { IfOk result (λ entries. entries ≡ scalars.items) }
+    {
+        let terms = SharedList::with_mark(terms_of(alloc, scalars.as_slice())?, mark)?;
+        Ok(Entries {
+            scalars: SharedList::from_vec(scalars)?,
+            terms,
+        })
+    }
+
+    /// What they stand for.
+    pub fn as_slice(&self) -> &[Scalar]
+        ensures { result.now ≡ self.now }
+    {
+        self.scalars.as_slice()
+    }
+
+    /// How many there are.
+    pub fn len(&self) -> usize
+        ensures { result ≡ length self.now }
+    {
+        self.scalars.len()
+    }
+
+    /// The same entries for another owner. Of a long array none is copied.
+    pub fn share(&self, alloc: Global) -> Result<Entries, AllocError>
+        ensures { IfOk result (λ entries. entries ≡ self.now) }
+    {
+        Ok(Entries {
+            scalars: self.scalars.share(alloc)?,
+            terms: self.terms.share(alloc)?,
+        })
+    }
+
+    /// Their terms for another owner. Of a long array none is copied.
+    pub fn share_terms(&self, alloc: Global) -> Result<SharedList<Term>, AllocError>
+        ensures { IfOk result (λ terms. terms ≡ map (λ s. s.term) self.now) }
+    {
+        self.terms.share(alloc)
+    }
+
+    /// Their terms.
+    pub fn into_terms(self) -> SharedList<Term>
+        ensures { result ≡ map (λ s. s.term) self }
+    {
+        let Entries { scalars: _, terms } = self;
+        terms
+    }
+}

@@ -1,6 +1,7 @@
 pub mod ConstantLaws
 pub mod Finds
 pub mod FitLaws
+pub mod FoundLaws
 pub mod NameLaws
 pub mod RangeLaws
 pub mod RowLaws

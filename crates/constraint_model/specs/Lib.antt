@@ -1,4 +1,5 @@
 pub mod Fits
+pub mod Found
 pub mod Limits
 pub mod Numbers
 pub mod Ranges

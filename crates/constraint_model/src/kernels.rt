@@ -3,9 +3,9 @@
 ghost use Rattle.std.specs.Prelude.{◌≡◌, ◌≤◌, length, OnOk, OnErr, fold, flat_map, cond, []};
 ghost use Rattle.constraint_model.specs.Fits.{IsFront, add_once, constants_in, constant_of, constants_of_operand, takes_variables, letters_of, constants_at, kernels_of};
 
+use crate::constant_set::Constants;
 use crate::model::{Constraint, Operand, Term};
 use crate::table::{ConstraintName, Letter};
-use indexmap::IndexSet;
 use std::alloc::AllocError;
 
 /// How many propagators a constraint is run as.
@@ -57,24 +57,21 @@ fn letters_of(constraint: &Constraint) -> &'static [Letter]
 
 /// Adds the number of a term, where it is one other than 1, to those found so far. Where memory is refused, these are as
 /// before.
-pub fn add_constant(found: &mut IndexSet<i64>, term: Term) -> Result<(), AllocError>
-    ensures added { OnOk result (found.new.keys ≡ fold add_once found.old.keys (constant_of term)) }
-    ensures unchanged { OnErr result (found.new.keys ≡ found.old.keys) }
+pub fn add_constant(found: &mut Constants, term: Term) -> Result<(), AllocError>
+    ensures added { OnOk result (found.new ≡ fold add_once found.old (constant_of term)) }
+    ensures unchanged { OnErr result (found.new ≡ found.old) }
 {
     match term {
-        Term::Number(number) if number != 1 => {
-            found.insert(number)?;
-            Ok(())
-        }
+        Term::Number(number) if number != 1 => found.add(number),
         _ => Ok(()),
     }
 }
 
 /// Adds those of these terms.
 #[tactic(auto, using(crate::proofs::ConstantLaws::front_laws))]
-fn add_row(found: &mut IndexSet<i64>, terms: &[Term]) -> Result<(), AllocError>
-    ensures kept { OnErr result (IsFront found.old.keys found.new.keys) }
-    ensures added { OnOk result (found.new.keys ≡ fold add_once found.old.keys (flat_map constant_of terms.now)) }
+fn add_row(found: &mut Constants, terms: &[Term]) -> Result<(), AllocError>
+    ensures kept { OnErr result (IsFront found.old found.new) }
+    ensures added { OnOk result (found.new ≡ fold add_once found.old (flat_map constant_of terms.now)) }
 {
     for term in terms {
         add_constant(found, *term)?;
@@ -84,13 +81,9 @@ fn add_row(found: &mut IndexSet<i64>, terms: &[Term]) -> Result<(), AllocError>
 
 /// Adds those of an argument, where variables may stand there.
 #[tactic(auto, using(crate::proofs::ConstantLaws::front_laws))]
-fn add_argument(
-    found: &mut IndexSet<i64>,
-    letter: Letter,
-    operand: &Operand,
-) -> Result<(), AllocError>
-    ensures kept { OnErr result (IsFront found.old.keys found.new.keys) }
-    ensures added { OnOk result (found.new.keys ≡ fold add_once found.old.keys (cond (takes_variables letter) (constants_of_operand operand.now) [])) }
+fn add_argument(found: &mut Constants, letter: Letter, operand: &Operand) -> Result<(), AllocError>
+    ensures kept { OnErr result (IsFront found.old found.new) }
+    ensures added { OnOk result (found.new ≡ fold add_once found.old (cond (takes_variables letter) (constants_of_operand operand.now) [])) }
 {
     if !takes_variables(letter) {
         return Ok(());
@@ -104,9 +97,9 @@ fn add_argument(
 
 /// Adds the constants of a constraint to those found so far. Where memory is refused, these are as before.
 #[tactic(auto, using(crate::proofs::ConstantLaws::front_laws), unfolding(crate::specs::Fits::constants_in))]
-pub fn add_constants(found: &mut IndexSet<i64>, constraint: &Constraint) -> Result<(), AllocError>
-    ensures added { OnOk result (found.new.keys ≡ fold add_once found.old.keys (constants_in constraint.now)) }
-    ensures unchanged { OnErr result (found.new.keys ≡ found.old.keys) }
+pub fn add_constants(found: &mut Constants, constraint: &Constraint) -> Result<(), AllocError>
+    ensures added { OnOk result (found.new ≡ fold add_once found.old (constants_in constraint.now)) }
+    ensures unchanged { OnErr result (found.new ≡ found.old) }
 {
     let count = found.len();
     let letters = letters_of(constraint);
@@ -122,12 +115,12 @@ pub fn add_constants(found: &mut IndexSet<i64>, constraint: &Constraint) -> Resu
 /// Adds those of the arguments at these letters.
 #[tactic(auto, using(crate::proofs::ConstantLaws::constants_laws, crate::proofs::ConstantLaws::front_laws))]
 fn add_arguments(
-    found: &mut IndexSet<i64>,
+    found: &mut Constants,
     letters: &[Letter],
     operands: &[Operand],
 ) -> Result<(), AllocError>
-    ensures kept { OnErr result (IsFront found.old.keys found.new.keys) }
-    ensures added { OnOk result (found.new.keys ≡ fold add_once found.old.keys (constants_at letters.now operands.now)) }
+    ensures kept { OnErr result (IsFront found.old found.new) }
+    ensures added { OnOk result (found.new ≡ fold add_once found.old (constants_at letters.now operands.now)) }
 {
     for (place, letter) in letters.iter().enumerate() {
         if place >= operands.len() {

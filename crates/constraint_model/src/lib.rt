@@ -2,6 +2,7 @@
 //! and hold, and what makes a model well-formed.
 #![tactic(auto)]
 
+mod constant_set;
 mod entries;
 mod kernels;
 pub mod meanings;
@@ -12,6 +13,7 @@ pub mod table;
 #[cfg(test)]
 mod tests;
 
+pub use constant_set::Constants;
 pub use entries::Entries;
 pub use kernels::{add_constant, add_constants, kernel_count};
 pub use meanings::{Meaning, Scalar};

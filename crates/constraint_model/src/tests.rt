@@ -1,12 +1,12 @@
 //! Sets as ranges, and the table of constraints.
 
+use crate::constant_set::Constants;
 use crate::entries::Entries;
 use crate::kernels::{add_constants, kernel_count};
 use crate::meanings::{Meaning, Scalar};
 use crate::model::{Constraint, Operand, Term};
 use crate::ranges::{range_of, ranges_of};
 use crate::table::{ConstraintName, NAMES, fits_some_row};
-use indexmap::IndexSet;
 use list_of::ListOf;
 use shared_list::SharedList;
 use std::alloc::{AllocError, Global};
@@ -140,8 +140,24 @@ fn constraints_count_for_kernels_and_constants(rt: HostRuntime) -> Result<(), Fa
         operands,
     };
     assert_eq!(rt; kernel_count(&constraint), 5);
-    let mut found = IndexSet::new(alloc);
+    let mut found = Constants::new(alloc);
     add_constants(&mut found, &constraint)?;
     assert_eq!(rt; found.as_slice(), [0, 5].as_slice());
+    Ok(())
+}
+
+#[test]
+fn constants_are_found_by_their_value(rt: HostRuntime) -> Result<(), Fail> {
+    let mut found = Constants::new(rt.alloc());
+    for number in [7, -3, 7, 0, -3] {
+        found.add(number)?;
+    }
+    assert_eq!(rt; found.as_slice(), [7, -3, 0].as_slice());
+    assert_eq!(rt; (found.place_of(0), found.place_of(5)), (2, 3));
+    found.truncate(1);
+    assert_eq!(rt; (found.place_of(7), found.place_of(0)), (0, 1));
+    found.add(5)?;
+    found.add(0)?;
+    assert_eq!(rt; (found.place_of(5), found.place_of(0)), (1, 2));
     Ok(())
 }

@@ -4,4 +4,4 @@ use Rattle.constraint_model.proofs.ConstantLaws.{Added}
 use Rattle.constraint_model.proofs.kernels.add_arguments.Given as goal
 
 abbrev pub invariant-loop-place : goal.invariant-loop-place
-invariant-loop-place l = Added l.initial.found.keys l.found.keys (constants_at l.letters l.operands) (constants_at (drop l.place l.letters) (drop l.place l.operands))
+invariant-loop-place l = Added l.initial.found l.found (constants_at l.letters l.operands) (constants_at (drop l.place l.letters) (drop l.place l.operands))

@@ -4,4 +4,4 @@ use Rattle.constraint_model.proofs.ConstantLaws.{Added}
 use Rattle.constraint_model.proofs.kernels.add_row.Given as goal
 
 abbrev pub invariant-loop-term : goal.invariant-loop-term
-invariant-loop-term l = Added l.initial.found.keys l.found.keys (flat_map constant_of l.terms) (flat_map constant_of (drop l.term-index l.terms))
+invariant-loop-term l = Added l.initial.found l.found (flat_map constant_of l.terms) (flat_map constant_of (drop l.term-index l.terms))

@@ -14,7 +14,7 @@ seen d = record {
   constraints = d.constraints;
   output = d.output;
   solved = d.solved;
-  constants = d.constants.keys;
+  constants = d.constants;
   kernels = d.kernels;
 }
 

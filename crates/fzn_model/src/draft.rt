@@ -13,14 +13,14 @@ ghost use Rattle.fzn_model.specs.Faults as faults;
 use crate::effect::Effect;
 use crate::fault_kinds::FaultKind;
 use crate::limits::{MOST_CONSTANTS, MOST_KERNELS, MOST_VARS, has_long_list};
+use crate::name_hash::NameHash;
 use crate::reads::read_item;
 use crate::scope::Scope;
 use crate::stop::Stop;
 use constraint_model::{
-    Constraint, Goal, Output, Phase, VarDecl, add_constant, add_constants, kernel_count,
+    Constants, Constraint, Goal, Output, Phase, VarDecl, add_constant, add_constants, kernel_count,
 };
 use fzn_parser::tree::{Item, What};
-use indexmap::IndexSet;
 use list_of::ListOf;
 use std::alloc::{AllocError, Global};
 
@@ -38,7 +38,7 @@ pub(crate) struct Draft {
     /// The phases of the search and the goal, behind the solve item.
     pub(crate) solved: Option<(ListOf<Phase>, Goal)>,
     /// The numbers other than 1 that stand where variables may.
-    pub(crate) constants: IndexSet<i64>,
+    pub(crate) constants: Constants,
     /// How many propagators the constraints are run as.
     pub(crate) kernels: u64,
 }
@@ -74,11 +74,8 @@ fn with_all_kernels(total: u64, constraints: &[Constraint]) -> Option<u64>
     Some(kernels)
 }
 
-fn add_all_constants(
-    found: &mut IndexSet<i64>,
-    constraints: &[Constraint],
-) -> Result<(), AllocError>
-    ensures { OnOk result (found.new.keys ≡ fold add_once found.old.keys (flat_map constants_in constraints.now)) }
+fn add_all_constants(found: &mut Constants, constraints: &[Constraint]) -> Result<(), AllocError>
+    ensures { OnOk result (found.new ≡ fold add_once found.old (flat_map constants_in constraints.now)) }
 {
     for constraint in constraints {
         add_constants(found, constraint)?;
@@ -87,10 +84,10 @@ fn add_all_constants(
 }
 
 fn add_goal_constant(
-    found: &mut IndexSet<i64>,
+    found: &mut Constants,
     solved: &Option<(ListOf<Phase>, Goal)>,
 ) -> Result<(), AllocError>
-    ensures { OnOk result (found.new.keys ≡ fold add_once found.old.keys (effects.solved_constants solved.now)) }
+    ensures { OnOk result (found.new ≡ fold add_once found.old (effects.solved_constants solved.now)) }
 {
     match solved {
         Some((_, Goal::Minimize(term))) => add_constant(found, *term),
@@ -111,16 +108,16 @@ fn push_all(list: &mut ListOf<Constraint>, more: ListOf<Constraint>) -> Result<(
 
 impl Draft {
     /// Before the first item.
-    pub(crate) fn new(alloc: Global) -> Draft
+    pub(crate) fn new(alloc: Global, hash: NameHash) -> Draft
         ensures { seen result ≡ effects.nothing }
     {
         Draft {
-            scope: Scope::new(alloc),
+            scope: Scope::new(alloc, hash),
             vars: ListOf::new(alloc),
             constraints: ListOf::new(alloc),
             output: ListOf::new(alloc),
             solved: None,
-            constants: IndexSet::new(alloc),
+            constants: Constants::new(alloc),
             kernels: 0,
         }
     }

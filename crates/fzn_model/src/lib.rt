@@ -14,6 +14,7 @@ mod literal_tests;
 mod literals;
 #[cfg(test)]
 mod model_tests;
+mod name_hash;
 mod names;
 mod numbers;
 mod outputs;

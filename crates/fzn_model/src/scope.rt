@@ -4,6 +4,7 @@ ghost use Rattle.std.specs.Prelude.{◌≡◌, [], ◌∷◌, ◌++◌, None, is
 ghost use Rattle.std.specs.Option.{option_copied};
 ghost use Rattle.fzn_model.specs.Scopes.{meaning_of};
 
+use crate::name_hash::NameHash;
 use constraint_model::Meaning;
 use indexmap::IndexMap;
 use std::alloc::{AllocError, Global};
@@ -12,7 +13,7 @@ use std::marker::Model;
 /// The declared names, each with what it stands for. Contracts see them in the order of their declarations.
 #[derive(Drop)]
 pub(crate) struct Scope {
-    entries: IndexMap<Vec<u8>, Meaning>,
+    entries: IndexMap<Vec<u8>, Meaning, NameHash>,
 }
 
 impl Model for Scope {
@@ -25,11 +26,11 @@ impl Model for Scope {
 
 impl Scope {
     /// No names. It takes no memory.
-    pub(crate) fn new(alloc: Global) -> Scope
+    pub(crate) fn new(alloc: Global, hash: NameHash) -> Scope
         ensures { result ≡ [] }
     {
         Scope {
-            entries: IndexMap::new(alloc),
+            entries: IndexMap::with_hasher(alloc, hash),
         }
     }
 

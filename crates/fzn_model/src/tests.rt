@@ -1,6 +1,7 @@
 //! What is made of the annotations and of the values of items, in tables.
 
 use crate::exprs::expr_meaning;
+use crate::name_hash::name_hash;
 use crate::outputs::{has_output_var, output_ranges};
 use crate::scope::Scope;
 use crate::searches::{last_phase, phases_of};
@@ -54,7 +55,7 @@ fn declare(
 
 // The variables x and y, the number c, the array row of x, c and y, and the empty set s.
 fn some_names(alloc: Global) -> Result<Scope, AllocError> {
-    let mut scope = Scope::new(alloc);
+    let mut scope = Scope::new(alloc, name_hash(b"".as_slice(), [].as_slice()));
     let (x, c, y) = (Term::Var(0), Term::Number(7), Term::Var(1));
     let mut row = Vec::new(alloc);
     for term in [x, c, y] {

@@ -5,14 +5,13 @@ ghost use Rattle.constraint_model.specs.Fits.{add_once, constants_in};
 ghost use Rattle.constraint_model.specs.Fits.{goal_constants};
 ghost use Rattle.constraint_model.specs.WellFormed.{constants_of};
 
-use constraint_model::{Constraint, FznModel, Goal, add_constant, add_constants};
-use indexmap::IndexSet;
+use constraint_model::{Constants, Constraint, FznModel, Goal, add_constant, add_constants};
 use std::alloc::{AllocError, Global};
 
 /// The numbers other than 1 that stand where variables may, each once, in the order in which they first stand, with
 /// their places.
-pub(crate) fn constant_set(alloc: Global, model: &FznModel) -> Result<IndexSet<i64>, AllocError>
-    ensures { IfOk result (λ numbers. numbers.keys ≡ constants_of model.now) }
+pub(crate) fn constant_set(alloc: Global, model: &FznModel) -> Result<Constants, AllocError>
+    ensures { IfOk result (λ numbers. numbers ≡ constants_of model.now) }
 {
     let mut found = constraint_constants(alloc, model.constraints.as_slice())?;
     add_goal_constant(&mut found, model.goal)?;
@@ -20,13 +19,10 @@ pub(crate) fn constant_set(alloc: Global, model: &FznModel) -> Result<IndexSet<i
 }
 
 /// Those of the constraints.
-fn constraint_constants(
-    alloc: Global,
-    constraints: &[Constraint],
-) -> Result<IndexSet<i64>, AllocError>
-    ensures { IfOk result (λ numbers. numbers.keys ≡ fold add_once [] (flat_map constants_in constraints.now)) }
+fn constraint_constants(alloc: Global, constraints: &[Constraint]) -> Result<Constants, AllocError>
+    ensures { IfOk result (λ numbers. numbers ≡ fold add_once [] (flat_map constants_in constraints.now)) }
 {
-    let mut found = IndexSet::new(alloc);
+    let mut found = Constants::new(alloc);
     for constraint in constraints {
         add_constants(&mut found, constraint)?;
     }
@@ -34,8 +30,8 @@ fn constraint_constants(
 }
 
 /// Adds that of the objective.
-fn add_goal_constant(found: &mut IndexSet<i64>, goal: Goal) -> Result<(), AllocError>
-    ensures { OnOk result (found.new.keys ≡ fold add_once found.old.keys (goal_constants goal)) }
+fn add_goal_constant(found: &mut Constants, goal: Goal) -> Result<(), AllocError>
+    ensures { OnOk result (found.new ≡ fold add_once found.old (goal_constants goal)) }
 {
     match goal {
         Goal::Satisfy => Ok(()),

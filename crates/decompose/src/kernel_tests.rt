@@ -7,9 +7,8 @@ ghost use Rattle.decompose.specs.Places.{IsDeclared, HasDeclared};
 use crate::kernels::kernels_of;
 use crate::places::{ALWAYS, NEVER, Places};
 use crate::sums::Relation;
-use constraint_model::{Constraint, ConstraintName as Name, Operand, Term};
+use constraint_model::{Constants, Constraint, ConstraintName as Name, Operand, Term};
 use guarded_tell::{Kernel, Lit};
-use indexmap::IndexSet;
 use list_of::ListOf;
 use shared_list::SharedList;
 use std::alloc::{AllocError, Global};
@@ -39,9 +38,9 @@ const ZERO: Term = Term::Number(0);
 fn places(alloc: Global) -> Result<Places, AllocError>
     ensures { IfOk result (λ places. places.count ≡ 6) }
 {
-    let mut constants = IndexSet::new(alloc);
+    let mut constants = Constants::new(alloc);
     for number in [4, 9, 0] {
-        let _ = constants.insert(number)?;
+        constants.add(number)?;
     }
     if constants.len() == 3 {
         Ok(Places::new(6, constants))

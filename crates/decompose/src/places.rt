@@ -8,9 +8,8 @@ ghost use Rattle.decompose.specs.Kernels.{variable_of, variables_of};
 ghost use Rattle.decompose.specs.Places.{AreFew, IsDeclared};
 ghost use Rattle.decompose.specs.Rows.{literal_at};
 
-use constraint_model::Term;
+use constraint_model::{Constants, Term};
 use guarded_tell::Lit;
-use indexmap::IndexSet;
 use list_of::ListOf;
 use std::alloc::{AllocError, Global};
 use std::marker::Model;
@@ -34,7 +33,7 @@ pub(crate) struct Places {
     /// How many variables are declared.
     count: u32,
     /// The constants other than 1, in the order of their variables.
-    constants: IndexSet<i64>,
+    constants: Constants,
 }
 
 impl Model for Places {
@@ -42,28 +41,25 @@ impl Model for Places {
 
     ghost Value = { Numbering };
 
-    ghost view = { λ p. record { count = p.count; constants = p.constants.keys } };
+    ghost view = { λ p. record { count = p.count; constants = p.constants } };
 
-    ghost invariant = { λ p. AreFew (record { count = p.count; constants = p.constants.keys }) };
+    ghost invariant = { λ p. AreFew (record { count = p.count; constants = p.constants }) };
 }
 
 /// The place of a constant.
-fn place(number: i64, constants: &IndexSet<i64>) -> u32
-    requires { length constants.now.keys ≤ most_constants }
-    ensures value { result ≡ position_or_len (int_eq number) constants.now.keys }
+fn place(number: i64, constants: &Constants) -> u32
+    requires { length constants.now ≤ most_constants }
+    ensures value { result ≡ position_or_len (int_eq number) constants.now }
     ensures small { result ≤ most_constants }
 {
-    match constants.get_index_of(&number) {
-        Some(place) => place as u32,
-        None => constants.len() as u32,
-    }
+    constants.place_of(number) as u32
 }
 
 impl Places {
     /// The places of so many declared variables and of these other constants.
-    pub(crate) fn new(count: u32, constants: IndexSet<i64>) -> Self
-        requires { AreFew (record { count = count; constants = constants.keys }) }
-        ensures { result ≡ record { count = count; constants = constants.keys } }
+    pub(crate) fn new(count: u32, constants: Constants) -> Self
+        requires { AreFew (record { count = count; constants = constants }) }
+        ensures { result ≡ record { count = count; constants = constants } }
     {
         Places { count, constants }
     }

@@ -14,7 +14,7 @@ use crate::propagation::Propagation;
 use fixpoint_laws::Limited;
 use guarded_tell::Kernel;
 use interval::{BoxOf, NoMemory, law_inside_order};
-use rounds::{Engine, Gate, even_cut};
+use rounds::{Engine, Gate, Work, even_cut};
 use std::alloc::Global;
 use std::thread::Threads;
 use trailed_box::TrailedBox;
@@ -105,17 +105,14 @@ impl Lanes {
         ensures same_length { length b.new.current ≡ length b.old.current }
         ensures narrowed { IfOk result (IsNarrowed what.now.kernels.now what.now.round_limit b.old.current b.new.current) }
     {
-        let ended = self.engine.propagate(
-            rt,
-            alloc,
-            b.current(),
-            what.kernels,
-            self.cut.as_slice(),
-            what.round_limit,
-            what.gate,
-            &mut self.into,
-        )?;
-        match ended {
+        let work = Work {
+            start: b.current(),
+            kernels: what.kernels,
+            cut: self.cut.as_slice(),
+            round_limit: what.round_limit,
+            gate: what.gate,
+        };
+        match self.engine.propagate(rt, alloc, &work, &mut self.into)? {
             Limited::Fixed { .. } => {
                 take_bounds(b, &self.into)?;
                 Ok(Narrowed::Fixed)

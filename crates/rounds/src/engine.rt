@@ -10,6 +10,7 @@ ghost use Rattle.rounds.specs.Flat.{IsFlat};
 
 use crate::lanes::{Lane, make_lanes, reset_turns};
 use crate::settling::{copy_seen, settle_first};
+use crate::work::Work;
 use fixpoint_laws::{Limited, law_greatest_is_computed};
 use gate::Gate;
 use guarded_tell::Kernel;
@@ -137,7 +138,7 @@ impl Engine {
         Ok(())
     }
 
-    /// Narrows a start to the greatest closed box inside it, which is written to `into`, round by round, until a round
+    /// Narrows the start to the greatest closed box inside it, which is written to `into`, round by round, until a round
     /// moves nothing. Where no closed box is inside, `into` ends crossed. Where as many rounds as the limit were run and
     /// the last one moved something, it stops there; limit 0 is none. With one share and an epoch left it takes no memory
     /// and starts no thread. Where memory was refused, `into` is unchanged and the engine may be used again.
@@ -145,43 +146,35 @@ impl Engine {
         &mut self,
         rt: &R,
         alloc: Global,
-        start: &BoxOf,
-        kernels: &[Kernel],
-        cut: &[Vec<u32>],
-        round_limit: u64,
-        gate: &G,
+        work: &Work<'_, G>,
         into: &mut BoxOf,
     ) -> Result<Limited, NoMemory>
-        requires kernels { All (IsKernel (length start.now)) kernels.now }
-        requires start { length start.now ≡ engine_len self.old }
-        requires cut { IsCut (length kernels.now) cut.now }
-        requires shares { length cut.now ≤ engine_shares self.old }
-        requires into { length into.old ≡ length start.now }
-        ensures ended { IfOk result (HasEnded kernels.now start.now into.new round_limit) }
-        ensures memory { length cut.now ≡ 1 → engine_epoch self.old ≢ last_epoch → IsOk result }
+        requires kernels { All (IsKernel (length work.now.start.now)) work.now.kernels.now }
+        requires start { length work.now.start.now ≡ engine_len self.old }
+        requires cut { IsCut (length work.now.kernels.now) work.now.cut.now }
+        requires shares { length work.now.cut.now ≤ engine_shares self.old }
+        requires into { length into.old ≡ length work.now.start.now }
+        ensures ended { IfOk result (HasEnded work.now.kernels.now work.now.start.now into.new work.now.round_limit) }
+        ensures memory { length work.now.cut.now ≡ 1 → engine_epoch self.old ≢ last_epoch → IsOk result }
         ensures unchanged { OnErr result (into.new ≡ into.old) }
-        ensures length { length into.new ≡ length start.now }
+        ensures length { length into.new ≡ length work.now.start.now }
         ensures len { engine_len self.new ≡ engine_len self.old }
         ensures shares { engine_shares self.new ≡ engine_shares self.old }
         ensures epoch { engine_epoch self.new ≤ engine_epoch self.old + 1 }
     {
         law_inside_order();
-        if is_crossed(start) {
-            into.copy_from(start);
+        if is_crossed(work.start) {
+            into.copy_from(work.start);
             return Ok(Limited::Failed { rounds: 0 });
         }
-        self.begin(alloc, start, kernels)?;
+        self.begin(alloc, work.start, work.kernels)?;
         let ended = settle_first(
             rt,
             alloc,
             &self.store,
+            work,
             &mut self.first,
             &mut self.lanes,
-            start,
-            kernels,
-            cut,
-            round_limit,
-            gate,
         )?;
         copy_seen(&self.first, into);
         Ok(ended)

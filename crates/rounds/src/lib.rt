@@ -11,6 +11,7 @@ mod settling;
 mod share;
 #[cfg(test)]
 mod tests;
+mod work;
 
 pub use cuts::even_cut;
 pub use engine::Engine;
@@ -19,3 +20,4 @@ pub use gate::{Gate, NoGate};
 pub use lanes::Cache;
 pub use once::{Propagated, propagate};
 pub use share::run_share;
+pub use work::Work;

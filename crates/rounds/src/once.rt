@@ -7,6 +7,7 @@ ghost use Rattle.rounds.specs.Shares.{IsCut};
 ghost use Rattle.rounds.specs.Propagations.{HasPropagated};
 
 use crate::engine::Engine;
+use crate::work::Work;
 use fixpoint_laws::Limited;
 use gate::Gate;
 use guarded_tell::Kernel;
@@ -46,7 +47,14 @@ pub fn propagate<R: Threads + Sync, G: Gate + Sync>(
 {
     let mut engine = Engine::new(alloc, start.len(), cut.len() as u32)?;
     let mut into = start.copy(alloc)?;
-    match engine.propagate(rt, alloc, start, kernels, cut, 0, gate, &mut into)? {
+    let work = Work {
+        start,
+        kernels,
+        cut,
+        round_limit: 0,
+        gate,
+    };
+    match engine.propagate(rt, alloc, &work, &mut into)? {
         Limited::Fixed { rounds } => Ok(Propagated::Fixed {
             box_of: into,
             rounds,

@@ -12,35 +12,36 @@ ghost use Rattle.rounds.specs.Ends.{IsRound, HasEnded};
 
 use crate::lanes::{Lane, run_lanes, seat_lanes, unseat_lanes};
 use crate::share::run_share;
+use crate::work::Work;
 use fixpoint_laws::{Limited, law_greatest_is_computed, law_rounds_lead};
 use gate::Gate;
-use guarded_tell::{Kernel, law_tell_place};
+use guarded_tell::law_tell_place;
 use interval::{BoxOf, NoMemory, law_inside_order};
 use lattice_store::{Seat, Store};
 use std::alloc::Global;
 use std::thread::Threads;
 
 // A round of the one lane of a cut of one share. The first seat runs it.
-fn run_alone<G: Gate>(
-    store: &Store,
-    first: &mut Seat,
-    lane: &mut Lane,
-    kernels: &[Kernel],
-    cut: &[Vec<u32>],
-    gate: &G,
-) -> bool
+fn run_alone<G: Gate>(store: &Store, work: &Work<'_, G>, first: &mut Seat, lane: &mut Lane) -> bool
     requires store { IsSeatOf store.now first.old }
     requires first { IsFirst first.old }
-    requires kernels { All (IsKernel (length (seen_of first.old))) kernels.now }
-    requires cut { IsCut (length kernels.now) cut.now }
-    requires one { length cut.now ≡ 1 }
+    requires kernels { All (IsKernel (length (seen_of first.old))) work.now.kernels.now }
+    requires cut { IsCut (length work.now.kernels.now) work.now.cut.now }
+    requires one { length work.now.cut.now ≡ 1 }
     requires snapshot { length lane.old.cache.snapshot ≡ length (seen_of first.old) }
-    requires floor { IfSome (floor_of first.old) (λ f. All (λ k. IsClosedUnder k f) kernels.now) }
+    requires floor { IfSome (floor_of first.old) (λ f. All (λ k. IsClosedUnder k f) work.now.kernels.now) }
     ensures same { IsSameSeat first.old first.new }
     ensures snapshot { length lane.new.cache.snapshot ≡ length (seen_of first.old) }
-    ensures round { IsRound kernels.now (seen_of first.old) (seen_of first.new) result }
+    ensures round { IsRound work.now.kernels.now (seen_of first.old) (seen_of first.new) result }
 {
-    let moved = run_share(store, first, &mut lane.cache, kernels, &cut[0], gate);
+    let moved = run_share(
+        store,
+        first,
+        &mut lane.cache,
+        work.kernels,
+        &work.cut[0],
+        work.gate,
+    );
     first.law_floor();
     moved
 }
@@ -50,27 +51,25 @@ fn run_together<R: Threads + Sync, G: Gate + Sync>(
     rt: &R,
     alloc: Global,
     store: &Store,
+    work: &Work<'_, G>,
     first: &mut Seat,
     lanes: &mut [Lane],
-    kernels: &[Kernel],
-    cut: &[Vec<u32>],
-    gate: &G,
 ) -> Result<bool, NoMemory>
     requires store { IsSeatOf store.now first.old }
     requires first { IsFirst first.old }
-    requires kernels { All (IsKernel (length (seen_of first.old))) kernels.now }
-    requires cut { IsCut (length kernels.now) cut.now }
-    requires count { length cut.now ≡ length lanes.old }
+    requires kernels { All (IsKernel (length (seen_of first.old))) work.now.kernels.now }
+    requires cut { IsCut (length work.now.kernels.now) work.now.cut.now }
+    requires count { length work.now.cut.now ≡ length lanes.old }
     requires snapshots { AreLanes (length (seen_of first.old)) lanes.old }
-    requires floor { IfSome (floor_of first.old) (λ f. All (λ k. IsClosedUnder k f) kernels.now) }
+    requires floor { IfSome (floor_of first.old) (λ f. All (λ k. IsClosedUnder k f) work.now.kernels.now) }
     ensures same { IsSameSeat first.old first.new }
     ensures length { length (seen_of first.new) ≡ length (seen_of first.old) }
     ensures snapshots { AreLanes (length (seen_of first.old)) lanes.new }
-    ensures round { IfOk result (λ m. IsRound kernels.now (seen_of first.old) (seen_of first.new) m) }
+    ensures round { IfOk result (λ m. IsRound work.now.kernels.now (seen_of first.old) (seen_of first.new) m) }
 {
     law_tell_place();
     seat_lanes(alloc, store, first, lanes)?;
-    run_lanes(rt, store, kernels, cut, gate, lanes);
+    run_lanes(rt, store, work.kernels, work.cut, work.gate, lanes);
     Ok(unseat_lanes(store, first, lanes))
 }
 
@@ -80,29 +79,27 @@ fn run_round<R: Threads + Sync, G: Gate + Sync>(
     rt: &R,
     alloc: Global,
     store: &Store,
+    work: &Work<'_, G>,
     first: &mut Seat,
     lanes: &mut [Lane],
-    kernels: &[Kernel],
-    cut: &[Vec<u32>],
-    gate: &G,
 ) -> Result<bool, NoMemory>
     requires store { IsSeatOf store.now first.old }
     requires first { IsFirst first.old }
-    requires kernels { All (IsKernel (length (seen_of first.old))) kernels.now }
-    requires cut { IsCut (length kernels.now) cut.now }
-    requires count { length cut.now ≡ length lanes.old }
+    requires kernels { All (IsKernel (length (seen_of first.old))) work.now.kernels.now }
+    requires cut { IsCut (length work.now.kernels.now) work.now.cut.now }
+    requires count { length work.now.cut.now ≡ length lanes.old }
     requires snapshots { AreLanes (length (seen_of first.old)) lanes.old }
-    requires floor { IfSome (floor_of first.old) (λ f. All (λ k. IsClosedUnder k f) kernels.now) }
+    requires floor { IfSome (floor_of first.old) (λ f. All (λ k. IsClosedUnder k f) work.now.kernels.now) }
     ensures same { IsSameSeat first.old first.new }
     ensures length { length (seen_of first.new) ≡ length (seen_of first.old) }
     ensures snapshots { AreLanes (length (seen_of first.old)) lanes.new }
-    ensures memory { length cut.now ≡ 1 → IsOk result }
-    ensures round { IfOk result (λ m. IsRound kernels.now (seen_of first.old) (seen_of first.new) m) }
+    ensures memory { length work.now.cut.now ≡ 1 → IsOk result }
+    ensures round { IfOk result (λ m. IsRound work.now.kernels.now (seen_of first.old) (seen_of first.new) m) }
 {
     if lanes.len() == 1 {
-        Ok(run_alone(store, first, &mut lanes[0], kernels, cut, gate))
+        Ok(run_alone(store, work, first, &mut lanes[0]))
     } else {
-        run_together(rt, alloc, store, first, lanes, kernels, cut, gate)
+        run_together(rt, alloc, store, work, first, lanes)
     }
 }
 
@@ -143,45 +140,41 @@ fn settle<R: Threads + Sync, G: Gate + Sync>(
     rt: &R,
     alloc: Global,
     store: &Store,
+    work: &Work<'_, G>,
     first: &mut Seat,
     lanes: &mut [Lane],
-    start: &BoxOf,
-    kernels: &[Kernel],
-    cut: &[Vec<u32>],
-    round_limit: u64,
-    gate: &G,
 ) -> Result<Limited, NoMemory>
     requires store { IsSeatOf store.now first.old }
     requires first { IsFirst first.old }
-    requires seen { seen_of first.old ≡ start.now }
-    requires proper { IsProper start.now }
-    requires kernels { All (IsKernel (length start.now)) kernels.now }
-    requires cut { IsCut (length kernels.now) cut.now }
-    requires count { length cut.now ≡ length lanes.old }
-    requires snapshots { AreLanes (length start.now) lanes.old }
-    requires floor { floor_of first.old ≡ greatest_of start.now kernels.now }
+    requires seen { seen_of first.old ≡ work.now.start.now }
+    requires proper { IsProper work.now.start.now }
+    requires kernels { All (IsKernel (length work.now.start.now)) work.now.kernels.now }
+    requires cut { IsCut (length work.now.kernels.now) work.now.cut.now }
+    requires count { length work.now.cut.now ≡ length lanes.old }
+    requires snapshots { AreLanes (length work.now.start.now) lanes.old }
+    requires floor { floor_of first.old ≡ greatest_of work.now.start.now work.now.kernels.now }
     ensures same { IsSameSeat first.old first.new }
-    ensures length { length (seen_of first.new) ≡ length start.now }
-    ensures snapshots { AreLanes (length start.now) lanes.new }
-    ensures memory { length cut.now ≡ 1 → IsOk result }
-    ensures ended { IfOk result (HasEnded kernels.now start.now (seen_of first.new) round_limit) }
+    ensures length { length (seen_of first.new) ≡ length work.now.start.now }
+    ensures snapshots { AreLanes (length work.now.start.now) lanes.new }
+    ensures memory { length work.now.cut.now ≡ 1 → IsOk result }
+    ensures ended { IfOk result (HasEnded work.now.kernels.now work.now.start.now (seen_of first.new) work.now.round_limit) }
 {
     law_inside_order();
     law_greatest_is_computed();
     law_rounds_lead();
-    let len = start.len();
+    let len = work.start.len();
     let mut rounds = 0;
     'rounds: loop {
         rounds += 1;
         first.law_floor();
-        if !run_round(rt, alloc, store, first, lanes, kernels, cut, gate)? {
+        if !run_round(rt, alloc, store, work, first, lanes)? {
             return Ok(Limited::Fixed { rounds });
         }
         first.law_floor();
         if is_seen_crossed(first, len) {
             return Ok(Limited::Failed { rounds });
         }
-        if is_spent(rounds, round_limit) {
+        if is_spent(rounds, work.round_limit) {
             return Ok(Limited::RoundsSpent { rounds });
         }
     }
@@ -192,41 +185,26 @@ pub(crate) fn settle_first<R: Threads + Sync, G: Gate + Sync>(
     rt: &R,
     alloc: Global,
     store: &Store,
+    work: &Work<'_, G>,
     first: &mut Seat,
     lanes: &mut Vec<Lane>,
-    start: &BoxOf,
-    kernels: &[Kernel],
-    cut: &[Vec<u32>],
-    round_limit: u64,
-    gate: &G,
 ) -> Result<Limited, NoMemory>
     requires store { IsSeatOf store.now first.old }
     requires first { IsFirst first.old }
-    requires seen { seen_of first.old ≡ start.now }
-    requires proper { IsProper start.now }
-    requires kernels { All (IsKernel (length start.now)) kernels.now }
-    requires cut { IsCut (length kernels.now) cut.now }
-    requires count { length cut.now ≤ length lanes.old.items }
-    requires snapshots { AreLanes (length start.now) lanes.old.items }
-    requires floor { floor_of first.old ≡ greatest_of start.now kernels.now }
+    requires seen { seen_of first.old ≡ work.now.start.now }
+    requires proper { IsProper work.now.start.now }
+    requires kernels { All (IsKernel (length work.now.start.now)) work.now.kernels.now }
+    requires cut { IsCut (length work.now.kernels.now) work.now.cut.now }
+    requires count { length work.now.cut.now ≤ length lanes.old.items }
+    requires snapshots { AreLanes (length work.now.start.now) lanes.old.items }
+    requires floor { floor_of first.old ≡ greatest_of work.now.start.now work.now.kernels.now }
     ensures same { IsSameSeat first.old first.new }
-    ensures length { length (seen_of first.new) ≡ length start.now }
+    ensures length { length (seen_of first.new) ≡ length work.now.start.now }
     ensures count { length lanes.new.items ≡ length lanes.old.items }
-    ensures snapshots { AreLanes (length start.now) lanes.new.items }
-    ensures memory { length cut.now ≡ 1 → IsOk result }
-    ensures ended { IfOk result (HasEnded kernels.now start.now (seen_of first.new) round_limit) }
+    ensures snapshots { AreLanes (length work.now.start.now) lanes.new.items }
+    ensures memory { length work.now.cut.now ≡ 1 → IsOk result }
+    ensures ended { IfOk result (HasEnded work.now.kernels.now work.now.start.now (seen_of first.new) work.now.round_limit) }
 {
-    let (used, _) = lanes.as_mut_slice().split_at_mut(cut.len());
-    settle(
-        rt,
-        alloc,
-        store,
-        first,
-        used,
-        start,
-        kernels,
-        cut,
-        round_limit,
-        gate,
-    )
+    let (used, _) = lanes.as_mut_slice().split_at_mut(work.cut.len());
+    settle(rt, alloc, store, work, first, used)
 }

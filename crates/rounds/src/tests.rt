@@ -6,7 +6,7 @@ ghost use Rattle.guarded_tell.specs.Kernels.{IsKernel};
 ghost use Rattle.rounds.specs.Shares.{IsCut};
 ghost use Rattle.rounds.specs.Small.{is_small, are_small, are_below_four, lows_are_small, highs_are_small};
 
-use crate::{Engine, Gate, Limited, NoGate, Propagated, even_cut, propagate};
+use crate::{Engine, Gate, Limited, NoGate, Propagated, Work, even_cut, propagate};
 use guarded_tell::{Kernel, Lit};
 use interval::{BoxOf, NoMemory};
 use list_of::ListOf;
@@ -170,29 +170,25 @@ fn an_engine_goes_on_after_the_last_epoch_of_its_store(rt: HostRuntime) -> Resul
     let cut = even_cut(rt.alloc(), &x_below_y, 1)?;
     let mut engine = Engine::new(rt.alloc(), 4, 1)?;
     let mut into = wide.copy(rt.alloc())?;
+    let from_wide = Work {
+        start: &wide,
+        kernels: &x_below_y,
+        cut: &cut,
+        round_limit: 0,
+        gate: &NoGate,
+    };
+    let from_failing = Work {
+        start: &failing,
+        kernels: &x_below_y,
+        cut: &cut,
+        round_limit: 0,
+        gate: &NoGate,
+    };
     for _ in 0..16_400u32 {
-        let end = engine.propagate(
-            &rt,
-            rt.alloc(),
-            &wide,
-            &x_below_y,
-            &cut,
-            0,
-            &NoGate,
-            &mut into,
-        )?;
+        let end = engine.propagate(&rt, rt.alloc(), &from_wide, &mut into)?;
         assert_eq!(rt; end, Limited::Fixed { rounds: 2 });
         assert_eq!(rt; bounds_of(&into), [1, 1, 0, 2, 1, 3, 0, 0]);
-        let end = engine.propagate(
-            &rt,
-            rt.alloc(),
-            &failing,
-            &x_below_y,
-            &cut,
-            0,
-            &NoGate,
-            &mut into,
-        )?;
+        let end = engine.propagate(&rt, rt.alloc(), &from_failing, &mut into)?;
         assert_eq!(rt; end, Limited::Failed { rounds: 1 });
     }
     Ok(())
@@ -214,16 +210,14 @@ fn limited<R: Threads + Sync>(
     let cut = even_cut(alloc, kernels, 1)?;
     let mut engine = Engine::new(alloc, 4, 1)?;
     let mut into = start.copy(alloc)?;
-    let end = engine.propagate(
-        rt,
-        alloc,
+    let work = Work {
         start,
         kernels,
-        &cut,
+        cut: &cut,
         round_limit,
-        &NoGate,
-        &mut into,
-    )?;
+        gate: &NoGate,
+    };
+    let end = engine.propagate(rt, alloc, &work, &mut into)?;
     Ok((end, bounds_of(&into)))
 }
 
@@ -337,13 +331,18 @@ fn two_lanes_meet_in_each_propagation_of_an_engine(rt: HostRuntime) -> Result<()
     let cut = even_cut(rt.alloc(), &kernels, 2)?;
     let mut engine = Engine::new(rt.alloc(), 4, 2)?;
     let mut into = start.copy(rt.alloc())?;
-    let gate = Meet::new();
-    let end = engine.propagate(&rt, rt.alloc(), &start, &kernels, &cut, 0, &gate, &mut into)?;
-    assert_eq!(rt; end, Limited::Fixed { rounds: 1 });
-    assert!(rt; gate.was_passed());
-    let gate = Meet::new();
-    let again = engine.propagate(&rt, rt.alloc(), &start, &kernels, &cut, 0, &gate, &mut into)?;
-    assert_eq!(rt; again, Limited::Fixed { rounds: 1 });
-    assert!(rt; gate.was_passed());
+    for _ in 0..2 {
+        let gate = Meet::new();
+        let work = Work {
+            start: &start,
+            kernels: &kernels,
+            cut: &cut,
+            round_limit: 0,
+            gate: &gate,
+        };
+        let end = engine.propagate(&rt, rt.alloc(), &work, &mut into)?;
+        assert_eq!(rt; end, Limited::Fixed { rounds: 1 });
+        assert!(rt; gate.was_passed());
+    }
     Ok(())
 }

@@ -17,7 +17,7 @@ run_lanes-requires-clause-count g c = λ ks b. c.requires.count ∙ sym c.seat_l
 
 pub run_lanes-requires-clause-lanes : goal.run_lanes-requires-clause-lanes
 run_lanes-requires-clause-lanes g c = λ ks b i d h.
-    can_run c.args.store.now c.args.first.now c.args.kernels.now c.args.cut.now c.requires.cut i (get_or c.seat_lanes.new.lanes i d) (omega (arith, c.requires.count, c.seat_lanes.ensures.caches.length_is))
+    can_run c.args.store.now c.args.first.now c.args.work.now.kernels.now c.args.work.now.cut.now c.requires.cut i (get_or c.seat_lanes.new.lanes i d) (omega (arith, c.requires.count, c.seat_lanes.ensures.caches.length_is))
     c.requires.kernels c.requires.floor (lanes_kept (length (seen_of c.args.first.now)) c.args.lanes.now c.seat_lanes.new.lanes c.seat_lanes.ensures.caches c.requires.snapshots i d h)
     (c.in_ok-seat_lanes.ensures.seats i d (omega (arith, c.seat_lanes.ensures.caches.length_is)))
 
@@ -26,10 +26,10 @@ unseat_lanes-requires g c = record {
   store = seat_of_same c.args.store.now c.args.store.now c.args.first.now c.seat_lanes.new.first c.requires.store c.seat_lanes.ensures.same refl;
   first = c.seat_lanes.ensures.same.first ∙ c.requires.first;
   seats = λ i d h. has_map (get_or c.run_lanes.new.lanes i d).seat
-      (Ended c.args.store.now c.args.first.now c.args.kernels.now c.args.cut.now c.requires.cut i (get_or c.run_lanes.new.lanes i d).moved)
+      (Ended c.args.store.now c.args.first.now c.args.work.now.kernels.now c.args.work.now.cut.now c.requires.cut i (get_or c.run_lanes.new.lanes i d).moved)
       (IsBackIn c.args.store.now c.seat_lanes.new.first)
       (λ s e. back_later c.args.store.now c.args.first.now c.seat_lanes.new.first s c.seat_lanes.ensures.same (ap length c.seat_lanes.ensures.seen) e.back)
-      (ended_all c.args.store.now c.args.first.now c.args.kernels.now c.args.cut.now c.requires.cut c.seat_lanes.new.lanes c.run_lanes.new.lanes (length c.args.lanes.now)
+      (ended_all c.args.store.now c.args.first.now c.args.work.now.kernels.now c.args.work.now.cut.now c.requires.cut c.seat_lanes.new.lanes c.run_lanes.new.lanes (length c.args.lanes.now)
       c.requires.count c.seat_lanes.ensures.caches.length_is c.in_ok-seat_lanes.ensures.seats c.run_lanes.ensures i d (omega (arith, c.requires.count, c.seat_lanes.ensures.caches.length_is, c.run_lanes.auto.lanes)));
 }
 
@@ -43,13 +43,13 @@ returns-clause-snapshots g c =
 
 pub returns-clause-round : goal.returns-clause-round
 returns-clause-round g c =
-    let count : length c.run_lanes.new.lanes ≡ length c.args.cut.now = omega (arith, c.requires.count, c.seat_lanes.ensures.caches.length_is, c.run_lanes.auto.lanes) in
-    let ends = ended_all c.args.store.now c.args.first.now c.args.kernels.now c.args.cut.now c.requires.cut c.seat_lanes.new.lanes c.run_lanes.new.lanes (length c.args.lanes.now)
+    let count : length c.run_lanes.new.lanes ≡ length c.args.work.now.cut.now = omega (arith, c.requires.count, c.seat_lanes.ensures.caches.length_is, c.run_lanes.auto.lanes) in
+    let ends = ended_all c.args.store.now c.args.first.now c.args.work.now.kernels.now c.args.work.now.cut.now c.requires.cut c.seat_lanes.new.lanes c.run_lanes.new.lanes (length c.args.lanes.now)
     c.requires.count c.seat_lanes.ensures.caches.length_is c.in_ok-seat_lanes.ensures.seats c.run_lanes.ensures in
-    let joined : AreJoined (seen_of c.args.first.now) c.run_lanes.new.lanes (length c.args.cut.now) (seen_of c.unseat_lanes.new.first) c.unseat_lanes.result =
-    subst (λ (b : Bounds). AreJoined b c.run_lanes.new.lanes (length c.args.cut.now) (seen_of c.unseat_lanes.new.first) c.unseat_lanes.result) c.seat_lanes.ensures.seen
+    let joined : AreJoined (seen_of c.args.first.now) c.run_lanes.new.lanes (length c.args.work.now.cut.now) (seen_of c.unseat_lanes.new.first) c.unseat_lanes.result =
+    subst (λ (b : Bounds). AreJoined b c.run_lanes.new.lanes (length c.args.work.now.cut.now) (seen_of c.unseat_lanes.new.first) c.unseat_lanes.result) c.seat_lanes.ensures.seen
     (subst (λ (n : ℕ). AreJoined (seen_of c.seat_lanes.new.first) c.run_lanes.new.lanes n (seen_of c.unseat_lanes.new.first) c.unseat_lanes.result) count c.unseat_lanes.ensures.joined) in
-    round_joined c.args.store.now c.args.first.now c.args.kernels.now c.args.cut.now c.requires.cut c.law_tell_place.ensures c.requires.kernels c.run_lanes.new.lanes (seen_of c.unseat_lanes.new.first) c.unseat_lanes.result count ends joined
+    round_joined c.args.store.now c.args.first.now c.args.work.now.kernels.now c.args.work.now.cut.now c.requires.cut c.law_tell_place.ensures c.requires.kernels c.run_lanes.new.lanes (seen_of c.unseat_lanes.new.first) c.unseat_lanes.result count ends joined
 
 pub returns-clause-same : goal.returns-clause-same
 returns-clause-same g c = same_through c.args.first.now c.seat_lanes.new.first c.unseat_lanes.new.first c.seat_lanes.ensures.same c.unseat_lanes.ensures.same

@@ -22,12 +22,12 @@ pub rounds-init : goal.rounds-init
 rounds-init g c = record {
   same = same_itself c.args.first.now;
   snapshots = c.requires.snapshots;
-  goes = goes_first c.law_rounds_lead.ensures c.args.kernels.now c.args.round_limit c.args.start.now (seen_of c.args.first.now) c.requires.seen c.requires.proper;
+  goes = goes_first c.law_rounds_lead.ensures c.args.work.now.kernels.now c.args.work.now.round_limit c.args.work.now.start.now (seen_of c.args.first.now) c.requires.seen c.requires.proper;
 }
 
 pub overflow_add-rounds : goal.overflow_add-rounds
 overflow_add-rounds g c =
-    let fits : width_sum_of c.args.start.now < 2 ^ 100 = widths_fit c.args.start.now c.len-len.ensures.in_range in
+    let fits : width_sum_of c.args.work.now.start.now < 2 ^ 100 = widths_fit c.args.work.now.start.now c.len-len.ensures.in_range in
     grind (arith, c.rounds.invariant.goes.widths)
 
 pub run_round-requires-clause-store : goal.run_round-requires-clause-store
@@ -37,7 +37,7 @@ pub run_round-requires-clause-first : goal.run_round-requires-clause-first
 run_round-requires-clause-first g c = λ ks b. c.rounds.invariant.same.first ∙ c.requires.first
 
 pub run_round-requires-clause-kernels : goal.run_round-requires-clause-kernels
-run_round-requires-clause-kernels g c = λ ks b. subst (λ (n : ℕ). All (IsKernel n) c.args.kernels.now) (sym c.rounds.invariant.goes.inside.same_length) c.requires.kernels
+run_round-requires-clause-kernels g c = λ ks b. subst (λ (n : ℕ). All (IsKernel n) c.args.work.now.kernels.now) (sym c.rounds.invariant.goes.inside.same_length) c.requires.kernels
 
 pub run_round-requires-clause-cut : goal.run_round-requires-clause-cut
 run_round-requires-clause-cut g c = λ ks b. c.requires.cut
@@ -50,8 +50,8 @@ run_round-requires-clause-snapshots g c = λ ks b i d h. c.rounds.invariant.snap
 
 pub run_round-requires-clause-floor : goal.run_round-requires-clause-floor
 run_round-requires-clause-floor g c = λ ks b.
-    floor_closed c.args.kernels.now c.args.start.now (floor_of c.rounds.first)
-    (answer c.law_greatest_is_computed.ensures c.args.start.now c.args.kernels.now c.len-len.ensures.in_range c.requires.kernels c.args.first.now c.rounds.first c.rounds.invariant.same c.requires.floor)
+    floor_closed c.args.work.now.kernels.now c.args.work.now.start.now (floor_of c.rounds.first)
+    (answer c.law_greatest_is_computed.ensures c.args.work.now.start.now c.args.work.now.kernels.now c.len-len.ensures.in_range c.requires.kernels c.args.first.now c.rounds.first c.rounds.invariant.same c.requires.floor)
 
 pub is_seen_crossed-requires : goal.is_seen_crossed-requires
 is_seen_crossed-requires g c = c.len-len.ensures.value ∙ sym (c.run_round.ensures.length ∙ c.rounds.invariant.goes.inside.same_length)
@@ -60,29 +60,29 @@ pub rounds-preserved : goal.rounds-preserved
 rounds-preserved g c = record {
   same = same_through c.args.first.now c.rounds.first c.run_round.new.first c.rounds.invariant.same c.run_round.ensures.same;
   snapshots = λ i d h. c.run_round.ensures.snapshots i d h ∙ c.rounds.invariant.goes.inside.same_length;
-  goes = goes_on c.args.kernels.now c.args.start.now c.requires.kernels c.requires.proper c.args.round_limit (seen_of c.rounds.first) c.rounds.rounds c.rounds.invariant.goes c.law_inside_order.ensures c.law_rounds_lead.ensures
+  goes = goes_on c.args.work.now.kernels.now c.args.work.now.start.now c.requires.kernels c.requires.proper c.args.work.now.round_limit (seen_of c.rounds.first) c.rounds.rounds c.rounds.invariant.goes c.law_inside_order.ensures c.law_rounds_lead.ensures
       (seen_of c.run_round.new.first) c.in_ok-run_round.field-0 c.in_ok-run_round.ensures.round c.if-not-branch.false (c.if-is_seen_crossed.ensures.proper.0 refl)
       (λ ne e. true≢false (sym (c.is_spent.ensures.1 (ne, e)) ∙ c.if-is_spent.false));
 }
 
 pub rounds-smaller : goal.rounds-smaller
 rounds-smaller g c =
-    narrower c.args.kernels.now c.args.start.now c.requires.kernels c.requires.proper c.args.round_limit (seen_of c.rounds.first) c.rounds.rounds c.rounds.invariant.goes c.law_inside_order.ensures
+    narrower c.args.work.now.kernels.now c.args.work.now.start.now c.requires.kernels c.requires.proper c.args.work.now.round_limit (seen_of c.rounds.first) c.rounds.rounds c.rounds.invariant.goes c.law_inside_order.ensures
     (seen_of c.run_round.new.first) c.in_ok-run_round.field-0 c.in_ok-run_round.ensures.round c.if-not-branch.false (c.if-is_seen_crossed.ensures.proper.0 refl)
 
 pub returns-then-not-branch-clause-ended : goal.returns-then-not-branch-clause-ended
 returns-then-not-branch-clause-ended g c =
-    fixed c.args.kernels.now c.args.start.now c.requires.kernels c.requires.proper c.args.round_limit (seen_of c.rounds.first) c.rounds.rounds c.rounds.invariant.goes (floor_of c.rounds.first)
+    fixed c.args.work.now.kernels.now c.args.work.now.start.now c.requires.kernels c.requires.proper c.args.work.now.round_limit (seen_of c.rounds.first) c.rounds.rounds c.rounds.invariant.goes (floor_of c.rounds.first)
     (seen_of c.run_round.new.first) c.in_ok-run_round.field-0
-    (answer c.law_greatest_is_computed.ensures c.args.start.now c.args.kernels.now c.len-len.ensures.in_range c.requires.kernels c.args.first.now c.rounds.first c.rounds.invariant.same c.requires.floor)
+    (answer c.law_greatest_is_computed.ensures c.args.work.now.start.now c.args.work.now.kernels.now c.len-len.ensures.in_range c.requires.kernels c.args.first.now c.rounds.first c.rounds.invariant.same c.requires.floor)
     c.law_floor.ensures.floor c.in_ok-run_round.ensures.round c.if-not-branch.true
 
 pub returns-then-is_seen_crossed-clause-ended : goal.returns-then-is_seen_crossed-clause-ended
 returns-then-is_seen_crossed-clause-ended g c =
     let same : IsSameSeat c.args.first.now c.run_round.new.first = same_through c.args.first.now c.rounds.first c.run_round.new.first c.rounds.invariant.same c.run_round.ensures.same in
-    failed c.args.kernels.now c.args.start.now c.requires.kernels c.requires.proper c.args.round_limit (seen_of c.rounds.first) c.rounds.rounds c.rounds.invariant.goes c.law_inside_order.ensures (floor_of c.run_round.new.first)
+    failed c.args.work.now.kernels.now c.args.work.now.start.now c.requires.kernels c.requires.proper c.args.work.now.round_limit (seen_of c.rounds.first) c.rounds.rounds c.rounds.invariant.goes c.law_inside_order.ensures (floor_of c.run_round.new.first)
     (seen_of c.run_round.new.first)
-    (answer c.law_greatest_is_computed.ensures c.args.start.now c.args.kernels.now c.len-len.ensures.in_range c.requires.kernels c.args.first.now c.run_round.new.first same c.requires.floor)
+    (answer c.law_greatest_is_computed.ensures c.args.work.now.start.now c.args.work.now.kernels.now c.len-len.ensures.in_range c.requires.kernels c.args.first.now c.run_round.new.first same c.requires.floor)
     c.law_floor-in-rounds.ensures.floor (c.if-is_seen_crossed.ensures.crossed.0 refl)
 
 pub returns-then-not-branch-clause-same : goal.returns-then-not-branch-clause-same
@@ -98,9 +98,9 @@ pub returns-then-is_spent-clause-ended : goal.returns-then-is_spent-clause-ended
 returns-then-is_spent-clause-ended g c =
     let same : IsSameSeat c.args.first.now c.run_round.new.first = same_through c.args.first.now c.rounds.first c.run_round.new.first c.rounds.invariant.same c.run_round.ensures.same in
     let all = c.is_spent.ensures.0 c.if-is_spent.true in
-    spent c.args.kernels.now c.args.start.now c.requires.kernels c.requires.proper c.args.round_limit (seen_of c.rounds.first) c.rounds.rounds c.rounds.invariant.goes c.law_inside_order.ensures c.law_rounds_lead.ensures
+    spent c.args.work.now.kernels.now c.args.work.now.start.now c.requires.kernels c.requires.proper c.args.work.now.round_limit (seen_of c.rounds.first) c.rounds.rounds c.rounds.invariant.goes c.law_inside_order.ensures c.law_rounds_lead.ensures
     (floor_of c.run_round.new.first) (seen_of c.run_round.new.first) c.in_ok-run_round.field-0
-    (answer c.law_greatest_is_computed.ensures c.args.start.now c.args.kernels.now c.len-len.ensures.in_range c.requires.kernels c.args.first.now c.run_round.new.first same c.requires.floor)
+    (answer c.law_greatest_is_computed.ensures c.args.work.now.start.now c.args.work.now.kernels.now c.len-len.ensures.in_range c.requires.kernels c.args.first.now c.run_round.new.first same c.requires.floor)
     c.law_floor-in-rounds.ensures.floor c.in_ok-run_round.ensures.round c.if-not-branch.false (c.if-is_seen_crossed.ensures.proper.0 refl) all.0 all.1
 
 pub returns-then-is_spent-clause-same : goal.returns-then-is_spent-clause-same

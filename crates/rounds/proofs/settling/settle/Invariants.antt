@@ -8,8 +8,8 @@ use Rattle.rounds.proofs.settling.settle.Given as goal
 abbrev pub invariant-rounds : goal.invariant-rounds
 invariant-rounds g l = record {
   same : IsSameSeat l.initial.first l.first;
-  snapshots : AreLanes (length l.start) l.lanes;
-  goes : Goes l.kernels l.round_limit l.start l.rounds (seen_of l.first);
+  snapshots : AreLanes (length l.work.start.now) l.lanes;
+  goes : Goes l.work.kernels.now l.work.round_limit l.work.start.now l.rounds (seen_of l.first);
 }
 
 abbrev pub decreases-rounds : goal.decreases-rounds

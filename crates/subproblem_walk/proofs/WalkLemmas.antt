@@ -1,5 +1,5 @@
 -- What a walk knows.
-use Rattle.std.proofs.Common.{◌≡◌, ℕ, suc, ◌^◌, Option, Bool, List, [], ◌∷◌, ◌++◌, sym, ap, subst, ◌∙◌, ◌⊎◌, inl, inr}
+use Rattle.std.proofs.Common.{◌≡◌, ℕ, suc, ◌<◌, ◌≤◌, ◌^◌, Option, Bool, true, false, List, [], ◌∷◌, ◌++◌, sym, ap, subst, ◌∙◌, ◌⊎◌, inl, inr}
 use Rattle.std.proofs.lemmas.List.{same_from_push}
 use Rattle.interval.specs.Boxes.{Bounds}
 use Rattle.guarded_tell.specs.declared.kernel.Kernel.{Kernel}
@@ -11,7 +11,7 @@ use Rattle.subproblems.specs.Cuts.{IsCutInto}
 use Rattle.subproblems.specs.Paths.{IsBelow, LeadsTo}
 use Rattle.subproblem_walk.specs.declared.cutter.Node.{Node}
 use Rattle.subproblem_walk.specs.Nodes.{cut_of, IsMadeAt, IsNodeOf}
-use Rattle.subproblem_walk.specs.Walks.{GoesOn, IsWayTo, side_of, AreLevelsBelow, nothing, level, IsTop}
+use Rattle.subproblem_walk.specs.Walks.{GoesOn, IsTurn, IsWayTo, side_of, AreLevelsBelow, nothing, level, IsTop}
 
 -- what a number leads to, by what the box is cut into
 pub leads_by : (model : FznModel) (kernels : List Kernel) (depth above : ℕ) (b : Bounds) (number : ℕ) (found : Option Bounds) → depth ≡ suc above →
@@ -73,3 +73,27 @@ module _ (model : FznModel) (kernels : List Kernel) where
         let rights : right ≡ r = cc in
         subst (λ (x : Bounds). AreLevelsBelow model kernels (side_of top.goes_right x r) lower) lefts
         (subst (λ (x : Bounds). AreLevelsBelow model kernels (side_of top.goes_right left x) lower) rights below))
+
+-- what holds of both parts holds of the one on the side of a turn
+pub on_side : (P : Bounds → Type 0) (turn : Bool) (left right : Bounds) → P left → P right → P (side_of turn left right)
+on_side P false left right l r = l
+on_side P true left right l r = r
+
+-- the way on from the part on the side of the first turn
+pub below_turn : (half number : ℕ) (turn : Bool) (rest : ℕ) (left right : Bounds) (Below : Bounds → ℕ → Option Bounds → Type 0) (found : Option Bounds) →
+    IsTurn half number turn rest → Below (side_of turn left right) rest found → IsBelow (Parted left right) half Below number found
+below_turn half number turn rest left right Below found h k = (
+  (λ low. let t = h.lower low in
+      subst (λ (n : ℕ). Below left n found) t.1 (subst (λ (x : Bool). Below (side_of x left right) rest found) t.0 k)),
+  λ high. let t = h.upper high in
+      subst (λ (n : ℕ). Below right n found) t.1 (subst (λ (x : Bool). Below (side_of x left right) rest found) t.0 k),
+)
+
+pub goes_on_turn : (half number : ℕ) (turn : Bool) (rest : ℕ) (left right : Bounds) (Way : Bounds → ℕ → List Level → Type 0) (lower : List Level) →
+    IsTurn half number turn rest → Way (side_of turn left right) rest lower → GoesOn (Parted left right) turn half Way number lower
+goes_on_turn half number turn rest left right Way lower h k = (
+  (λ low. let t = h.lower low in
+      (t.0, subst (λ (n : ℕ). Way left n lower) t.1 (subst (λ (x : Bool). Way (side_of x left right) rest lower) t.0 k))),
+  λ high. let t = h.upper high in
+      (t.0, subst (λ (n : ℕ). Way right n lower) t.1 (subst (λ (x : Bool). Way (side_of x left right) rest lower) t.0 k)),
+)

@@ -15,6 +15,12 @@ abbrev pub side_of : Bool → Bounds → Bounds → Bounds
 side_of false left right = left
 side_of true left right = right
 
+-- the first turn of the way to a number, and the number to which it goes on: where half is how many numbers a part has, the
+-- lower half turns to the left and the upper half to the right
+pub record IsTurn (half number : ℕ) (turn : Bool) (rest : ℕ) : Type 0 where
+  pub lower : number < half → (turn ≡ false) × (rest ≡ number)
+  pub upper : half ≤ number → (turn ≡ true) × (rest ≡ number - half)
+
 -- the levels of the search tree on a way down from a box, the lowest first: nothing, or what the box is cut into and, where
 -- it is parted, the levels on the way down from one side
 pub data AreLevelsBelow : FznModel → List Kernel → Bounds → List Level → Type 0 where

@@ -40,6 +40,17 @@ pub enum Node {
     },
 }
 
+/// The search tree whose boxes are cut.
+#[derive(Clone, Copy)]
+pub(crate) struct Tree<'a> {
+    /// The model by whose search closed boxes are parted.
+    pub(crate) model: &'a FznModel,
+    /// The kernels that close a box.
+    pub(crate) kernels: &'a [Kernel],
+    /// The masks of their variables.
+    pub(crate) masks: &'a Masks,
+}
+
 /// What propagation works with: the variables that moved.
 #[derive(Drop)]
 pub struct Bench {
@@ -118,18 +129,16 @@ fn keep_or_part(alloc: Global, model: &FznModel, closed: &BoxOf) -> Result<Node,
 /// Cuts a box that comes of a closed one by other bounds for the pair `changed`; none: nothing is known of it.
 pub(crate) fn cut_changed(
     alloc: Global,
-    model: &FznModel,
-    kernels: &[Kernel],
-    masks: &Masks,
+    tree: &Tree<'_>,
     b: BoxOf,
     changed: Option<u32>,
     bench: &mut Bench,
 ) -> Result<Node, NoMemory>
-    requires cut { CanBeCut model.now kernels.now b }
-    requires masks { AreMasksOf kernels.now (length b) masks.now }
-    requires changed { IsMadeBy changed kernels.now b }
+    requires cut { CanBeCut tree.now.model.now tree.now.kernels.now b }
+    requires masks { AreMasksOf tree.now.kernels.now (length b) tree.now.masks.now }
+    requires changed { IsMadeBy changed tree.now.kernels.now b }
     requires bench { IsBenchFor bench.old (length b) }
-    ensures node { IfOk result (IsNodeOf model.now kernels.now b) }
+    ensures node { IfOk result (IsNodeOf tree.now.model.now tree.now.kernels.now b) }
     ensures bench { IsBenchFor bench.new (length b) }
 {
     law_inside_order();
@@ -138,9 +147,9 @@ pub(crate) fn cut_changed(
     }
     note(&mut bench.sets, changed);
     let mut settled = TrailedBox::new(alloc, b)?;
-    match settle_proper(&mut settled, kernels, masks, &mut bench.sets, 0)? {
+    match settle_proper(&mut settled, tree.kernels, tree.masks, &mut bench.sets, 0)? {
         Limited::Fixed { .. } => {
-            let node = keep_or_part(alloc, model, settled.current())?;
+            let node = keep_or_part(alloc, tree.model, settled.current())?;
             Ok(node)
         }
         Limited::Failed { .. } => Ok(Node::Failed),

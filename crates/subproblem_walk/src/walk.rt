@@ -1,6 +1,6 @@
 //! Subproblems of one number after another: what the way to the last one shares with the way to the next isn't cut again.
 
-ghost use Rattle.std.specs.Prelude.{◌≡◌, ◌≢◌, ◌⊎◌, ◌<◌, ◌≤◌, ◌^◌, List, [], ◌∷◌, ◌++◌, length, IfOk, IfSome, OnOk};
+ghost use Rattle.std.specs.Prelude.{◌≡◌, ◌≢◌, ◌⊎◌, ◌<◌, ◌≤◌, ◌-◌, ◌^◌, List, [], ◌∷◌, ◌++◌, length, IfOk, IfSome, OnOk};
 ghost use Rattle.interval.specs.Boxes.{Bounds, IsInside};
 ghost use Rattle.guarded_tell.specs.declared.kernel.Kernel.{Kernel};
 ghost use Rattle.constraint_model.specs.declared.model.FznModel.{FznModel};
@@ -10,9 +10,9 @@ ghost use Rattle.moved_fixpoint.specs.Moved.{AreMasksOf};
 ghost use Rattle.subproblems.specs.Cuts.{CanBeCut};
 ghost use Rattle.subproblems.specs.Paths.{LeadsTo};
 ghost use Rattle.subproblem_walk.specs.Nodes.{IsMadeBy, IsBenchFor};
-ghost use Rattle.subproblem_walk.specs.Walks.{AreLevelsBelow, IsTop, IsWalkFrom, IsWayTo};
+ghost use Rattle.subproblem_walk.specs.Walks.{side_of, IsTurn, AreLevelsBelow, IsTop, IsWalkFrom, IsWayTo};
 
-use crate::cutter::{Bench, Node, cut_changed};
+use crate::cutter::{Bench, Node, Tree, cut_changed};
 use constraint_model::FznModel;
 use decompose::Program;
 use guarded_tell::Kernel;
@@ -35,30 +35,45 @@ pub struct Walk {
     levels: Vec<Level>,
 }
 
+/// A box on the way.
+#[derive(Clone, Copy)]
+struct Spot<'a> {
+    /// The box.
+    box_of: &'a BoxOf,
+    /// The pair whose bounds were put in a closed box, which made it; none: nothing is known of it.
+    changed: Option<u32>,
+}
+
+/// A number of a subproblem, to a depth.
+#[derive(Clone, Copy)]
+struct Address {
+    /// How many turns lead to it.
+    depth: u32,
+    /// The turns, the highest bit first.
+    number: u32,
+}
+
 /// The level of a box, as it is known or as the box is cut now. The levels below it are left.
 fn top_level(
     alloc: Global,
-    model: &FznModel,
-    kernels: &[Kernel],
-    masks: &Masks,
-    b: &BoxOf,
-    changed: Option<u32>,
+    tree: &Tree<'_>,
+    spot: &Spot<'_>,
     bench: &mut Bench,
     levels: &mut Vec<Level>,
 ) -> Result<Level, NoMemory>
-    requires cut { CanBeCut model.now kernels.now b.now }
-    requires masks { AreMasksOf kernels.now (length b.now) masks.now }
-    requires changed { IsMadeBy changed kernels.now b.now }
-    requires bench { IsBenchFor bench.old (length b.now) }
-    requires levels { AreLevelsBelow model.now kernels.now b.now levels.old.items }
-    ensures top { IfOk result (λ top. IsTop model.now kernels.now b.now top levels.new.items) }
-    ensures bench { IsBenchFor bench.new (length b.now) }
+    requires cut { CanBeCut tree.now.model.now tree.now.kernels.now spot.now.box_of.now }
+    requires masks { AreMasksOf tree.now.kernels.now (length spot.now.box_of.now) tree.now.masks.now }
+    requires changed { IsMadeBy spot.now.changed tree.now.kernels.now spot.now.box_of.now }
+    requires bench { IsBenchFor bench.old (length spot.now.box_of.now) }
+    requires levels { AreLevelsBelow tree.now.model.now tree.now.kernels.now spot.now.box_of.now levels.old.items }
+    ensures top { IfOk result (λ top. IsTop tree.now.model.now tree.now.kernels.now spot.now.box_of.now top levels.new.items) }
+    ensures bench { IsBenchFor bench.new (length spot.now.box_of.now) }
 {
     match levels.pop() {
         Some(level) => Ok(level),
         None => {
-            let whole = b.copy(alloc)?;
-            let node = cut_changed(alloc, model, kernels, masks, whole, changed, bench)?;
+            let whole = spot.box_of.copy(alloc)?;
+            let node = cut_changed(alloc, tree, whole, spot.changed, bench)?;
             Ok(Level {
                 node,
                 goes_right: false,
@@ -77,10 +92,10 @@ fn take_turn(levels: &mut Vec<Level>, goes_right: bool, turn: bool)
 }
 
 /// Puts a level above the others.
-fn put(levels: &mut Vec<Level>, level: Level) -> Result<(), AllocError>
-    ensures { OnOk result (levels.new.items ≡ levels.old.items ++ level ∷ []) }
+fn put(levels: &mut Vec<Level>, node: Node, goes_right: bool) -> Result<(), AllocError>
+    ensures { OnOk result (levels.new.items ≡ levels.old.items ++ record { node = node; goes_right = goes_right } ∷ []) }
 {
-    levels.push(level)?;
+    levels.push(Level { node, goes_right })?;
     Ok(())
 }
 
@@ -104,104 +119,79 @@ fn numbers_to(depth: u32) -> u32
     1 << depth
 }
 
-/// What the number leads to from a box.
+/// Whether the way turns to the right, and the number to which it goes on in the part on that side.
+fn first_turn(address: Address) -> (bool, Address)
+    requires some { 0 < address.depth }
+    requires depth { address.depth ≤ 16 }
+    ensures depth { result.1.depth ≡ address.depth - 1 }
+    ensures turn { IsTurn (2 ^ (address.depth - 1)) address.number result.0 result.1.number }
+{
+    let depth = address.depth - 1;
+    let half = numbers_to(depth);
+    if address.number < half {
+        return (
+            false,
+            Address {
+                depth,
+                number: address.number,
+            },
+        );
+    }
+    let number = address.number - half;
+    (true, Address { depth, number })
+}
+
+/// The part on the side of a turn.
+fn part_on<'a>(goes_right: bool, left: &'a BoxOf, right: &'a BoxOf) -> &'a BoxOf
+    ensures { result.now ≡ side_of goes_right left.now right.now }
+{
+    if goes_right { right } else { left }
+}
+
+/// What the address leads to from a box.
 fn lead(
     alloc: Global,
-    model: &FznModel,
-    kernels: &[Kernel],
-    masks: &Masks,
-    b: &BoxOf,
-    changed: Option<u32>,
-    depth: u32,
-    number: u32,
+    tree: &Tree<'_>,
+    spot: &Spot<'_>,
+    address: Address,
     bench: &mut Bench,
     levels: &mut Vec<Level>,
 ) -> Result<Option<BoxOf>, NoMemory>
-    requires cut { CanBeCut model.now kernels.now b.now }
-    requires masks { AreMasksOf kernels.now (length b.now) masks.now }
-    requires changed { IsMadeBy changed kernels.now b.now }
-    requires depth { depth ≤ 16 }
-    requires bench { IsBenchFor bench.old (length b.now) }
-    requires levels { AreLevelsBelow model.now kernels.now b.now levels.old.items }
-    ensures path { IfOk result (LeadsTo model.now kernels.now depth b.now number) }
-    ensures levels { OnOk result (AreLevelsBelow model.now kernels.now b.now levels.new.items) }
-    ensures kept { OnOk result (IsWayTo model.now kernels.now depth b.now number levels.new.items) }
+    requires cut { CanBeCut tree.now.model.now tree.now.kernels.now spot.now.box_of.now }
+    requires masks { AreMasksOf tree.now.kernels.now (length spot.now.box_of.now) tree.now.masks.now }
+    requires changed { IsMadeBy spot.now.changed tree.now.kernels.now spot.now.box_of.now }
+    requires depth { address.depth ≤ 16 }
+    requires bench { IsBenchFor bench.old (length spot.now.box_of.now) }
+    requires levels { AreLevelsBelow tree.now.model.now tree.now.kernels.now spot.now.box_of.now levels.old.items }
+    ensures path { IfOk result (LeadsTo tree.now.model.now tree.now.kernels.now address.depth spot.now.box_of.now address.number) }
+    ensures levels { OnOk result (AreLevelsBelow tree.now.model.now tree.now.kernels.now spot.now.box_of.now levels.new.items) }
+    ensures kept { OnOk result (IsWayTo tree.now.model.now tree.now.kernels.now address.depth spot.now.box_of.now address.number levels.new.items) }
 {
     law_cuts();
-    if depth == 0 {
-        let whole = b.copy(alloc)?;
+    if address.depth == 0 {
+        let whole = spot.box_of.copy(alloc)?;
         return Ok(Some(whole));
     }
-    let Level { node, goes_right } = top_level(
-        alloc, model, kernels, masks, b, changed, bench, levels,
-    )?;
+    let Level { node, goes_right } = top_level(alloc, tree, spot, bench, levels)?;
     match node {
         Node::Failed => {
-            put(
-                levels,
-                Level {
-                    node: Node::Failed,
-                    goes_right,
-                },
-            )?;
+            put(levels, Node::Failed, goes_right)?;
             Ok(None)
         }
         Node::Fixed(closed) => {
-            let found = solution(alloc, &closed, number)?;
-            put(
-                levels,
-                Level {
-                    node: Node::Fixed(closed),
-                    goes_right,
-                },
-            )?;
+            let found = solution(alloc, &closed, address.number)?;
+            put(levels, Node::Fixed(closed), goes_right)?;
             Ok(found)
         }
         Node::Parted { pair, left, right } => {
-            let half = numbers_to(depth - 1);
-            if number < half {
-                take_turn(levels, goes_right, false);
-                let found = lead(
-                    alloc,
-                    model,
-                    kernels,
-                    masks,
-                    &left,
-                    Some(pair),
-                    depth - 1,
-                    number,
-                    bench,
-                    levels,
-                )?;
-                put(
-                    levels,
-                    Level {
-                        node: Node::Parted { pair, left, right },
-                        goes_right: false,
-                    },
-                )?;
-                return Ok(found);
-            }
-            take_turn(levels, goes_right, true);
-            let found = lead(
-                alloc,
-                model,
-                kernels,
-                masks,
-                &right,
-                Some(pair),
-                depth - 1,
-                number - half,
-                bench,
-                levels,
-            )?;
-            put(
-                levels,
-                Level {
-                    node: Node::Parted { pair, left, right },
-                    goes_right: true,
-                },
-            )?;
+            let (turn, rest) = first_turn(address);
+            take_turn(levels, goes_right, turn);
+            let part = Spot {
+                box_of: part_on(turn, &left, &right),
+                changed: Some(pair),
+            };
+            let found = lead(alloc, tree, &part, rest, bench, levels)?;
+            put(levels, Node::Parted { pair, left, right }, turn)?;
             Ok(found)
         }
     }
@@ -246,18 +236,17 @@ impl Walk {
         let _length = start.len();
         let kernels = program.kernels.as_slice();
         let mut bench = Bench::new(alloc, start, kernels.len())?;
-        match lead(
-            alloc,
+        let tree = Tree {
             model,
             kernels,
             masks,
-            start,
-            None,
-            depth,
-            number,
-            &mut bench,
-            &mut self.levels,
-        ) {
+        };
+        let spot = Spot {
+            box_of: start,
+            changed: None,
+        };
+        let address = Address { depth, number };
+        match lead(alloc, &tree, &spot, address, &mut bench, &mut self.levels) {
             Ok(found) => Ok(found),
             Err(NoMemory) => {
                 self.levels.clear();

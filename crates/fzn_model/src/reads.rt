@@ -14,7 +14,7 @@ use crate::exprs::spelling;
 use crate::fault_kinds::FaultKind;
 use crate::literals::has_wide_literal;
 use crate::names::{declares_again, uses_unknown};
-use crate::scalars::read_scalar;
+use crate::scalars::{ScalarDeclaration, read_scalar};
 use crate::scope::Scope;
 use crate::stop::Stop;
 use crate::types::{has_unknown_constraint, is_unsupported};
@@ -55,17 +55,13 @@ fn read_effect(
             anns,
             value,
         } => {
-            let name = spelling(text, name);
-            read_scalar(
-                alloc,
-                text,
-                scope,
-                count,
+            let declaration = ScalarDeclaration {
+                place: count,
                 shape,
-                name,
-                anns.as_slice(),
-                value,
-            )
+                name: spelling(text, name),
+                anns: anns.as_slice(),
+            };
+            read_scalar(alloc, text, scope, &declaration, value)
         }
         What::Array {
             low,

@@ -19,6 +19,19 @@ use fzn_parser::tree::{Ann, Expr, Shape};
 use list_of::ListOf;
 use std::alloc::Global;
 
+/// The declaration of a scalar, without its value.
+#[derive(Clone, Copy)]
+pub(crate) struct ScalarDeclaration<'a> {
+    /// The place of its variable, where it declares one.
+    pub(crate) place: u32,
+    /// The type as it is written.
+    pub(crate) shape: &'a Shape,
+    /// The name that it declares.
+    pub(crate) name: &'a [u8],
+    /// Its annotations.
+    pub(crate) anns: &'a [Ann],
+}
+
 /// The bytes of a name.
 pub(crate) fn copy_name(alloc: Global, name: &[u8]) -> Result<ListOf<u8>, Stop>
     ensures { IfOk result (λ n. n ≡ name.now) }
@@ -71,20 +84,18 @@ fn read_value(
 fn scalar_output(
     alloc: Global,
     text: &[u8],
-    anns: &[Ann],
-    is_bool: bool,
-    name: &[u8],
+    declaration: &ScalarDeclaration<'_>,
     value: Term,
 ) -> Result<Option<Output>, Stop>
-    ensures { IfOk result (λ o. o ≡ effects.scalar_output text.now (map ann_tree anns.now) is_bool name.now value) }
+    ensures { IfOk result (λ o. o ≡ effects.scalar_output text.now (map ann_tree declaration.now.anns.now) (effects.is_bool_shape declaration.now.shape.now) declaration.now.name.now value) }
 {
-    if !has_output_var(text, anns) {
+    if !has_output_var(text, declaration.anns) {
         return Ok(None);
     }
-    let name = copy_name(alloc, name)?;
+    let name = copy_name(alloc, declaration.name)?;
     Ok(Some(Output::Scalar {
         name,
-        is_bool,
+        is_bool: is_bool_shape(declaration.shape),
         value,
     }))
 }
@@ -136,22 +147,21 @@ fn variable(alloc: Global, text: &[u8], shape: &Shape, name: &[u8]) -> Result<Va
 fn variable_effect(
     alloc: Global,
     text: &[u8],
-    place: u32,
-    shape: &Shape,
-    name: &[u8],
-    anns: &[Ann],
+    declaration: &ScalarDeclaration<'_>,
     value: &Option<Meaning>,
 ) -> Result<Effect, Stop>
-    ensures { IfOk result (λ e. e ≡ effects.variable_effect text.now place shape.now name.now (map ann_tree anns.now) value.now) }
+    ensures { IfOk result (λ e. e ≡ effects.variable_effect text.now declaration.now.place declaration.now.shape.now declaration.now.name.now (map ann_tree declaration.now.anns.now) value.now) }
 {
-    let x = Term::Var(place);
-    let is_bool = is_bool_shape(shape);
-    let var = variable(alloc, text, shape, name)?;
-    let constraints = variable_constraints(alloc, text, shape, x, value)?;
-    let output = scalar_output(alloc, text, anns, is_bool, name, x)?;
-    let scalar = Scalar { is_bool, term: x };
+    let x = Term::Var(declaration.place);
+    let var = variable(alloc, text, declaration.shape, declaration.name)?;
+    let constraints = variable_constraints(alloc, text, declaration.shape, x, value)?;
+    let output = scalar_output(alloc, text, declaration, x)?;
+    let scalar = Scalar {
+        is_bool: is_bool_shape(declaration.shape),
+        term: x,
+    };
     Ok(Effect {
-        declared: Some((copy_name(alloc, name)?, Meaning::One(scalar))),
+        declared: Some((copy_name(alloc, declaration.name)?, Meaning::One(scalar))),
         var: Some(var),
         constraints,
         output,
@@ -162,15 +172,13 @@ fn variable_effect(
 fn parameter_output(
     alloc: Global,
     text: &[u8],
-    shape: &Shape,
-    name: &[u8],
-    anns: &[Ann],
+    declaration: &ScalarDeclaration<'_>,
     value: &Option<Meaning>,
 ) -> Result<Option<Output>, Stop>
-    ensures { IfOk result (λ o. o ≡ option_and_then (effects.scalar_output text.now (map ann_tree anns.now) (effects.is_bool_shape shape.now) name.now) (effects.term_in value.now)) }
+    ensures { IfOk result (λ o. o ≡ option_and_then (effects.scalar_output text.now (map ann_tree declaration.now.anns.now) (effects.is_bool_shape declaration.now.shape.now) declaration.now.name.now) (effects.term_in value.now)) }
 {
     match term_in(value) {
-        Some(term) => scalar_output(alloc, text, anns, is_bool_shape(shape), name, term),
+        Some(term) => scalar_output(alloc, text, declaration, term),
         None => Ok(None),
     }
 }
@@ -193,15 +201,13 @@ pub(crate) fn named(
 fn parameter_effect(
     alloc: Global,
     text: &[u8],
-    shape: &Shape,
-    name: &[u8],
-    anns: &[Ann],
+    declaration: &ScalarDeclaration<'_>,
     value: Option<Meaning>,
 ) -> Result<Effect, Stop>
-    ensures { IfOk result (λ e. e ≡ effects.parameter_effect text.now shape.now name.now (map ann_tree anns.now) value) }
+    ensures { IfOk result (λ e. e ≡ effects.parameter_effect text.now declaration.now.shape.now declaration.now.name.now (map ann_tree declaration.now.anns.now) value) }
 {
-    let output = parameter_output(alloc, text, shape, name, anns, &value)?;
-    let declared = named(alloc, name, value)?;
+    let output = parameter_output(alloc, text, declaration, &value)?;
+    let declared = named(alloc, declaration.name, value)?;
     Ok(Effect {
         declared,
         var: None,
@@ -214,18 +220,15 @@ fn parameter_effect(
 fn scalar_effect(
     alloc: Global,
     text: &[u8],
-    place: u32,
-    shape: &Shape,
-    name: &[u8],
-    anns: &[Ann],
+    declaration: &ScalarDeclaration<'_>,
     value: Option<Meaning>,
 ) -> Result<Effect, Stop>
-    ensures { IfOk result (λ e. e ≡ effects.scalar_effect text.now place shape.now name.now (map ann_tree anns.now) value) }
+    ensures { IfOk result (λ e. e ≡ effects.scalar_effect text.now declaration.now.place declaration.now.shape.now declaration.now.name.now (map ann_tree declaration.now.anns.now) value) }
 {
-    if declares_variable(shape) {
-        variable_effect(alloc, text, place, shape, name, anns, &value)
+    if declares_variable(declaration.shape) {
+        variable_effect(alloc, text, declaration, &value)
     } else {
-        parameter_effect(alloc, text, shape, name, anns, value)
+        parameter_effect(alloc, text, declaration, value)
     }
 }
 
@@ -234,18 +237,15 @@ pub(crate) fn read_scalar(
     alloc: Global,
     text: &[u8],
     scope: &Scope,
-    place: u32,
-    shape: &Shape,
-    name: &[u8],
-    anns: &[Ann],
+    declaration: &ScalarDeclaration<'_>,
     value: &Option<Expr>,
 ) -> Result<Effect, Stop>
-    ensures effect { IfOk result (λ e. e ≡ effects.scalar_effect text.now place shape.now name.now (map ann_tree anns.now) (effects.value_of text.now scope.now value.now)) }
-    ensures fits { OnOk result (faults.is_wrong_value text.now scope.now shape.now value.now ≡ false) }
-    ensures wrong { IfErr result (faults.OnlyFault Kind.WrongArgument (faults.is_wrong_value text.now scope.now shape.now value.now ≡ true)) }
+    ensures effect { IfOk result (λ e. e ≡ effects.scalar_effect text.now declaration.now.place declaration.now.shape.now declaration.now.name.now (map ann_tree declaration.now.anns.now) (effects.value_of text.now scope.now value.now)) }
+    ensures fits { OnOk result (faults.is_wrong_value text.now scope.now declaration.now.shape.now value.now ≡ false) }
+    ensures wrong { IfErr result (faults.OnlyFault Kind.WrongArgument (faults.is_wrong_value text.now scope.now declaration.now.shape.now value.now ≡ true)) }
 {
-    let value = read_value(alloc, text, scope, shape, value)?;
-    match scalar_effect(alloc, text, place, shape, name, anns, value) {
+    let value = read_value(alloc, text, scope, declaration.shape, value)?;
+    match scalar_effect(alloc, text, declaration, value) {
         Ok(effect) => Ok(effect),
         Err(_) => Err(Stop::NoMemory),
     }

@@ -23,6 +23,21 @@ use fzn_parser::tree::{Ann, Expr, Shape};
 use shared_list::SharedList;
 use std::alloc::Global;
 
+/// The declaration of an array, without its value.
+#[derive(Clone, Copy)]
+pub(crate) struct ArrayDeclaration<'a> {
+    /// The first index as it is written.
+    pub(crate) low: Token,
+    /// The last index as it is written.
+    pub(crate) high: Token,
+    /// The type of its entries as it is written.
+    pub(crate) shape: &'a Shape,
+    /// The name that it declares.
+    pub(crate) name: &'a [u8],
+    /// Its annotations.
+    pub(crate) anns: &'a [Ann],
+}
+
 fn is_number(text: &[u8], literal: Token, number: usize) -> bool
     ensures { result ≡ faults.is_number text.now literal number }
 {
@@ -63,17 +78,17 @@ fn read_row(
     alloc: Global,
     text: &[u8],
     scope: &Scope,
-    low: Token,
-    high: Token,
-    shape: &Shape,
+    declaration: &ArrayDeclaration<'_>,
     value: &Expr,
 ) -> Result<Option<Meaning>, Stop>
     ensures value { IfOk result (λ m. m ≡ scopes.expr_meaning text.now scope.now value.now) }
-    ensures fits { OnOk result (faults.is_wrong_row text.now scope.now low high shape.now value.now ≡ false) }
-    ensures wrong { IfErr result (faults.OnlyFault Kind.WrongArgument (faults.is_wrong_row text.now scope.now low high shape.now value.now ≡ true)) }
+    ensures fits { OnOk result (faults.is_wrong_row text.now scope.now declaration.now.low declaration.now.high declaration.now.shape.now value.now ≡ false) }
+    ensures wrong { IfErr result (faults.OnlyFault Kind.WrongArgument (faults.is_wrong_row text.now scope.now declaration.now.low declaration.now.high declaration.now.shape.now value.now ≡ true)) }
 {
     let meaning = expr_meaning(alloc, text, scope, value)?;
-    if has_index_set(text, low, high, value) && fits_type(shape, &meaning) {
+    if has_index_set(text, declaration.low, declaration.high, value)
+        && fits_type(declaration.shape, &meaning)
+    {
         Ok(meaning)
     } else {
         Err(Stop::Fault(FaultKind::WrongArgument))
@@ -92,20 +107,18 @@ fn terms_in(alloc: Global, value: &Option<Meaning>) -> Result<SharedList<Term>, 
 fn array_output(
     alloc: Global,
     text: &[u8],
-    anns: &[Ann],
-    is_bool: bool,
-    name: &[u8],
+    declaration: &ArrayDeclaration<'_>,
     entries: SharedList<Term>,
 ) -> Result<Option<Output>, Stop>
-    ensures { IfOk result (λ o. o ≡ effects.array_output text.now (map ann_tree anns.now) is_bool name.now entries) }
+    ensures { IfOk result (λ o. o ≡ effects.array_output text.now (map ann_tree declaration.now.anns.now) (effects.is_bool_shape declaration.now.shape.now) declaration.now.name.now entries) }
 {
-    let Some(ranges) = output_ranges(alloc, text, anns)? else {
+    let Some(ranges) = output_ranges(alloc, text, declaration.anns)? else {
         return Ok(None);
     };
-    let name = copy_name(alloc, name)?;
+    let name = copy_name(alloc, declaration.name)?;
     Ok(Some(Output::Array {
         name,
-        is_bool,
+        is_bool: is_bool_shape(declaration.shape),
         ranges,
         entries,
     }))
@@ -114,17 +127,15 @@ fn array_output(
 fn array_effect(
     alloc: Global,
     text: &[u8],
-    shape: &Shape,
-    name: &[u8],
-    anns: &[Ann],
+    declaration: &ArrayDeclaration<'_>,
     value: Option<Meaning>,
 ) -> Result<Effect, Stop>
-    ensures { IfOk result (λ e. e ≡ effects.array_effect text.now shape.now name.now (map ann_tree anns.now) value) }
+    ensures { IfOk result (λ e. e ≡ effects.array_effect text.now declaration.now.shape.now declaration.now.name.now (map ann_tree declaration.now.anns.now) value) }
 {
     let entries = terms_in(alloc, &value)?;
-    let constraints = element_constraints(alloc, text, shape, entries.as_slice())?;
-    let output = array_output(alloc, text, anns, is_bool_shape(shape), name, entries)?;
-    let declared = named(alloc, name, value)?;
+    let constraints = element_constraints(alloc, text, declaration.shape, entries.as_slice())?;
+    let output = array_output(alloc, text, declaration, entries)?;
+    let declared = named(alloc, declaration.name, value)?;
     Ok(Effect {
         declared,
         var: None,
@@ -139,18 +150,15 @@ pub(crate) fn read_array(
     alloc: Global,
     text: &[u8],
     scope: &Scope,
-    indices: (Token, Token),
-    shape: &Shape,
-    name: &[u8],
-    anns: &[Ann],
+    declaration: &ArrayDeclaration<'_>,
     value: &Expr,
 ) -> Result<Effect, Stop>
-    ensures effect { IfOk result (λ e. e ≡ effects.array_effect text.now shape.now name.now (map ann_tree anns.now) (scopes.expr_meaning text.now scope.now value.now)) }
-    ensures fits { OnOk result (faults.is_wrong_row text.now scope.now indices.0 indices.1 shape.now value.now ≡ false) }
-    ensures wrong { IfErr result (faults.OnlyFault Kind.WrongArgument (faults.is_wrong_row text.now scope.now indices.0 indices.1 shape.now value.now ≡ true)) }
+    ensures effect { IfOk result (λ e. e ≡ effects.array_effect text.now declaration.now.shape.now declaration.now.name.now (map ann_tree declaration.now.anns.now) (scopes.expr_meaning text.now scope.now value.now)) }
+    ensures fits { OnOk result (faults.is_wrong_row text.now scope.now declaration.now.low declaration.now.high declaration.now.shape.now value.now ≡ false) }
+    ensures wrong { IfErr result (faults.OnlyFault Kind.WrongArgument (faults.is_wrong_row text.now scope.now declaration.now.low declaration.now.high declaration.now.shape.now value.now ≡ true)) }
 {
-    let value = read_row(alloc, text, scope, indices.0, indices.1, shape, value)?;
-    match array_effect(alloc, text, shape, name, anns, value) {
+    let value = read_row(alloc, text, scope, declaration, value)?;
+    match array_effect(alloc, text, declaration, value) {
         Ok(effect) => Ok(effect),
         Err(_) => Err(Stop::NoMemory),
     }

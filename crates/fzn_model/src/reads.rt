@@ -7,7 +7,7 @@ ghost use Rattle.fzn_model.specs.Effects as effects;
 ghost use Rattle.fzn_model.specs.Faults as faults;
 ghost use Rattle.fzn_model.specs.Drafts.{IsNew};
 
-use crate::arrays::read_array;
+use crate::arrays::{ArrayDeclaration, read_array};
 use crate::constraints::{read_constraint, read_solve};
 use crate::effect::Effect;
 use crate::exprs::spelling;
@@ -71,18 +71,14 @@ fn read_effect(
             anns,
             value,
         } => {
-            let name = spelling(text, name);
-            let indices = (*low, *high);
-            read_array(
-                alloc,
-                text,
-                scope,
-                indices,
+            let declaration = ArrayDeclaration {
+                low: *low,
+                high: *high,
                 shape,
-                name,
-                anns.as_slice(),
-                value,
-            )
+                name: spelling(text, name),
+                anns: anns.as_slice(),
+            };
+            read_array(alloc, text, scope, &declaration, value)
         }
         What::Constraint { name, args, .. } => {
             read_constraint(alloc, text, scope, spelling(text, name), args.as_slice())

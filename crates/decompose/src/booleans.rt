@@ -10,6 +10,7 @@ use crate::places::Places;
 use constraint_model::{Operand, Term};
 use guarded_tell::{Kernel, Lit};
 use list_of::ListOf;
+use shared_list::SharedList;
 use std::alloc::{AllocError, Global};
 
 /// The literal that is true exactly where this one isn't.
@@ -27,7 +28,7 @@ fn clause_of_two(alloc: Global, first: Lit, second: Lit) -> Result<Kernel, Alloc
     ensures { IfOk result (λ k. k ≡ Kernel.Clause (first ∷ second ∷ [])) }
 {
     Ok(Kernel::Clause {
-        lits: ListOf::from_vec(Vec::from_slice(alloc, &[first, second])?),
+        lits: SharedList::from_vec(Vec::from_slice(alloc, &[first, second])?)?,
     })
 }
 
@@ -69,9 +70,8 @@ fn add_joined(
     let mut literals = Vec::with_capacity(alloc, booleans.len() + 1)?;
     literals.push(negated(lit))?;
     places.add_literals(positive, booleans, &mut literals)?;
-    kernels.push(Kernel::Clause {
-        lits: ListOf::from_vec(literals),
-    })?;
+    let lits = SharedList::from_vec(literals)?;
+    kernels.push(Kernel::Clause { lits })?;
     Ok(())
 }
 
@@ -143,9 +143,8 @@ fn add_clause(
 {
     let mut literals = Vec::with_capacity(alloc, positives.len() + negatives.len())?;
     add_clause_literals(places, positives, negatives, &mut literals)?;
-    kernels.push(Kernel::Clause {
-        lits: ListOf::from_vec(literals),
-    })?;
+    let lits = SharedList::from_vec(literals)?;
+    kernels.push(Kernel::Clause { lits })?;
     Ok(())
 }
 
@@ -194,9 +193,8 @@ fn add_clause_reified(
     let mut literals = Vec::with_capacity(alloc, positives.len() + negatives.len() + 1)?;
     literals.push(negated(lit))?;
     add_clause_literals(places, positives, negatives, &mut literals)?;
-    kernels.push(Kernel::Clause {
-        lits: ListOf::from_vec(literals),
-    })?;
+    let lits = SharedList::from_vec(literals)?;
+    kernels.push(Kernel::Clause { lits })?;
     Ok(())
 }
 

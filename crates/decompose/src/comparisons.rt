@@ -11,6 +11,7 @@ use crate::sums::{LinearComparison, Relation, add_sum};
 use constraint_model::Operand;
 use guarded_tell::{Kernel, Lit};
 use list_of::ListOf;
+use shared_list::SharedList;
 use std::alloc::{AllocError, Global};
 
 /// What is said of two terms x and y: how x + sign * y is to the limit.
@@ -59,7 +60,7 @@ impl Comparison {
     {
         Ok(LinearComparison {
             relation: self.relation,
-            coeffs: ListOf::from_vec(Vec::from_slice(alloc, &[1, self.sign])?),
+            coeffs: SharedList::from_vec(Vec::from_slice(alloc, &[1, self.sign])?)?,
             limit: self.limit,
         })
     }

@@ -10,7 +10,7 @@ ghost use Rattle.decompose.specs.Rows.{literal_at};
 
 use constraint_model::{Constants, Term};
 use guarded_tell::Lit;
-use list_of::ListOf;
+use shared_list::SharedList;
 use std::alloc::{AllocError, Global};
 use std::marker::Model;
 
@@ -106,13 +106,17 @@ impl Places {
     }
 
     /// The variables of terms.
-    pub(crate) fn variables(&self, alloc: Global, terms: &[Term]) -> Result<ListOf<u32>, AllocError>
+    pub(crate) fn variables(
+        &self,
+        alloc: Global,
+        terms: &[Term],
+    ) -> Result<SharedList<u32>, AllocError>
         requires { All (IsDeclared self.now.count) terms.now }
         ensures { IfOk result (λ variables. variables ≡ variables_of self.now terms.now) }
     {
         let mut variables = Vec::with_capacity(alloc, terms.len())?;
         self.add_variables(terms, &mut variables)?;
-        Ok(ListOf::from_vec(variables))
+        SharedList::from_vec(variables)
     }
 
     /// The literal that is true where the boolean is, or where it isn't.

@@ -10,6 +10,7 @@ use crate::places::{ALWAYS, Places};
 use constraint_model::{Operand, Term};
 use guarded_tell::{Kernel, Lit};
 use list_of::ListOf;
+use shared_list::SharedList;
 use std::alloc::{AllocError, Global};
 
 /// What is said of a sum and a limit.
@@ -27,7 +28,7 @@ pub(crate) struct LinearComparison {
     /// The relation of the sum to the limit.
     pub relation: Relation,
     /// The coefficients of the terms.
-    pub coeffs: ListOf<i64>,
+    pub coeffs: SharedList<i64>,
     /// The limit.
     pub limit: i64,
 }
@@ -89,12 +90,12 @@ fn add_numbers(terms: &[Term], numbers: &mut Vec<i64>) -> Result<(), AllocError>
 }
 
 /// The numbers of coefficients.
-fn numbers(alloc: Global, terms: &[Term]) -> Result<ListOf<i64>, AllocError>
+fn numbers(alloc: Global, terms: &[Term]) -> Result<SharedList<i64>, AllocError>
     ensures { IfOk result (λ numbers. numbers ≡ map number_of terms.now) }
 {
     let mut numbers = Vec::with_capacity(alloc, terms.len())?;
     add_numbers(terms, &mut numbers)?;
-    Ok(ListOf::from_vec(numbers))
+    SharedList::from_vec(numbers)
 }
 
 /// Adds the kernel of a sum that must be so to a limit, or not.
@@ -172,7 +173,7 @@ pub(crate) fn plus(
         [Operand::One(x), Operand::One(y), Operand::One(z)] => {
             let comparison = LinearComparison {
                 relation: Relation::Equal,
-                coeffs: ListOf::from_vec(Vec::from_slice(alloc, &[1, 1, -1])?),
+                coeffs: SharedList::from_vec(Vec::from_slice(alloc, &[1, 1, -1])?)?,
                 limit: 0,
             };
             add_sum(alloc, places, ALWAYS, comparison, &[*x, *y, *z], kernels)
@@ -182,13 +183,13 @@ pub(crate) fn plus(
 }
 
 /// The numbers of coefficients, and then -1.
-fn numbers_and_minus_one(alloc: Global, terms: &[Term]) -> Result<ListOf<i64>, AllocError>
+fn numbers_and_minus_one(alloc: Global, terms: &[Term]) -> Result<SharedList<i64>, AllocError>
     ensures { IfOk result (λ numbers. numbers ≡ map number_of terms.now ++ negsuc 0 ∷ []) }
 {
     let mut numbers = Vec::with_capacity(alloc, terms.len() + 1)?;
     add_numbers(terms, &mut numbers)?;
     numbers.push(-1)?;
-    Ok(ListOf::from_vec(numbers))
+    SharedList::from_vec(numbers)
 }
 
 /// The variables of terms, and then that of one more.
@@ -197,7 +198,7 @@ fn variables_and_one(
     places: &Places,
     terms: &[Term],
     last: Term,
-) -> Result<ListOf<u32>, AllocError>
+) -> Result<SharedList<u32>, AllocError>
     requires declared { All (IsDeclared places.now.count) terms.now }
     requires declared_last { IsDeclared places.now.count last }
     ensures { IfOk result (λ vars. vars ≡ variables_of places.now (terms.now ++ last ∷ [])) }
@@ -205,7 +206,7 @@ fn variables_and_one(
     let mut variables = Vec::with_capacity(alloc, terms.len() + 1)?;
     places.add_variables(terms, &mut variables)?;
     variables.push(places.variable(last))?;
-    Ok(ListOf::from_vec(variables))
+    SharedList::from_vec(variables)
 }
 
 /// Adds the kernel of a sum that equals a term: the sum less the term is 0.

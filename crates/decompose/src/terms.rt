@@ -194,7 +194,7 @@ pub(crate) fn member(
             kernels.push(Kernel::InSet {
                 lit: ALWAYS,
                 x: places.variable(*x),
-                ranges: ListOf::from_vec(Vec::from_slice(alloc, ranges.as_slice())?),
+                ranges: ranges.share(alloc)?,
             })?;
             Ok(())
         }
@@ -218,7 +218,7 @@ pub(crate) fn member_reified(
             kernels.push(Kernel::InSet {
                 lit: places.literal(true, *r),
                 x: places.variable(*x),
-                ranges: ListOf::from_vec(Vec::from_slice(alloc, ranges.as_slice())?),
+                ranges: ranges.share(alloc)?,
             })?;
             Ok(())
         }

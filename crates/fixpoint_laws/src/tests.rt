@@ -9,7 +9,7 @@ ghost use Rattle.guarded_tell.specs.Kernels.{IsKernel};
 use crate::{Settled, settle_alone};
 use guarded_tell::{Kernel, Lit};
 use interval::{BoxOf, NoMemory};
-use list_of::ListOf;
+use shared_list::SharedList;
 use std::alloc::{AllocError, Global};
 use std::test::Fail;
 
@@ -28,8 +28,8 @@ fn difference(alloc: Global, x: u32, y: u32, limit: i64) -> Result<Kernel, Alloc
 {
     Ok(Kernel::Le {
         lit: TRUE,
-        coeffs: ListOf::from_vec(vec![in alloc; 1, -1]?),
-        vars: ListOf::from_vec(vec![in alloc; x, y]?),
+        coeffs: SharedList::from_vec(vec![in alloc; 1, -1]?)?,
+        vars: SharedList::from_vec(vec![in alloc; x, y]?)?,
         limit,
     })
 }

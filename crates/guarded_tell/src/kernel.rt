@@ -4,7 +4,7 @@ ghost use Rattle.std.specs.Prelude.{◌≡◌, ◌<◌, length, slice_index};
 
 use crate::Lit;
 use crate::clause::{clause_var, clause_var_count};
-use list_of::ListOf;
+use shared_list::SharedList;
 
 /// A relation over a box's variables that is run as a propagator.
 #[derive(Drop)]
@@ -14,9 +14,9 @@ pub enum Kernel {
         /// The literal.
         lit: Lit,
         /// One coefficient for each variable of `vars`.
-        coeffs: ListOf<i64>,
+        coeffs: SharedList<i64>,
         /// The variables of the sum.
-        vars: ListOf<u32>,
+        vars: SharedList<u32>,
         /// The limit.
         limit: i64,
     },
@@ -25,9 +25,9 @@ pub enum Kernel {
         /// The literal.
         lit: Lit,
         /// One coefficient for each variable of `vars`.
-        coeffs: ListOf<i64>,
+        coeffs: SharedList<i64>,
         /// The variables of the sum.
-        vars: ListOf<u32>,
+        vars: SharedList<u32>,
         /// The limit.
         limit: i64,
     },
@@ -70,26 +70,26 @@ pub enum Kernel {
         /// The greatest.
         m: u32,
         /// The others.
-        xs: ListOf<u32>,
+        xs: SharedList<u32>,
     },
     /// A variable is the least of some others.
     Min {
         /// The least.
         m: u32,
         /// The others.
-        xs: ListOf<u32>,
+        xs: SharedList<u32>,
     },
     /// Some literal is true.
     Clause {
         /// The literals.
-        lits: ListOf<Lit>,
+        lits: SharedList<Lit>,
     },
     /// A variable is a place of a list, counted from 1, and the variable at that place equals another.
     Element {
         /// The variable that is the place.
         x: u32,
         /// The list.
-        entries: ListOf<u32>,
+        entries: SharedList<u32>,
         /// The variable that equals the one at the place.
         c: u32,
     },
@@ -100,7 +100,7 @@ pub enum Kernel {
         /// The variable.
         x: u32,
         /// The ranges of the set, in order, none of which touch or overlap, each by its first and its last number.
-        ranges: ListOf<(i64, i64)>,
+        ranges: SharedList<(i64, i64)>,
     },
 }
 

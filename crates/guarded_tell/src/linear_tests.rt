@@ -6,7 +6,7 @@ ghost use Rattle.guarded_tell.specs.Kernels.{IsKernel};
 
 use crate::test_support::{LARGEST, PAST, Pairs, after, expect, high, low, narrowing_told, number};
 use crate::{Hint, Kernel, Lit, Tell};
-use list_of::ListOf;
+use shared_list::SharedList;
 use std::alloc::{AllocError, Global};
 use std::test::Fail;
 
@@ -23,8 +23,8 @@ fn inequality(
     requires limit { IsNumber limit }
     ensures { IfOk result (IsKernel 4) }
 {
-    let coeffs = ListOf::from_vec(vec![in alloc; first, second]?);
-    let vars = ListOf::from_vec(vec![in alloc; 1u32, 2u32]?);
+    let coeffs = SharedList::from_vec(vec![in alloc; first, second]?)?;
+    let vars = SharedList::from_vec(vec![in alloc; 1u32, 2u32]?)?;
     let lit = Lit { var: 0, positive };
     Ok(Kernel::Le {
         lit,
@@ -45,8 +45,8 @@ fn no_terms(alloc: Global, limit: i64) -> Kernel
     };
     Kernel::Le {
         lit,
-        coeffs: ListOf::new(alloc),
-        vars: ListOf::new(alloc),
+        coeffs: SharedList::empty(alloc),
+        vars: SharedList::empty(alloc),
         limit,
     }
 }
@@ -64,8 +64,8 @@ fn equation(
     requires limit { IsNumber limit }
     ensures { IfOk result (IsKernel 4) }
 {
-    let coeffs = ListOf::from_vec(vec![in alloc; first, second]?);
-    let vars = ListOf::from_vec(vec![in alloc; 1u32, 2u32]?);
+    let coeffs = SharedList::from_vec(vec![in alloc; first, second]?)?;
+    let vars = SharedList::from_vec(vec![in alloc; 1u32, 2u32]?)?;
     let lit = Lit { var: 0, positive };
     Ok(Kernel::Eq {
         lit,

@@ -6,7 +6,7 @@ ghost use Rattle.guarded_tell.specs.Kernels.{IsKernel};
 
 use crate::test_support::{LARGEST, PAST, Pairs, after, expect, high, low, number};
 use crate::{Kernel, Lit, Tell};
-use list_of::ListOf;
+use shared_list::SharedList;
 use std::alloc::{AllocError, Global};
 use std::test::Fail;
 
@@ -14,7 +14,7 @@ use std::test::Fail;
 fn greatest(alloc: Global) -> Result<Kernel, AllocError>
     ensures { IfOk result (IsKernel 4) }
 {
-    let xs = ListOf::from_vec(vec![in alloc; 1u32, 2]?);
+    let xs = SharedList::from_vec(vec![in alloc; 1u32, 2]?)?;
     Ok(Kernel::Max { m: 0, xs })
 }
 
@@ -22,7 +22,7 @@ fn greatest(alloc: Global) -> Result<Kernel, AllocError>
 fn least(alloc: Global) -> Result<Kernel, AllocError>
     ensures { IfOk result (IsKernel 4) }
 {
-    let xs = ListOf::from_vec(vec![in alloc; 1u32, 2]?);
+    let xs = SharedList::from_vec(vec![in alloc; 1u32, 2]?)?;
     Ok(Kernel::Min { m: 0, xs })
 }
 
@@ -38,7 +38,7 @@ fn clause(alloc: Global) -> Result<Kernel, AllocError>
         var: 1,
         positive: false,
     };
-    let lits = ListOf::from_vec(vec![in alloc; first, second]?);
+    let lits = SharedList::from_vec(vec![in alloc; first, second]?)?;
     Ok(Kernel::Clause { lits })
 }
 
@@ -47,7 +47,7 @@ fn no_literals(alloc: Global) -> Kernel
     ensures { IsKernel 4 result }
 {
     Kernel::Clause {
-        lits: ListOf::new(alloc),
+        lits: SharedList::empty(alloc),
     }
 }
 
@@ -55,7 +55,7 @@ fn no_literals(alloc: Global) -> Kernel
 fn element(alloc: Global) -> Result<Kernel, AllocError>
     ensures { IfOk result (IsKernel 4) }
 {
-    let entries = ListOf::from_vec(vec![in alloc; 2u32, 3, 2]?);
+    let entries = SharedList::from_vec(vec![in alloc; 2u32, 3, 2]?)?;
     Ok(Kernel::Element {
         x: 0,
         entries,
@@ -77,7 +77,11 @@ fn in_set(alloc: Global, first: i64, middle: i64, last: i64) -> Result<Kernel, A
         var: 0,
         positive: true,
     };
-    let ranges = ListOf::from_vec(vec![in alloc; (first, 1i64), (4i64, middle), (9i64, last)]?);
+    let ranges = SharedList::from_vec(vec![in alloc;
+        (first, 1i64),
+        (4i64, middle),
+        (9i64, last),
+    ]?)?;
     Ok(Kernel::InSet { lit, x: 1, ranges })
 }
 

@@ -8,7 +8,7 @@ ghost use Rattle.guarded_tell.specs.Kernels.{IsKernel};
 
 use guarded_tell::{Kernel, Lit};
 use interval::{BoxOf, NoMemory};
-use list_of::ListOf;
+use shared_list::SharedList;
 use std::alloc::{AllocError, Global};
 
 /// Numbers that look random, the same in each run. A kernel names variables that lie close together, so that others are
@@ -62,36 +62,36 @@ impl Draws {
 }
 
 /// Three variables.
-fn three_vars(alloc: Global, draws: &mut Draws) -> Result<ListOf<u32>, AllocError>
+fn three_vars(alloc: Global, draws: &mut Draws) -> Result<SharedList<u32>, AllocError>
     ensures below { IfOk result (λ vars. All (λ v. v < 40) vars) }
     ensures three { IfOk result (λ vars. length vars ≡ 3) }
 {
     let x = draws.var();
     let y = draws.var();
     let z = draws.var();
-    Ok(ListOf::from_vec(vec![in alloc; x, y, z]?))
+    SharedList::from_vec(vec![in alloc; x, y, z]?)
 }
 
 /// Three coefficients.
-fn three_numbers(alloc: Global, draws: &mut Draws) -> Result<ListOf<i64>, AllocError>
+fn three_numbers(alloc: Global, draws: &mut Draws) -> Result<SharedList<i64>, AllocError>
     ensures small { IfOk result (λ numbers. All (λ z. unsigned_abs z ≤ 9) numbers) }
     ensures three { IfOk result (λ numbers. length numbers ≡ 3) }
 {
     let x = draws.number();
     let y = draws.number();
     let z = draws.number();
-    Ok(ListOf::from_vec(vec![in alloc; x, y, z]?))
+    SharedList::from_vec(vec![in alloc; x, y, z]?)
 }
 
 /// Three literals.
-fn three_lits(alloc: Global, draws: &mut Draws) -> Result<ListOf<Lit>, AllocError>
+fn three_lits(alloc: Global, draws: &mut Draws) -> Result<SharedList<Lit>, AllocError>
     ensures below { IfOk result (λ lits. All (λ l. l.var < 40) lits) }
     ensures three { IfOk result (λ lits. length lits ≡ 3) }
 {
     let x = draws.lit();
     let y = draws.lit();
     let z = draws.lit();
-    Ok(ListOf::from_vec(vec![in alloc; x, y, z]?))
+    SharedList::from_vec(vec![in alloc; x, y, z]?)
 }
 
 /// A sum that is at most a limit.
@@ -181,15 +181,15 @@ fn element(alloc: Global, draws: &mut Draws) -> Result<Kernel, AllocError>
 }
 
 /// The set of these ranges.
-fn set_of(alloc: Global, ranges: &[(i64, i64)]) -> Result<ListOf<(i64, i64)>, AllocError>
+fn set_of(alloc: Global, ranges: &[(i64, i64)]) -> Result<SharedList<(i64, i64)>, AllocError>
     requires { IsSet ranges.now }
     ensures { IfOk result IsSet }
 {
-    Ok(ListOf::from_vec(Vec::from_slice(alloc, ranges)?))
+    SharedList::from_vec(Vec::from_slice(alloc, ranges)?)
 }
 
 /// One of three sets.
-fn ranges(alloc: Global, draws: &mut Draws) -> Result<ListOf<(i64, i64)>, AllocError>
+fn ranges(alloc: Global, draws: &mut Draws) -> Result<SharedList<(i64, i64)>, AllocError>
     ensures { IfOk result IsSet }
 {
     match draws.below(3) {

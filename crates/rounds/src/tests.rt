@@ -9,7 +9,7 @@ ghost use Rattle.rounds.specs.Small.{is_small, are_small, are_below_four, lows_a
 use crate::{Engine, Gate, Limited, NoGate, Propagated, Work, even_cut, propagate};
 use guarded_tell::{Kernel, Lit};
 use interval::{BoxOf, NoMemory};
-use list_of::ListOf;
+use shared_list::SharedList;
 use std::alloc::{AllocError, Global};
 use std::sync::atomic::{AtomicBool, Ordering};
 use std::test::Fail;
@@ -32,8 +32,8 @@ fn at_most(alloc: Global, coeffs: &[i64], vars: &[u32], limit: i64) -> Result<Ke
 {
     Ok(Kernel::Le {
         lit: TRUE,
-        coeffs: ListOf::from_vec(Vec::from_slice(alloc, coeffs)?),
-        vars: ListOf::from_vec(Vec::from_slice(alloc, vars)?),
+        coeffs: SharedList::from_vec(Vec::from_slice(alloc, coeffs)?)?,
+        vars: SharedList::from_vec(Vec::from_slice(alloc, vars)?)?,
         limit,
     })
 }
@@ -49,8 +49,8 @@ fn equal(alloc: Global, coeffs: &[i64], vars: &[u32], limit: i64) -> Result<Kern
 {
     Ok(Kernel::Eq {
         lit: TRUE,
-        coeffs: ListOf::from_vec(Vec::from_slice(alloc, coeffs)?),
-        vars: ListOf::from_vec(Vec::from_slice(alloc, vars)?),
+        coeffs: SharedList::from_vec(Vec::from_slice(alloc, coeffs)?)?,
+        vars: SharedList::from_vec(Vec::from_slice(alloc, vars)?)?,
         limit,
     })
 }

@@ -17,6 +17,7 @@ use decompose::{Program, compile};
 use guarded_tell::{Kernel, Lit};
 use interval::{BoxOf, NoMemory, clamp_bound, law_inside_order};
 use list_of::ListOf;
+use shared_list::SharedList;
 use moved_set::Masks;
 use rounds::{Gate, NoGate};
 use std::alloc::{AllocError, Global};
@@ -106,8 +107,8 @@ fn below(alloc: Global, x: u32, y: u32) -> Result<Kernel, AllocError>
 {
     Ok(Kernel::Le {
         lit: TRUE,
-        coeffs: ListOf::from_vec(vec![in alloc; 1, -1]?),
-        vars: ListOf::from_vec(vec![in alloc; x, y]?),
+        coeffs: SharedList::from_vec(vec![in alloc; 1, -1]?)?,
+        vars: SharedList::from_vec(vec![in alloc; x, y]?)?,
         limit: -1,
     })
 }

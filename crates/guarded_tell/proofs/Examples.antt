@@ -106,6 +106,44 @@ unfolding vars_of HasNumbers
 equation_made l coeffs vars a c limit number z e f g n =
     record { variables = two_variables l.var vars z f; numbers = two_made coeffs vars a c limit number e f g n }
 
+three_coefficients : (a c d : ℤ) → IsNumber a → IsNumber c → IsNumber d → (i : ℕ) → i < 3 → IsNumber (slice_index_or (a ∷ c ∷ d ∷ []) i (pos 0))
+three_coefficients a c d h k m zero l = h
+three_coefficients a c d h k m (suc zero) l = k
+three_coefficients a c d h k m (suc (suc zero)) l = m
+three_coefficients a c d h k m (suc (suc (suc i))) l = absurd (omega arith)
+
+three_short : 3 ≤ term_limit
+unfolding term_limit
+three_short = omega arith
+
+module _ (coeffs : List ℤ) (vars : List ℕ) (a c d limit number : ℤ) (e : coeffs ≡ a ∷ c ∷ d ∷ []) (f : vars ≡ 1 ∷ 2 ∷ 3 ∷ []) (g : limit ≡ number) (numbers : IsNumber a × IsNumber c × IsNumber d × IsNumber number) where
+  three_linear : IsLinear (a ∷ c ∷ d ∷ []) (1 ∷ 2 ∷ 3 ∷ []) number
+  three_linear = record {
+    same_length = refl;
+    short = three_short;
+    coefficients = λ i h. three_coefficients a c d numbers.0 numbers.1 numbers.2 i (omega arith);
+    limit_in_range = numbers.3;
+  }
+
+  three_made : IsLinear coeffs vars limit
+  three_made =
+      subst (λ (z : ℤ). IsLinear coeffs vars z) (sym g)
+      (subst (λ (vs : List ℕ). IsLinear coeffs vs number) (sym f)
+      (subst (λ (cs : List ℤ). IsLinear cs (1 ∷ 2 ∷ 3 ∷ []) number) (sym e) three_linear))
+
+  three_of : (v : ℕ) → v ≡ 0 → AreVariables 4 (v ∷ vars)
+  three_of v z =
+      subst (λ (vs : List ℕ). AreVariables 4 (v ∷ vs)) (sym f)
+      (subst (λ (w : ℕ). AreVariables 4 (w ∷ 1 ∷ 2 ∷ 3 ∷ [])) (sym z) (below_four (0 ∷ 1 ∷ 2 ∷ 3 ∷ []) refl))
+
+  pub long_inequality_made : (l : Lit) → l.var ≡ 0 → IsKernel 4 (Le l coeffs vars limit)
+  unfolding vars_of HasNumbers
+  long_inequality_made l z = record { variables = three_of l.var z; numbers = three_made }
+
+  pub long_equation_made : (l : Lit) → l.var ≡ 0 → IsKernel 4 (Eq l coeffs vars limit)
+  unfolding vars_of HasNumbers
+  long_equation_made l z = record { variables = three_of l.var z; numbers = three_made }
+
 none_linear : (limit : ℤ) → IsNumber limit → IsLinear [] [] limit
 none_linear limit n = record { same_length = refl; short = omega arith; coefficients = λ i h. absurd (omega arith); limit_in_range = n }
 

@@ -36,6 +36,8 @@ pub mod ClauseLaws
 pub mod ListPlaces
 pub mod ShortLaws
 pub mod QuietLaws
+pub mod PairLaws
+pub mod OpenLaws
 pub mod QuotientLaws
 pub mod RoomLaws
 pub mod ClauseQuiet

@@ -1,5 +1,5 @@
 -- A linear kernel whose sums leave more room than a term can grow by narrows nothing.
-use Rattle.std.proofs.Common.{◌≡◌, ℕ, ◌<◌, ◌≤◌, List, [], ◌∷◌, ◌++◌, length, get_or, Bool, true, false, not, ◌&&◌, ◌||◌, ℤ, pos, ◌+ℤ◌, ◌-ℤ◌, ◌*ℤ◌, ◌≤ℤ◌, ◌<ℤ◌, unsigned_abs, ⊎_elim, sym, subst, arith}
+use Rattle.std.proofs.Common.{◌≡◌, ℕ, ◌<◌, ◌≤◌, List, [], ◌∷◌, ◌++◌, length, get_or, Bool, true, false, not, ◌&&◌, ◌||◌, ℤ, pos, ◌+ℤ◌, ◌-ℤ◌, ◌*ℤ◌, ◌≤ℤ◌, ◌<ℤ◌, ⊎_elim, sym, subst, arith}
 use Rattle.std.proofs.lemmas.Int.{ints, clamps}
 use Rattle.std.proofs.lemmas.Bool.{and_parts, or_cases}
 use Rattle.std.proofs.lemmas.List.Elements.{All-append}
@@ -13,15 +13,10 @@ use Rattle.interval.specs.Boxes.{Bounds, low_of, high_of}
 use Rattle.guarded_tell.specs.Words.{low_tell, high_tell, when, Keeps, literal_true, sign_true, sign_tell, is_sure, is_out, tell_true, tell_false}
 use Rattle.guarded_tell.specs.Linear.{Term, least_of, greatest_of, sum_over, product_at_most, product_at_least, at_most_tell, at_least_tell, more_than_tell, literal_tells, sure_tells, out_tells, bound_tells, at_most_tells}
 use Rattle.guarded_tell.specs.Equality.{is_same, is_product, low_is_not, high_is_not, product_is_not, equation_tells, equal_tell, unequal_tell, equal_tells, unequal_tells, eq_tells}
-use Rattle.guarded_tell.specs.Short.{small_limit, AreSums, IsAtMostQuiet, IsUnequalQuiet, IsEquationQuiet}
+use Rattle.guarded_tell.specs.Short.{AreSums, IsAtMostQuiet, IsUnequalQuiet, IsEquationQuiet}
 use Rattle.guarded_tell.proofs.Lists.{All-one, All-flat_map, All-when}
 use Rattle.guarded_tell.proofs.TermLaws.{length-zip, get_or-zip}
 use Rattle.guarded_tell.proofs.LiteralLaws.{by_bool, not_true}
-
--- a small number is a bound
-small_bound : (z : ℤ) → unsigned_abs z ≤ small_limit → IsBound z
-unfolding small_limit bound_limit largest_number
-small_bound z h = omega arith
 
 module _ (clamped : ClampOrder) (b : Bounds) where
   -- a literal that is sure keeps the box where it is told true, one that is out where it is told false
@@ -129,12 +124,12 @@ module _ (quotients : QuotientOrder) (clamped : ClampOrder) (b : Bounds) where
         let at : i < length coeffs = omega (arith, length-zip coeffs vars same) in
         let a = get_or coeffs i (pos 0) in
         let x = get_or vars i 0 in
-        let small = sums.small i at in
+        let bounds = sums.bounds i at in
         let within = sums.within i at in
         let least = sums.least in
         let P : Term → Type 0 = λ t. All (Keeps b) (at_most_tell b limit (sum_over (least_of b) (zip coeffs vars)) t) in
         subst P (sym (get_or-zip coeffs vars i same))
-        (at_most_wide x a (limit -ℤ (sum_over (least_of b) (zip coeffs vars) -ℤ least_of b (a, x))) (small_bound (low_of b x) small.low) (small_bound (high_of b x) small.high) (omega (arith, ints)))
+        (at_most_wide x a (limit -ℤ (sum_over (least_of b) (zip coeffs vars) -ℤ least_of b (a, x))) bounds.low bounds.high (omega (arith, ints)))
 
     at_least_term : (limit : ℤ) → s.widest ≤ℤ (s.greatest -ℤ limit) → (i : ℕ) → i < length (zip coeffs vars)
         → All (Keeps b) (at_least_tell b limit (sum_over (greatest_of b) (zip coeffs vars)) (get_or (zip coeffs vars) i (pos 0, 0)))
@@ -142,12 +137,12 @@ module _ (quotients : QuotientOrder) (clamped : ClampOrder) (b : Bounds) where
         let at : i < length coeffs = omega (arith, length-zip coeffs vars same) in
         let a = get_or coeffs i (pos 0) in
         let x = get_or vars i 0 in
-        let small = sums.small i at in
+        let bounds = sums.bounds i at in
         let within = sums.within i at in
         let greatest = sums.greatest in
         let P : Term → Type 0 = λ t. All (Keeps b) (at_least_tell b limit (sum_over (greatest_of b) (zip coeffs vars)) t) in
         subst P (sym (get_or-zip coeffs vars i same))
-        (at_least_wide x a (limit -ℤ (sum_over (greatest_of b) (zip coeffs vars) -ℤ greatest_of b (a, x))) (small_bound (low_of b x) small.low) (small_bound (high_of b x) small.high) (omega (arith, ints)))
+        (at_least_wide x a (limit -ℤ (sum_over (greatest_of b) (zip coeffs vars) -ℤ greatest_of b (a, x))) bounds.low bounds.high (omega (arith, ints)))
 
     pub at_most_quiet : (limit : ℤ) → IsAtMostQuiet b l limit s → All (Keeps b) (at_most_tells l coeffs vars limit b)
     at_most_quiet limit q =

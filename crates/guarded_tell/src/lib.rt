@@ -23,6 +23,7 @@ mod literals;
 mod maximum;
 mod minimum;
 mod narrowing;
+mod pairs;
 mod quiet;
 mod remainder;
 mod short;

@@ -4,10 +4,14 @@ ghost use Rattle.std.specs.Prelude.{◌≡◌, ◌≤◌, IfOk, unsigned_abs};
 ghost use Rattle.interval.specs.Limits.{IsNumber, largest_number};
 ghost use Rattle.guarded_tell.specs.Kernels.{IsKernel};
 
-use crate::test_support::{LARGEST, PAST, Pairs, after, expect, high, low, narrowing_told, number};
+use crate::test_support::{
+    LARGEST, PAST, Pairs, after, expect, high, low, narrowing_told, number, told,
+};
 use crate::{Hint, Kernel, Lit, Tell};
+use interval::NoMemory;
 use shared_list::SharedList;
 use std::alloc::{AllocError, Global};
+use std::process::Abort;
 use std::test::Fail;
 
 /// The literal of variable 0 is true exactly where the two products with variables 1 and 2 sum up to at most the limit.
@@ -73,6 +77,145 @@ fn equation(
         vars,
         limit,
     })
+}
+
+/// The literal of variable 0 is true exactly where the products with variables 1, 2 and 3 have the limit as their sum.
+fn long_equation(
+    alloc: Global,
+    first: i64,
+    second: i64,
+    third: i64,
+    limit: i64,
+) -> Result<Kernel, AllocError>
+    requires first { IsNumber first }
+    requires second { IsNumber second }
+    requires third { IsNumber third }
+    requires limit { IsNumber limit }
+    ensures { IfOk result (IsKernel 4) }
+{
+    let coeffs = SharedList::from_vec(vec![in alloc; first, second, third]?)?;
+    let vars = SharedList::from_vec(vec![in alloc; 1u32, 2, 3]?)?;
+    let lit = Lit {
+        var: 0,
+        positive: true,
+    };
+    Ok(Kernel::Eq {
+        lit,
+        coeffs,
+        vars,
+        limit,
+    })
+}
+
+/// The literal of variable 0 is true exactly where the products with variables 1, 2 and 3 sum up to at most the limit.
+fn long_inequality(
+    alloc: Global,
+    first: i64,
+    second: i64,
+    third: i64,
+    limit: i64,
+) -> Result<Kernel, AllocError>
+    requires first { IsNumber first }
+    requires second { IsNumber second }
+    requires third { IsNumber third }
+    requires limit { IsNumber limit }
+    ensures { IfOk result (IsKernel 4) }
+{
+    let coeffs = SharedList::from_vec(vec![in alloc; first, second, third]?)?;
+    let vars = SharedList::from_vec(vec![in alloc; 1u32, 2, 3]?)?;
+    let lit = Lit {
+        var: 0,
+        positive: true,
+    };
+    Ok(Kernel::Le {
+        lit,
+        coeffs,
+        vars,
+        limit,
+    })
+}
+
+/// Visits the kernel on each box, where what narrows is compared with the tells.
+fn told_on_each(
+    rt: &impl Abort,
+    alloc: Global,
+    kernel: &Kernel,
+    boxes: &[Pairs],
+) -> Result<(), NoMemory>
+    requires { IsKernel 4 kernel.now }
+{
+    for pairs in boxes {
+        let _tells = told(rt, alloc, kernel, *pairs)?;
+    }
+    Ok(())
+}
+
+/// Boxes round the limits 0 and 1 of a difference, with the literal false, true and open.
+const NEAR: [Pairs; 18] = [
+    [(0, 0), (0, 2), (0, 2), (0, 2)],
+    [(0, 0), (0, 2), (2, 2), (1, 1)],
+    [(0, 0), (1, 1), (0, 2), (1, 1)],
+    [(0, 0), (1, 1), (0, 1), (0, 0)],
+    [(0, 0), (1, 1), (1, 2), (0, 1)],
+    [(0, 0), (2, 2), (1, 1), (0, 0)],
+    [(1, 1), (0, 2), (0, 2), (0, 2)],
+    [(1, 1), (0, 2), (2, 2), (1, 1)],
+    [(1, 1), (0, 2), (1, 3), (0, 0)],
+    [(1, 1), (1, 3), (0, 2), (0, 1)],
+    [(1, 1), (1, 1), (1, 1), (0, 2)],
+    [(1, 1), (0, 3), (0, 2), (0, 0)],
+    [(0, 1), (0, 2), (0, 2), (0, 2)],
+    [(0, 1), (0, 2), (2, 3), (0, 0)],
+    [(0, 1), (0, 2), (3, 4), (1, 1)],
+    [(0, 1), (2, 3), (0, 2), (0, 0)],
+    [(0, 1), (3, 4), (0, 2), (0, 1)],
+    [(0, 1), (1, 1), (1, 1), (1, 1)],
+];
+
+#[test]
+fn sums_of_two_give_just_what_narrows(rt: HostRuntime) -> Result<(), Fail> {
+    let alloc = rt.alloc();
+    for (first, second, limit) in [
+        (1, -1, 0),
+        (1, -1, 1),
+        (-1, 1, 0),
+        (-1, 1, -1),
+        (1, 1, 3),
+        (-1, -1, -3),
+        (2, -1, 1),
+        (0, 1, 2),
+    ] {
+        let first = number(&rt, first);
+        let second = number(&rt, second);
+        let limit = number(&rt, limit);
+        let most = inequality(alloc, true, first, second, limit)?;
+        told_on_each(&rt, alloc, &most, &NEAR)?;
+        let same = equation(alloc, true, first, second, limit)?;
+        told_on_each(&rt, alloc, &same, &NEAR)?;
+    }
+    Ok(())
+}
+
+#[test]
+fn sums_of_three_give_just_what_narrows(rt: HostRuntime) -> Result<(), Fail> {
+    let alloc = rt.alloc();
+    for (first, second, third, limit) in [
+        (1, -1, 1, 0),
+        (1, -1, -1, 1),
+        (-1, 1, 0, 0),
+        (2, -1, 3, 1),
+        (1, 1, 1, 4),
+    ] {
+        let first = number(&rt, first);
+        let second = number(&rt, second);
+        let third = number(&rt, third);
+        let limit = number(&rt, limit);
+        let most = long_inequality(alloc, first, second, third, limit)?;
+        told_on_each(&rt, alloc, &most, &NEAR)?;
+        let same = long_equation(alloc, first, second, third, limit)?;
+        told_on_each(&rt, alloc, &same, &NEAR)?;
+    }
+    Ok(())
 }
 
 #[test]

@@ -33,6 +33,34 @@ pub fn is_out(lit: Lit, b: &BoxOf) -> bool
     !is_true(lit, b.low(lit.var)) && !is_true(lit, b.high(lit.var))
 }
 
+/// Whether the literal is sure, where its variable has a number left. One bound then says so.
+#[tactic(auto, unfolding(crate::specs::Words::is_sure))]
+pub fn stands_true(lit: Lit, b: &BoxOf) -> bool
+    requires variable { lit.var < length b.now }
+    requires proper { low_of b.now lit.var ≤ℤ high_of b.now lit.var }
+    ensures { result ≡ words.is_sure lit b.now }
+{
+    if lit.positive {
+        b.low(lit.var) >= 1
+    } else {
+        b.high(lit.var) <= 0
+    }
+}
+
+/// Whether the literal is out, where its variable has a number left.
+#[tactic(auto, unfolding(crate::specs::Words::is_out))]
+pub fn stands_false(lit: Lit, b: &BoxOf) -> bool
+    requires variable { lit.var < length b.now }
+    requires proper { low_of b.now lit.var ≤ℤ high_of b.now lit.var }
+    ensures { result ≡ words.is_out lit b.now }
+{
+    if lit.positive {
+        b.high(lit.var) <= 0
+    } else {
+        b.low(lit.var) >= 1
+    }
+}
+
 /// The low of `var` is told the bound nearest to `value`.
 pub fn low_tell(var: u32, value: i128) -> Tell
     ensures { result ≡ words.low_tell var value }

@@ -45,7 +45,7 @@ fn is_quiet(k: &Kernel, b: &BoxOf, hint: &mut Hint) -> bool
             coeffs,
             vars,
             limit,
-        } => is_equation_quiet(*lit, coeffs.as_slice(), vars.as_slice(), *limit, b),
+        } => is_equation_quiet(*lit, coeffs.as_slice(), vars.as_slice(), *limit, b, hint),
         Kernel::Clause { lits } => is_clause_quiet(lits.as_slice(), b, hint),
         _ => false,
     }

@@ -1,23 +1,55 @@
 //! Tests that a kernel narrows nothing.
 
-ghost use Rattle.std.specs.Prelude.{◌≡◌, ◌<◌, ◌≤◌, false, pos, unsigned_abs, ◌∷◌, length};
+ghost use Rattle.std.specs.Prelude.{◌≡◌, ◌<◌, ◌≤◌, ◌≤ℤ◌, ◌<ℤ◌, false, pos, unsigned_abs, ◌∷◌, length};
 ghost use Rattle.std.specs.Bool.{OnTrue};
 ghost use Rattle.std.specs.List.{All};
 ghost use Rattle.interval.specs.Limits.{IsNumber};
+ghost use Rattle.interval.specs.Boxes.{low_of, high_of};
 ghost use Rattle.guarded_tell.specs.Words.{AreVariables, IsProperIn, Keeps};
 ghost use Rattle.guarded_tell.specs.Words as words;
 ghost use Rattle.guarded_tell.specs.Clause.{clause_vars, clause_tells, IsShortClause, AreLiterals};
-ghost use Rattle.guarded_tell.specs.Linear.{at_most_tells, IsLinear};
+ghost use Rattle.guarded_tell.specs.Linear.{at_most_tells, least_of, greatest_of, IsLinear};
 ghost use Rattle.guarded_tell.specs.Equality.{eq_tells};
-ghost use Rattle.guarded_tell.specs.Short.{short_sum_limit, AreSums, IsAtMostQuiet, IsUnequalQuiet, IsEquationQuiet};
+ghost use Rattle.guarded_tell.specs.Short.{short_sum_limit, AreTwoOpen, IsAtMostQuiet, IsUnequalQuiet, IsEquationQuiet};
 
 use crate::Lit;
-use crate::literals::{is_out, is_sure};
+use crate::literals::{is_out, is_sure, stands_false, stands_true};
+use crate::pairs::{is_apart, pair_leaves_room, pair_leaves_room_on_both_sides, pair_of};
 use crate::short::{Sums, short_sums};
 use interval::{BoxOf, law_clamp_order, law_quotient_order};
 
 /// Whether the inequality is seen to narrow nothing. Where its numbers are large, it isn't seen.
 pub fn is_at_most_quiet(lit: Lit, coeffs: &[i64], vars: &[u32], limit: i64, b: &BoxOf) -> bool
+    requires linear { IsLinear coeffs.now vars.now limit }
+    requires variables { AreVariables (length b.now) (lit.var ∷ vars.now) }
+    requires proper { IsProperIn (lit.var ∷ vars.now) b.now }
+    ensures { OnTrue result (All (Keeps b.now) (at_most_tells lit coeffs.now vars.now limit b.now)) }
+{
+    if coeffs.len() == 2 {
+        is_pair_at_most_quiet(lit, coeffs, vars, limit, b)
+    } else {
+        is_sum_at_most_quiet(lit, coeffs, vars, limit, b)
+    }
+}
+
+/// The same for the inequality of two terms.
+fn is_pair_at_most_quiet(lit: Lit, coeffs: &[i64], vars: &[u32], limit: i64, b: &BoxOf) -> bool
+    requires two { length coeffs.now ≡ 2 }
+    requires linear { IsLinear coeffs.now vars.now limit }
+    requires variables { AreVariables (length b.now) (lit.var ∷ vars.now) }
+    requires proper { IsProperIn (lit.var ∷ vars.now) b.now }
+    ensures { OnTrue result (All (Keeps b.now) (at_most_tells lit coeffs.now vars.now limit b.now)) }
+{
+    law_quotient_order();
+    law_clamp_order();
+    match pair_of(coeffs, vars, b) {
+        Some(pair) => pair_leaves_room(lit, limit, pair, b),
+        None => false,
+    }
+}
+
+/// The same for the inequality of any number of terms.
+fn is_sum_at_most_quiet(lit: Lit, coeffs: &[i64], vars: &[u32], limit: i64, b: &BoxOf) -> bool
     requires linear { IsLinear coeffs.now vars.now limit }
     requires variables { AreVariables (length b.now) (lit.var ∷ vars.now) }
     requires proper { IsProperIn (lit.var ∷ vars.now) b.now }
@@ -35,22 +67,144 @@ pub fn is_at_most_quiet(lit: Lit, coeffs: &[i64], vars: &[u32], limit: i64, b: &
 #[tactic(auto, unfolding(crate::specs::Short::short_sum_limit, interval::specs::Limits::largest_number))]
 fn leaves_room(lit: Lit, limit: i64, sums: Sums, b: &BoxOf) -> bool
     requires variable { lit.var < length b.now }
+    requires proper { low_of b.now lit.var ≤ℤ high_of b.now lit.var }
     requires limit { IsNumber limit }
     requires least { unsigned_abs sums.least ≤ short_sum_limit }
     requires greatest { unsigned_abs sums.greatest ≤ short_sum_limit }
     ensures { OnTrue result (IsAtMostQuiet b.now lit limit sums) }
 {
-    if is_sure(lit, b) {
+    if stands_true(lit, b) {
         sums.widest <= limit - sums.least
-    } else if is_out(lit, b) {
+    } else if stands_false(lit, b) {
         sums.widest < sums.greatest - limit
     } else {
         sums.least <= limit && limit < sums.greatest
     }
 }
 
-/// Whether the equation is seen to narrow nothing. Where its numbers are large, it isn't seen.
-pub fn is_equation_quiet(lit: Lit, coeffs: &[i64], vars: &[u32], limit: i64, b: &BoxOf) -> bool
+/// Whether the equation is seen to narrow nothing. Where its numbers are large, it mostly isn't seen.
+pub fn is_equation_quiet(
+    lit: Lit,
+    coeffs: &[i64],
+    vars: &[u32],
+    limit: i64,
+    b: &BoxOf,
+    hint: &mut Hint,
+) -> bool
+    requires linear { IsLinear coeffs.now vars.now limit }
+    requires variables { AreVariables (length b.now) (lit.var ∷ vars.now) }
+    requires proper { IsProperIn (lit.var ∷ vars.now) b.now }
+    ensures { OnTrue result (All (Keeps b.now) (eq_tells lit coeffs.now vars.now limit b.now)) }
+{
+    if coeffs.len() == 2 {
+        is_pair_equation_quiet(lit, coeffs, vars, limit, b)
+    } else if is_open_inequation(lit, coeffs, vars, limit, b, hint) {
+        true
+    } else {
+        is_sum_equation_quiet(lit, coeffs, vars, limit, b)
+    }
+}
+
+/// Whether the equation must not hold and two of its terms aren't fixed, whatever its numbers are.
+fn is_open_inequation(
+    lit: Lit,
+    coeffs: &[i64],
+    vars: &[u32],
+    limit: i64,
+    b: &BoxOf,
+    hint: &mut Hint,
+) -> bool
+    requires linear { IsLinear coeffs.now vars.now limit }
+    requires variables { AreVariables (length b.now) (lit.var ∷ vars.now) }
+    requires proper { IsProperIn (lit.var ∷ vars.now) b.now }
+    ensures { OnTrue result (All (Keeps b.now) (eq_tells lit coeffs.now vars.now limit b.now)) }
+{
+    law_clamp_order();
+    if stands_false(lit, b) {
+        are_two_open(coeffs, vars, b, hint)
+    } else {
+        false
+    }
+}
+
+/// Whether two terms aren't fixed. Those that the hint remembers are looked at first, and then what is found.
+fn are_two_open(coeffs: &[i64], vars: &[u32], b: &BoxOf, hint: &mut Hint) -> bool
+    requires linear { IsLinear coeffs.now vars.now (pos 0) }
+    requires variables { AreVariables (length b.now) vars.now }
+    ensures { OnTrue result (AreTwoOpen b.now coeffs.now vars.now) }
+{
+    if are_open_at(coeffs, vars, *hint, b) {
+        return true;
+    }
+    let found = open_places(coeffs, vars, b);
+    *hint = found;
+    are_open_at(coeffs, vars, found, b)
+}
+
+/// Whether the terms at the hint's two places aren't fixed.
+fn are_open_at(coeffs: &[i64], vars: &[u32], hint: Hint, b: &BoxOf) -> bool
+    requires linear { IsLinear coeffs.now vars.now (pos 0) }
+    requires variables { AreVariables (length b.now) vars.now }
+    ensures { OnTrue result (AreTwoOpen b.now coeffs.now vars.now) }
+{
+    let first = hint.first as usize;
+    let second = hint.second as usize;
+    if second >= coeffs.len() || first >= second {
+        return false;
+    }
+    is_open(coeffs[first], vars[first], b) && is_open(coeffs[second], vars[second], b)
+}
+
+/// Whether the term isn't fixed.
+fn is_open(coeff: i64, var: u32, b: &BoxOf) -> bool
+    requires variable { var < length b.now }
+    ensures { OnTrue result (least_of b.now (coeff, var) <ℤ greatest_of b.now (coeff, var)) }
+{
+    is_apart(coeff, 0) && b.low(var) < b.high(var)
+}
+
+/// The first two places of terms that aren't fixed, if there are such.
+#[tactic(auto, unfolding(crate::specs::Linear::term_limit))]
+fn open_places(coeffs: &[i64], vars: &[u32], b: &BoxOf) -> Hint
+    requires linear { IsLinear coeffs.now vars.now (pos 0) }
+    requires variables { AreVariables (length b.now) vars.now }
+{
+    let mut found = None;
+    for i in 0..coeffs.len() {
+        if is_open(coeffs[i], vars[i], b) {
+            let place = i as u32;
+            match found {
+                Some(first) => {
+                    return Hint {
+                        first,
+                        second: place,
+                    };
+                }
+                None => found = Some(place),
+            }
+        }
+    }
+    Hint::new()
+}
+
+/// The same for the equation of two terms.
+fn is_pair_equation_quiet(lit: Lit, coeffs: &[i64], vars: &[u32], limit: i64, b: &BoxOf) -> bool
+    requires two { length coeffs.now ≡ 2 }
+    requires linear { IsLinear coeffs.now vars.now limit }
+    requires variables { AreVariables (length b.now) (lit.var ∷ vars.now) }
+    requires proper { IsProperIn (lit.var ∷ vars.now) b.now }
+    ensures { OnTrue result (All (Keeps b.now) (eq_tells lit coeffs.now vars.now limit b.now)) }
+{
+    law_quotient_order();
+    law_clamp_order();
+    match pair_of(coeffs, vars, b) {
+        Some(pair) => pair_leaves_room_on_both_sides(lit, limit, pair, b),
+        None => false,
+    }
+}
+
+/// The same for the equation of any number of terms.
+fn is_sum_equation_quiet(lit: Lit, coeffs: &[i64], vars: &[u32], limit: i64, b: &BoxOf) -> bool
     requires linear { IsLinear coeffs.now vars.now limit }
     requires variables { AreVariables (length b.now) (lit.var ∷ vars.now) }
     requires proper { IsProperIn (lit.var ∷ vars.now) b.now }
@@ -68,15 +222,16 @@ pub fn is_equation_quiet(lit: Lit, coeffs: &[i64], vars: &[u32], limit: i64, b: 
 #[tactic(auto, unfolding(crate::specs::Short::short_sum_limit, interval::specs::Limits::largest_number))]
 fn leaves_room_on_both_sides(lit: Lit, limit: i64, sums: Sums, b: &BoxOf) -> bool
     requires variable { lit.var < length b.now }
+    requires proper { low_of b.now lit.var ≤ℤ high_of b.now lit.var }
     requires limit { IsNumber limit }
     requires least { unsigned_abs sums.least ≤ short_sum_limit }
     requires greatest { unsigned_abs sums.greatest ≤ short_sum_limit }
     ensures { OnTrue result (IsEquationQuiet b.now lit limit sums) }
 {
-    if is_sure(lit, b) {
+    if stands_true(lit, b) {
         let room = (limit - sums.least).min(sums.greatest - limit);
         sums.widest <= room
-    } else if is_out(lit, b) {
+    } else if stands_false(lit, b) {
         leaves_bounds_alone(limit, sums)
     } else {
         sums.least <= limit && limit <= sums.greatest && sums.least < sums.greatest
@@ -97,7 +252,7 @@ fn leaves_bounds_alone(limit: i64, sums: Sums) -> bool
 /// What a visit of a kernel may remember for the next: it makes a visit faster and changes nothing of what is told.
 #[derive(Clone, Copy, PartialEq, Eq, Debug)]
 pub struct Hint {
-    // two places of a clause, the lower first, or one place twice
+    // two places of a clause or of a sum, the lower first, or one place twice
     first: u32,
     second: u32,
 }

@@ -2,12 +2,16 @@
 
 ghost use Rattle.std.specs.Prelude.{◌≡◌, ◌<◌, ◌≤◌, ◌≤ℤ◌, ◌+ℤ◌, ◌-ℤ◌, ◌*ℤ◌, pos, unsigned_abs, length, MatchOption};
 ghost use Rattle.std.specs.Bool.{OnTrue};
+ghost use Rattle.interval.specs.Limits.{IsBound};
 ghost use Rattle.interval.specs.Boxes.{low_of, high_of};
 ghost use Rattle.guarded_tell.specs.Words.{AreVariables, IsProperIn};
 ghost use Rattle.guarded_tell.specs.Linear.{IsLinear};
-ghost use Rattle.guarded_tell.specs.Short.{small_limit, small_product_limit, short_sum_limit, AreSums, IsTermOf, HasOneMore};
+ghost use Rattle.guarded_tell.specs.Short.{slight_limit, small_limit, small_product_limit, short_sum_limit, AreShortSums, IsSmallTerm, IsTermOf, HasOneMore};
 
 use interval::BoxOf;
+
+/// A slight coefficient lies between this and its opposite. Its product with any bound fits 64 bits.
+const SLIGHT_LIMIT: i64 = 32_767;
 
 /// A small coefficient, and a small bound, lie between this and its opposite.
 const SMALL_LIMIT: i64 = 2_147_483_647;
@@ -40,7 +44,7 @@ pub fn short_sums(coeffs: &[i64], vars: &[u32], b: &BoxOf) -> Option<Sums>
     requires linear { IsLinear coeffs.now vars.now (pos 0) }
     requires variables { AreVariables (length b.now) vars.now }
     requires proper { IsProperIn vars.now b.now }
-    ensures { MatchOption result (Unit {0}) (λ s. AreSums b.now coeffs.now vars.now s) }
+    ensures { MatchOption result (Unit {0}) (λ s. AreShortSums b.now coeffs.now vars.now s) }
 {
     let mut sums = Sums {
         least: 0,
@@ -55,14 +59,14 @@ pub fn short_sums(coeffs: &[i64], vars: &[u32], b: &BoxOf) -> Option<Sums>
 }
 
 /// What the term is at least and at most, unless its numbers are too large.
-fn small_term(coeff: i64, var: u32, b: &BoxOf) -> Option<SmallTerm>
+pub fn small_term(coeff: i64, var: u32, b: &BoxOf) -> Option<SmallTerm>
     requires variable { var < length b.now }
     requires proper { low_of b.now var ≤ℤ high_of b.now var }
     ensures { MatchOption result (Unit {0}) (λ t. IsTermOf b.now coeff var t) }
 {
     let low = b.low(var);
     let high = b.high(var);
-    if !are_small(coeff, low, high) {
+    if !has_small_products(coeff, low, high) {
         return None;
     }
     let at_low = small_product(coeff, low);
@@ -71,6 +75,25 @@ fn small_term(coeff: i64, var: u32, b: &BoxOf) -> Option<SmallTerm>
         least: at_low.min(at_high),
         greatest: at_low.max(at_high),
     })
+}
+
+/// Whether the products of the coefficient with both bounds are small: one look at the coefficient mostly says so.
+fn has_small_products(coeff: i64, low: i64, high: i64) -> bool
+    requires low { IsBound low }
+    requires high { IsBound high }
+    requires proper { low ≤ℤ high }
+    ensures low { OnTrue result (unsigned_abs (coeff *ℤ low) ≤ small_product_limit) }
+    ensures high { OnTrue result (unsigned_abs (coeff *ℤ high) ≤ small_product_limit) }
+{
+    is_slight(coeff) || are_small(coeff, low, high)
+}
+
+/// Whether the coefficient has small products with all bounds.
+#[tactic(auto, unfolding(crate::specs::Short::slight_limit))]
+fn is_slight(coeff: i64) -> bool
+    ensures { OnTrue result (unsigned_abs coeff ≤ slight_limit) }
+{
+    -SLIGHT_LIMIT <= coeff && coeff <= SLIGHT_LIMIT
 }
 
 /// Whether the coefficient and the bounds are small.
@@ -84,10 +107,9 @@ fn are_small(coeff: i64, low: i64, high: i64) -> bool
     -SMALL_LIMIT <= coeff && coeff <= SMALL_LIMIT && -SMALL_LIMIT <= low && high <= SMALL_LIMIT
 }
 
-/// The product of two small numbers.
+/// The product of two numbers, where it is small.
 fn small_product(a: i64, z: i64) -> i64
-    requires first { unsigned_abs a ≤ small_limit }
-    requires second { unsigned_abs z ≤ small_limit }
+    requires { unsigned_abs (a *ℤ z) ≤ small_product_limit }
     ensures value { result ≡ a *ℤ z }
     ensures in_range { unsigned_abs result ≤ small_product_limit }
 {
@@ -99,8 +121,7 @@ fn small_product(a: i64, z: i64) -> i64
 fn sums_with(sums: Sums, term: SmallTerm) -> Option<Sums>
     requires sum_least { unsigned_abs sums.least ≤ short_sum_limit }
     requires sum_greatest { unsigned_abs sums.greatest ≤ short_sum_limit }
-    requires term_least { unsigned_abs term.least ≤ small_product_limit }
-    requires term_greatest { unsigned_abs term.greatest ≤ small_product_limit }
+    requires term { IsSmallTerm term }
     ensures { MatchOption result (Unit {0}) (λ s. HasOneMore sums term s) }
 {
     let least = sums.least + term.least;

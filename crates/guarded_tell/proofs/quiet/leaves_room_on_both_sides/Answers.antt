@@ -8,9 +8,9 @@ use Rattle.std.specs.Int.RustNames.{int_le}
 use Rattle.guarded_tell.specs.Short.{short_sum_limit, IsEquationQuiet}
 use Rattle.guarded_tell.proofs.quiet.leaves_room_on_both_sides.Goals as goal
 
-pub returns-then-is_sure : goal.returns-then-is_sure
+pub returns-then-stands_true : goal.returns-then-stands_true
 unfolding short_sum_limit largest_number
-returns-then-is_sure c =
+returns-then-stands_true c =
     let f : FitsSigned w64 c.args.sums.widest = search rules in
     let m : FitsSigned w64 c.min-room.result = search rules in
     OnTrue_from (int_le (to_z w64 (of_z w64 c.args.sums.widest)) (to_z w64 (of_z w64 c.min-room.result))) (IsEquationQuiet c.args.b.now c.args.lit c.args.limit c.args.sums) (λ e. record {

@@ -3,7 +3,7 @@ use Rattle.std.proofs.Common.{ℕ, ℤ, pos, ◌≤ℤ◌, get_or, subst, arith}
 use Rattle.std.proofs.lemmas.Int.{ints}
 use borrow.Author.Count.{below_more}
 use Rattle.guarded_tell.specs.Linear.{least_of, greatest_of}
-use Rattle.guarded_tell.specs.Short.{IsSmall, IsTermOf, growth_of}
+use Rattle.guarded_tell.specs.Short.{HasBounds, IsTermOf, growth_of}
 use Rattle.guarded_tell.proofs.TermLaws.{sum_over-drop, sum_over-drop_all}
 use Rattle.guarded_tell.proofs.ShortLaws.{short_number}
 use Rattle.guarded_tell.proofs.short.short_sums.Goals as goal
@@ -18,7 +18,7 @@ loop-i-preserved c =
     let least_step = sum_over-drop (least_of c.args.b.now) c.args.coeffs.now c.args.vars.now at same inside in
     let greatest_step = sum_over-drop (greatest_of c.args.b.now) c.args.coeffs.now c.args.vars.now at same inside in
     let more = c.in_ok-sums.ensures in
-    let S : ℕ → Type 0 = λ k. IsSmall c.args.b.now (get_or c.args.coeffs.now k (pos 0)) (get_or c.args.vars.now k 0) in
+    let S : ℕ → Type 0 = λ k. HasBounds c.args.b.now (get_or c.args.vars.now k 0) in
     let W : ℕ → Type 0 = λ k. growth_of c.args.b.now (get_or c.args.coeffs.now k (pos 0)) (get_or c.args.vars.now k 0) ≤ℤ c.in_ok-sums.sums.widest in
     record {
       least = omega (arith, ints, more.least, term.least, c.loop-i.invariant.least);
@@ -26,7 +26,7 @@ loop-i-preserved c =
       least_in_range = more.least_in_range;
       greatest_in_range = more.greatest_in_range;
       above_zero = omega (arith, ints, more.wider, c.loop-i.invariant.above_zero);
-      small = below_more S at c.loop-i.invariant.small term.small;
+      bounds = below_more S at c.loop-i.invariant.bounds term.bounds;
       within = below_more W at (λ k h. omega (arith, ints, more.wider, c.loop-i.invariant.within k h)) (omega (arith, ints, more.within, term.least, term.greatest));
     }
 
@@ -35,11 +35,13 @@ returns c =
     let least_end = sum_over-drop_all (least_of c.args.b.now) c.args.coeffs.now c.args.vars.now c.loop-i.i c.requires.linear.same_length c.loop-i-test.false in
     let greatest_end = sum_over-drop_all (greatest_of c.args.b.now) c.args.coeffs.now c.args.vars.now c.loop-i.i c.requires.linear.same_length c.loop-i-test.false in
     record {
-      least = omega (arith, ints, c.loop-i.invariant.least);
-      greatest = omega (arith, ints, c.loop-i.invariant.greatest);
+      sums = record {
+        least = omega (arith, ints, c.loop-i.invariant.least);
+        greatest = omega (arith, ints, c.loop-i.invariant.greatest);
+        above_zero = c.loop-i.invariant.above_zero;
+        bounds = λ k h. c.loop-i.invariant.bounds k (omega arith);
+        within = λ k h. c.loop-i.invariant.within k (omega arith);
+      };
       least_in_range = c.loop-i.invariant.least_in_range;
       greatest_in_range = c.loop-i.invariant.greatest_in_range;
-      above_zero = c.loop-i.invariant.above_zero;
-      small = λ k h. c.loop-i.invariant.small k (omega arith);
-      within = λ k h. c.loop-i.invariant.within k (omega arith);
     }

@@ -2,7 +2,7 @@
 use Rattle.std.proofs.Common.{◌≡◌, ℕ, pos, ◌+ℤ◌, ◌≤ℤ◌, ◌<◌, ◌≤◌, drop, get_or, unsigned_abs}
 use Rattle.std.specs.List.{zip}
 use Rattle.guarded_tell.specs.Linear.{sum_over, least_of, greatest_of}
-use Rattle.guarded_tell.specs.Short.{short_sum_limit, IsSmall, growth_of}
+use Rattle.guarded_tell.specs.Short.{short_sum_limit, HasBounds, growth_of}
 use Rattle.guarded_tell.proofs.short.short_sums.Given as goal
 
 abbrev pub invariant-loop-i : goal.invariant-loop-i
@@ -12,6 +12,6 @@ invariant-loop-i l = record {
   least_in_range : unsigned_abs l.sums.least ≤ short_sum_limit;
   greatest_in_range : unsigned_abs l.sums.greatest ≤ short_sum_limit;
   above_zero : pos 0 ≤ℤ l.sums.widest;
-  small : (k : ℕ) → k < l.i → IsSmall l.b (get_or l.coeffs k (pos 0)) (get_or l.vars k 0);
+  bounds : (k : ℕ) → k < l.i → HasBounds l.b (get_or l.vars k 0);
   within : (k : ℕ) → k < l.i → growth_of l.b (get_or l.coeffs k (pos 0)) (get_or l.vars k 0) ≤ℤ l.sums.widest;
 }

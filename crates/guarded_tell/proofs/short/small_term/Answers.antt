@@ -4,7 +4,7 @@ use Rattle.std.proofs.lemmas.Int.{ints}
 use Rattle.std.specs.Int.{int_min, int_max}
 use Rattle.interval.specs.Boxes.{low_of, high_of}
 use Rattle.guarded_tell.specs.Linear.{least_of, greatest_of}
-use Rattle.guarded_tell.proofs.ShortLaws.{short_fits, product_at, min_small, max_small}
+use Rattle.guarded_tell.proofs.ShortLaws.{short_fits, bound_of, product_at, min_small, max_small}
 use Rattle.guarded_tell.proofs.short.small_term.Goals as goal
 
 pub returns : goal.returns
@@ -16,15 +16,15 @@ returns c =
     let at_high = product_at c.args.coeff c.high-high.result (high_of c.args.b.now c.args.var) c.small_product-at_high.result c.ranges.coeff c.high-high.ensures.in_range c.high-high.ensures.value high.value high.in_range in
     let least = min_small c.small_product-at_low.result c.small_product-at_high.result c.min.result low.in_range high.in_range c.min.ensures.value in
     let greatest = max_small c.small_product-at_low.result c.small_product-at_high.result c.max.result low.in_range high.in_range c.max.ensures.value in
-    let small = c.if-not-are_small.ensures in
     record {
-      small = record {
-        coefficient = omega (arith, ints, small.coefficient);
-        low = omega (arith, ints, small.low, c.low-low.ensures.value);
-        high = omega (arith, ints, small.high, c.high-high.ensures.value);
+      bounds = record {
+        low = bound_of c.low-low.result (low_of c.args.b.now c.args.var) c.low-low.ensures.in_range c.low-low.ensures.value;
+        high = bound_of c.high-high.result (high_of c.args.b.now c.args.var) c.high-high.ensures.in_range c.high-high.ensures.value;
       };
       least = short_fits c.min.result least ∙ c.min.ensures.value ∙ (λ i. int_min (at_low i) (at_high i));
       greatest = short_fits c.max.result greatest ∙ c.max.ensures.value ∙ (λ i. int_max (at_low i) (at_high i));
-      least_in_range = rw (short_fits c.min.result least) least;
-      greatest_in_range = rw (short_fits c.max.result greatest) greatest;
+      small = record {
+        least = rw (short_fits c.min.result least) least;
+        greatest = rw (short_fits c.max.result greatest) greatest;
+      };
     }

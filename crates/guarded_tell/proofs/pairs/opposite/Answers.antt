@@ -1,0 +1,8 @@
+-- The opposites of its bounds.
+use Rattle.std.proofs.Common.{arith}
+use Rattle.std.proofs.lemmas.Int.{ints}
+use Rattle.guarded_tell.proofs.PairLaws.{opposite_term}
+use Rattle.guarded_tell.proofs.pairs.opposite.Goals as goal
+
+pub returns : goal.returns
+returns c = opposite_term c.args.b.now c.args.var c.low.result c.high.result c.low.ensures.in_range c.high.ensures.in_range c.low.ensures.value c.high.ensures.value c.requires.proper

@@ -1,0 +1,9 @@
+-- Its bounds.
+use Rattle.std.proofs.Common.{arith}
+use Rattle.std.proofs.lemmas.Int.{ints}
+use Rattle.interval.specs.Boxes.{low_of, high_of}
+use Rattle.guarded_tell.proofs.PairLaws.{plain_term}
+use Rattle.guarded_tell.proofs.pairs.plain.Goals as goal
+
+pub returns : goal.returns
+returns c = plain_term c.args.b.now c.args.var c.low.result c.high.result c.low.ensures.in_range c.high.ensures.in_range c.low.ensures.value c.high.ensures.value c.requires.proper

@@ -26,10 +26,12 @@ fn difference(alloc: Global, x: u32, y: u32, limit: i64) -> Result<Kernel, Alloc
     requires limit { IsNumber limit }
     ensures { IfOk result (IsKernel 3) }
 {
+    let numbers = SharedList::from_vec(vec![in alloc; 1, -1]?)?;
+    let variables = SharedList::from_vec(vec![in alloc; x, y]?)?;
     Ok(Kernel::Le {
         lit: TRUE,
-        coeffs: SharedList::from_vec(vec![in alloc; 1, -1]?)?,
-        vars: SharedList::from_vec(vec![in alloc; x, y]?)?,
+        coeffs: numbers,
+        vars: variables,
         limit,
     })
 }

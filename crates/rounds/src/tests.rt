@@ -30,10 +30,12 @@ fn at_most(alloc: Global, coeffs: &[i64], vars: &[u32], limit: i64) -> Result<Ke
     requires limit { IsTrue (is_small limit) }
     ensures { IfOk result (IsKernel 4) }
 {
+    let numbers = SharedList::from_vec(Vec::from_slice(alloc, coeffs)?)?;
+    let variables = SharedList::from_vec(Vec::from_slice(alloc, vars)?)?;
     Ok(Kernel::Le {
         lit: TRUE,
-        coeffs: SharedList::from_vec(Vec::from_slice(alloc, coeffs)?)?,
-        vars: SharedList::from_vec(Vec::from_slice(alloc, vars)?)?,
+        coeffs: numbers,
+        vars: variables,
         limit,
     })
 }
@@ -47,10 +49,12 @@ fn equal(alloc: Global, coeffs: &[i64], vars: &[u32], limit: i64) -> Result<Kern
     requires limit { IsTrue (is_small limit) }
     ensures { IfOk result (IsKernel 4) }
 {
+    let numbers = SharedList::from_vec(Vec::from_slice(alloc, coeffs)?)?;
+    let variables = SharedList::from_vec(Vec::from_slice(alloc, vars)?)?;
     Ok(Kernel::Eq {
         lit: TRUE,
-        coeffs: SharedList::from_vec(Vec::from_slice(alloc, coeffs)?)?,
-        vars: SharedList::from_vec(Vec::from_slice(alloc, vars)?)?,
+        coeffs: numbers,
+        vars: variables,
         limit,
     })
 }

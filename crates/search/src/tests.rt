@@ -17,9 +17,9 @@ use decompose::{Program, compile};
 use guarded_tell::{Kernel, Lit};
 use interval::{BoxOf, NoMemory, clamp_bound, law_inside_order};
 use list_of::ListOf;
-use shared_list::SharedList;
 use moved_set::Masks;
 use rounds::{Gate, NoGate};
+use shared_list::SharedList;
 use std::alloc::{AllocError, Global};
 use std::sync::atomic::{AtomicBool, Ordering};
 use std::test::Fail;
@@ -105,10 +105,12 @@ fn below(alloc: Global, x: u32, y: u32) -> Result<Kernel, AllocError>
     requires y_in_box { y < 3 }
     ensures { IfOk result (IsKernel 3) }
 {
+    let numbers = SharedList::from_vec(vec![in alloc; 1, -1]?)?;
+    let variables = SharedList::from_vec(vec![in alloc; x, y]?)?;
     Ok(Kernel::Le {
         lit: TRUE,
-        coeffs: SharedList::from_vec(vec![in alloc; 1, -1]?)?,
-        vars: SharedList::from_vec(vec![in alloc; x, y]?)?,
+        coeffs: numbers,
+        vars: variables,
         limit: -1,
     })
 }

@@ -3,4 +3,4 @@ use Rattle.guarded_tell.proofs.Examples.{clause_made}
 use Rattle.guarded_tell.proofs.list_tests.clause.Goals as goal
 
 pub returns : goal.returns
-returns c = clause_made c.from_vec-lits.result (c.from_vec-lits.ensures ∙ c.in_ok-vec.ensures.items)
+returns c = clause_made c.in_ok-lits.lits (c.in_ok-lits.ensures ∙ c.in_ok-vec.ensures.items)

@@ -1,7 +1,7 @@
 -- The runs that some workers made, and their ends in order.
-use Rattle.std.specs.Prelude.{ℕ, ◌≡◌, ◌↔◌, List, map, length, slice_get, Some}
+use Rattle.std.specs.Prelude.{ℕ, ◌≡◌, ◌≤◌, ◌↔◌, List, map, length, slice_get, Some}
 use Rattle.std.specs.List.{Contains}
-use Rattle.tickets.specs.Counting.{IsEachOnce}
+use Rattle.tickets.specs.Counting.{times, IsEachOnce}
 
 -- the numbers of some runs, in the order in which they were made
 abbrev pub numbers_of : {E : Type 0} → List (ℕ × E) → List ℕ
@@ -18,3 +18,10 @@ pub record AreEndsOf {E : Type 0} (count : ℕ) (stands : List (ℕ × E) → Ty
   pub runs : List (ℕ × E)
   pub stand : stands runs
   pub in_order : AreInOrder count runs ends
+
+-- This stands of some runs: none of a number that isn't below the count, and of each number one at most
+pub record AreSomeRuns {E : Type 0} (count : ℕ) (stands : List (ℕ × E) → Type 0) : Type 0 where
+  pub runs : List (ℕ × E)
+  pub stand : stands runs
+  pub once : (k : ℕ) → times k (numbers_of runs) ≤ 1
+  pub below : (k : ℕ) → count ≤ k → times k (numbers_of runs) ≡ 0

@@ -6,7 +6,7 @@ ghost use Rattle.std.specs.List.{All};
 ghost use Rattle.tickets.specs.Counting.{IsEachOnce};
 ghost use Rattle.tickets.specs.Seats.{count_of, next_of, ticket_parts};
 ghost use Rattle.crew.specs.Ends.{numbers_of};
-ghost use Rattle.crew.specs.AtWork.{HaveRun, AreSeats, IsHired, IsBack, IsRun};
+ghost use Rattle.crew.specs.AtWork.{HaveRun, HaveRunSome, AreSeats, IsHired, IsBack, IsRun, KeepsRuns};
 ghost use Rattle.crew.specs.declared.worker.Worker.{Worker};
 
 use crate::job::Job;
@@ -63,6 +63,7 @@ fn take_in<S, W: Drop, E: Drop, J: Job<S, W, E>>(
     ensures parts { ticket_parts first.new ≡ ticket_parts first.old + 1 }
     ensures passed { OnTrue result (next_of first.new ≡ count_of tickets.now) }
     ensures run { OnTrue result (HaveRun (J.stands job.now) first.old seat.old runs.old.items → HaveRun (J.stands job.now) first.new seat.new runs.new.items) }
+    ensures made { HaveRunSome (J.stands job.now) first.old seat.old → HaveRunSome (J.stands job.now) worker.tickets worker.seat → HaveRunSome (J.stands job.now) first.new seat.new }
 {
     let Worker {
         tickets: numbers,
@@ -88,6 +89,7 @@ fn dismiss<S, W: Drop, E: Drop, J: Job<S, W, E>>(
     requires worker { IsHired tickets.now (J.fits job.now) J.has_parts (J.owns job.now) (J.stands job.now) worker }
     ensures seats { AreSeats tickets.now (J.fits job.now) J.has_parts first.new seat.new }
     ensures parts { ticket_parts first.new ≡ ticket_parts first.old + 1 }
+    ensures made { HaveRunSome (J.stands job.now) first.old seat.old → HaveRunSome (J.stands job.now) first.new seat.new }
 {
     let Worker {
         tickets: numbers,
@@ -116,6 +118,7 @@ fn hire_one<S: Drop, W: Drop, E: Drop, J: Job<S, W, E>>(
     ensures seats { AreSeats tickets.now (J.fits job.now) J.has_parts first.new seat.new }
     ensures parts { ticket_parts first.new + length workers.new.items ≡ ticket_parts first.old + length workers.old.items }
     ensures none { OnOk result (HaveRun (J.stands job.now) first.new seat.new []) }
+    ensures made { HaveRunSome (J.stands job.now) first.new seat.new }
     ensures hired { All (IsHired tickets.now (J.fits job.now) J.has_parts (J.owns job.now) (J.stands job.now)) workers.new.items }
     ensures count { OnOk result (length workers.new.items ≡ length workers.old.items + 1) }
 {
@@ -148,6 +151,7 @@ pub(crate) fn hire_all<S: Drop, W: Drop, E: Drop, J: Job<S, W, E>>(
     ensures seats { AreSeats tickets.now (J.fits job.now) J.has_parts first.new seat.new }
     ensures parts { ticket_parts first.new + length workers.new.items ≡ 1024 }
     ensures none { OnOk result (HaveRun (J.stands job.now) first.new seat.new []) }
+    ensures made { HaveRunSome (J.stands job.now) first.new seat.new }
     ensures hired { All (IsHired tickets.now (J.fits job.now) J.has_parts (J.owns job.now) (J.stands job.now)) workers.new.items }
     ensures count { OnOk result (length workers.new.items ≡ length turns.now) }
 {
@@ -172,7 +176,8 @@ pub(crate) fn work_all<
     requires does { (own : _) (seat : _) (number : ℕ) (r : _) (own2 : _) (seat2 : _) → number < J.count job.now → J.owns job.now own.now → J.fits job.now seat.now → F.post run.now own seat number r own2 seat2 → IsRun (J.fits job.now) J.has_parts (J.owns job.now) (J.stands job.now) own2.now seat.now seat2.now number r }
     requires count { count_of tickets.now ≡ J.count job.now }
     requires hired { All (IsHired tickets.now (J.fits job.now) J.has_parts (J.owns job.now) (J.stands job.now)) workers.old }
-    ensures { (i : ℕ) (d : Worker S W E) → i < length workers.old → IsBack tickets.now (J.fits job.now) J.has_parts (J.stands job.now) (slice_index_or workers.new i d) }
+    ensures back { (i : ℕ) (d : Worker S W E) → i < length workers.old → IsBack tickets.now (J.fits job.now) J.has_parts (J.stands job.now) (slice_index_or workers.new i d) }
+    ensures made { ((own : _) (seat : _) (number : ℕ) (r : _) (own2 : _) (seat2 : _) → number < J.count job.now → J.owns job.now own.now → J.fits job.now seat.now → F.post run.now own seat number r own2 seat2 → KeepsRuns (J.stands job.now) seat.now seat2.now r) → (i : ℕ) (d : Worker S W E) → i < length workers.old → HaveRunSome (J.stands job.now) (slice_index_or workers.new i d).tickets (slice_index_or workers.new i d).seat }
 {
     if workers.len() == 1 {
         work(tickets, job, run, gate, &mut workers[0]);
@@ -185,7 +190,8 @@ pub(crate) fn work_all<
         threads,
         &|_, worker: &mut Worker<S, W, E>|
             requires { (count_of tickets.now ≡ J.count job.now) × ((own : _) (seat : _) (number : ℕ) → number < J.count job.now → J.owns job.now own.now → J.fits job.now seat.now → F.pre run.now own seat number) × ((own : _) (seat : _) (number : ℕ) (r : _) (own2 : _) (seat2 : _) → number < J.count job.now → J.owns job.now own.now → J.fits job.now seat.now → F.post run.now own seat number r own2 seat2 → IsRun (J.fits job.now) J.has_parts (J.owns job.now) (J.stands job.now) own2.now seat.now seat2.now number r) × IsHired tickets.now (J.fits job.now) J.has_parts (J.owns job.now) (J.stands job.now) worker.now }
-            ensures { IsBack tickets.entry.now (J.fits job.entry.now) J.has_parts (J.stands job.entry.now) worker.exit.now }
+            ensures back { IsBack tickets.entry.now (J.fits job.entry.now) J.has_parts (J.stands job.entry.now) worker.exit.now }
+            ensures made { ((own : _) (seat : _) (number : ℕ) (r : _) (own2 : _) (seat2 : _) → number < J.count job.entry.now → J.owns job.entry.now own.now → J.fits job.entry.now seat.now → F.post run.entry.now own seat number r own2 seat2 → KeepsRuns (J.stands job.entry.now) seat.now seat2.now r) → HaveRunSome (J.stands job.entry.now) worker.exit.now.tickets worker.exit.now.seat }
         { work(tickets, job, run, gate, worker) },
     );
 }
@@ -205,6 +211,7 @@ pub(crate) fn take_all<S: Drop, W: Drop, E: Drop, J: Job<S, W, E>>(
     ensures seats { AreSeats tickets.now (J.fits job.now) J.has_parts first.new seat.new }
     ensures parts { ticket_parts first.new ≡ 1024 }
     ensures run { HaveRun (J.stands job.now) first.old seat.old [] → IfOk result (λ runs. HaveRun (J.stands job.now) first.new seat.new runs.items) }
+    ensures made { HaveRunSome (J.stands job.now) first.old seat.old → All (λ w. HaveRunSome (J.stands job.now) w.tickets w.seat) workers.items → HaveRunSome (J.stands job.now) first.new seat.new }
     ensures each_once { HaveRun (J.stands job.now) first.old seat.old [] → IfOk result (λ runs. 0 < length workers.items → IsEachOnce (count_of tickets.now) (numbers_of runs.items)) }
 {
     let mut workers = workers;

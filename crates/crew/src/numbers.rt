@@ -1,11 +1,11 @@
 //! All numbers of a job, run by a crew.
 
-ghost use Rattle.std.specs.Prelude.{◌≡◌, ◌<◌, ◌≤◌, ℕ, ◌+◌, [], length, IfOk, OnOk};
+ghost use Rattle.std.specs.Prelude.{◌≡◌, ◌<◌, ◌≤◌, ℕ, ◌+◌, [], length, IfOk, OnOk, OnErr};
 ghost use Rattle.std.specs.List.{All};
 ghost use Rattle.tickets.specs.Seats.{count_of, ticket_parts};
-ghost use Rattle.crew.specs.Ends.{AreEndsOf};
+ghost use Rattle.crew.specs.Ends.{AreEndsOf, AreSomeRuns};
 ghost use Rattle.crew.specs.Crews.{workers_of};
-ghost use Rattle.crew.specs.AtWork.{HaveRun, AreSeats, IsBack, IsRun};
+ghost use Rattle.crew.specs.AtWork.{HaveRun, HaveRunSome, AreSeats, IsBack, IsRun, KeepsRuns};
 
 use crate::ends::in_order;
 use crate::hiring::{hire_all, take_all, work_all};
@@ -51,6 +51,8 @@ fn hire_and_work<
     ensures parts { ticket_parts first.new + length workers.new.items ≡ 1024 }
     ensures none { OnOk result (HaveRun (J.stands job.now) first.new seat.new []) }
     ensures back { All (IsBack tickets.now (J.fits job.now) J.has_parts (J.stands job.now)) workers.new.items }
+    ensures made { HaveRunSome (J.stands job.now) first.new seat.new }
+    ensures all_made { ((own : _) (seat : _) (number : ℕ) (r : _) (own2 : _) (seat2 : _) → number < J.count job.now → J.owns job.now own.now → J.fits job.now seat.now → F.post run.now own seat number r own2 seat2 → KeepsRuns (J.stands job.now) seat.now seat2.now r) → All (λ w. HaveRunSome (J.stands job.now) w.tickets w.seat) workers.new.items }
     ensures some { OnOk result (1 ≤ length workers.new.items) }
     ensures crew { workers_of crew.new ≡ workers_of crew.old }
 {
@@ -89,6 +91,7 @@ pub fn run_numbers<
     requires parts { J.has_parts seat.old 1024 }
     requires none { J.stands job.now seat.old [] }
     ensures ends { IfOk result (AreEndsOf count (J.stands job.now seat.new)) }
+    ensures made { ((own : _) (seat : _) (number : ℕ) (r : _) (own2 : _) (seat2 : _) → number < J.count job.now → J.owns job.now own.now → J.fits job.now seat.now → F.post run.now own seat number r own2 seat2 → KeepsRuns (J.stands job.now) seat.now seat2.now r) → OnErr result (AreSomeRuns count (J.stands job.now seat.new)) }
     ensures fits { J.fits job.now seat.new }
     ensures parts { J.has_parts seat.new 1024 }
     ensures crew { workers_of crew.new ≡ workers_of crew.old }

@@ -142,6 +142,7 @@ fn where_memory_is_refused_all_workers_are_taken_in(rt: HostRuntime) -> Result<(
         let ends = double_all(&rt, rt.alloc(), &mut crew, &job, 64, &NoGate, &mut seat);
         assert!(rt; ends.is_err());
         assert_eq!(rt; seat.runs, job.made.load(Ordering::SeqCst));
+        assert!(rt; seat.runs < 64);
     }
     Ok(())
 }

@@ -1,9 +1,9 @@
 //! One worker, which draws numbers and runs them until none is left.
 
-ghost use Rattle.std.specs.Prelude.{◌≡◌, ◌<◌, ℕ, ◌≤◌, IfOk, OnOk};
+ghost use Rattle.std.specs.Prelude.{◌≡◌, ◌<◌, ℕ, ◌≤◌, IfOk, OnOk, OnErr};
 ghost use Rattle.std.specs.Bool.{OnTrue, OnFalse};
 ghost use Rattle.tickets.specs.Seats.{count_of, next_of};
-ghost use Rattle.crew.specs.AtWork.{HasSeats, HaveRun, MayDraw, IsHired, IsBack, IsRun};
+ghost use Rattle.crew.specs.AtWork.{HasSeats, HaveRun, HaveRunSome, MayDraw, IsHired, IsBack, IsRun, KeepsRuns};
 
 use crate::job::Job;
 use gate::Gate;
@@ -53,6 +53,7 @@ fn run_next<
     ensures may_draw { IfOk result (λ _. MayDraw (J.owns job.now) (J.stands job.now) worker.new) }
     ensures went_on { IfOk result (λ went_on. OnTrue went_on (next_of worker.old.tickets < next_of worker.new.tickets)) }
     ensures bound { next_of worker.new.tickets ≤ count_of tickets.now }
+    ensures made { ((own : _) (seat : _) (number : ℕ) (r : _) (own2 : _) (seat2 : _) → number < J.count job.now → J.owns job.now own.now → J.fits job.now seat.now → F.post run.now own seat number r own2 seat2 → KeepsRuns (J.stands job.now) seat.now seat2.now r) → OnErr result (HaveRunSome (J.stands job.now) worker.new.tickets worker.new.seat) }
     ensures ended { IfOk result (λ went_on. OnFalse went_on (next_of worker.new.tickets ≡ count_of tickets.now)) }
 {
     gate.pass(worker.number, worker.turn);
@@ -89,6 +90,7 @@ fn run_all<
     ensures seats { HasSeats tickets.now (J.fits job.now) J.has_parts worker.new }
     ensures passed { OnOk result (next_of worker.new.tickets ≡ count_of tickets.now) }
     ensures run { OnOk result (HaveRun (J.stands job.now) worker.new.tickets worker.new.seat worker.new.runs.items) }
+    ensures made { ((own : _) (seat : _) (number : ℕ) (r : _) (own2 : _) (seat2 : _) → number < J.count job.now → J.owns job.now own.now → J.fits job.now seat.now → F.post run.now own seat number r own2 seat2 → KeepsRuns (J.stands job.now) seat.now seat2.now r) → OnErr result (HaveRunSome (J.stands job.now) worker.new.tickets worker.new.seat) }
 {
     'draws: while run_next(tickets, job, run, gate, worker)? {}
     Ok(())
@@ -107,7 +109,8 @@ pub(crate) fn work<
     requires does { (own : _) (seat : _) (number : ℕ) (r : _) (own2 : _) (seat2 : _) → number < J.count job.now → J.owns job.now own.now → J.fits job.now seat.now → F.post run.now own seat number r own2 seat2 → IsRun (J.fits job.now) J.has_parts (J.owns job.now) (J.stands job.now) own2.now seat.now seat2.now number r }
     requires count { count_of tickets.now ≡ J.count job.now }
     requires hired { IsHired tickets.now (J.fits job.now) J.has_parts (J.owns job.now) (J.stands job.now) worker.old }
-    ensures { IsBack tickets.now (J.fits job.now) J.has_parts (J.stands job.now) worker.new }
+    ensures back { IsBack tickets.now (J.fits job.now) J.has_parts (J.stands job.now) worker.new }
+    ensures made { ((own : _) (seat : _) (number : ℕ) (r : _) (own2 : _) (seat2 : _) → number < J.count job.now → J.owns job.now own.now → J.fits job.now seat.now → F.post run.now own seat number r own2 seat2 → KeepsRuns (J.stands job.now) seat.now seat2.now r) → HaveRunSome (J.stands job.now) worker.new.tickets worker.new.seat }
 {
     let ended = run_all(tickets, job, run, gate, worker);
     worker.is_done = ended.is_ok();

@@ -1,9 +1,10 @@
 //! What narrows alone, by propagation that asks what moved.
 
-ghost use Rattle.std.specs.Prelude.{◌≡◌, ◌≤◌, ℕ, length, All, IfOk};
+ghost use Rattle.std.specs.Prelude.{◌≡◌, ◌≤◌, ℕ, length, All, IfOk, OnErr};
 ghost use Rattle.interval.specs.Limits.{box_limit};
 ghost use Rattle.interval.specs.Boxes.{IsProper};
 ghost use Rattle.guarded_tell.specs.Kernels.{IsKernel};
+ghost use Rattle.fixpoint_laws.specs.Rounds.{HaveRun};
 ghost use Rattle.moved_fixpoint.specs.Moved.{AreMasksOf, IsEmpty, AreMovedOrQuiet};
 ghost use Rattle.narrowing.specs.Narrowing.{IsNarrowed};
 ghost use Rattle.narrowing.specs.Narrowers.{IsAloneFor};
@@ -66,6 +67,7 @@ impl Alone {
         ensures same_length { length b.new.current ≡ length b.old.current }
         ensures none { IsEmpty self.new.sets.moved }
         ensures narrowed { IfOk result (IsNarrowed what.now.kernels.now what.now.round_limit b.old.current b.new.current) }
+        ensures err { OnErr result (HaveRun what.now.kernels.now b.old.current b.new.current) }
     {
         match settle_proper(
             b,

@@ -1,8 +1,9 @@
 //! Lanes that narrow together.
 
-ghost use Rattle.std.specs.Prelude.{◌≡◌, ◌<◌, ◌≤◌, ◌↔◌, length, All, IsTrue, IfOk, OnOk};
+ghost use Rattle.std.specs.Prelude.{◌≡◌, ◌<◌, ◌≤◌, ◌↔◌, length, All, IsTrue, IfOk, OnOk, OnErr};
 ghost use Rattle.interval.specs.Limits.{box_limit};
-ghost use Rattle.interval.specs.Boxes.{low_of, high_of, put_of};
+ghost use Rattle.interval.specs.Boxes.{IsInside, low_of, high_of, put_of};
+ghost use Rattle.fixpoint_laws.specs.Rounds.{HaveRun};
 ghost use Rattle.guarded_tell.specs.Kernels.{IsKernel};
 ghost use Rattle.narrowing.specs.Narrowing.{IsNarrowed};
 ghost use Rattle.narrowing.specs.Narrowers.{AreLanesFor};
@@ -42,6 +43,7 @@ fn take_bounds_of(b: &mut TrailedBox, other: &BoxOf, v: u32) -> Result<(), NoMem
     ensures current { OnOk result (b.new.current ≡ put_of b.old.current v (low_of other.now v) (high_of other.now v)) }
     ensures stack { b.new.stack ≡ b.old.stack }
     ensures same_length { length b.new.current ≡ length b.old.current }
+    ensures err { OnErr result (b.new.current ≡ b.old.current) }
 {
     let (low, high) = (other.low(v), other.high(v));
     if are_bounds(b, v, low, high) {
@@ -51,12 +53,15 @@ fn take_bounds_of(b: &mut TrailedBox, other: &BoxOf, v: u32) -> Result<(), NoMem
     Ok(())
 }
 
-/// Gives the box the bounds of the other, where they aren't the same. The stack stays as it is.
+/// Gives the box the bounds of the other, where they aren't the same. The stack stays as it is. Where memory is refused some
+/// variables have the bounds of the other, and some their own.
 fn take_bounds(b: &mut TrailedBox, other: &BoxOf) -> Result<(), NoMemory>
     requires { length other.now ≡ length b.old.current }
     ensures current { OnOk result (b.new.current ≡ other.now) }
     ensures stack { b.new.stack ≡ b.old.stack }
     ensures same_length { length b.new.current ≡ length b.old.current }
+    ensures inside { IsInside other.now b.old.current → OnErr result (IsInside b.new.current b.old.current) }
+    ensures around { IsInside other.now b.old.current → OnErr result (IsInside other.now b.new.current) }
 {
     law_inside_order();
     for v in 0..other.len() {
@@ -104,7 +109,9 @@ impl Lanes {
         ensures stack { b.new.stack ≡ b.old.stack }
         ensures same_length { length b.new.current ≡ length b.old.current }
         ensures narrowed { IfOk result (IsNarrowed what.now.kernels.now what.now.round_limit b.old.current b.new.current) }
+        ensures err { OnErr result (HaveRun what.now.kernels.now b.old.current b.new.current) }
     {
+        law_inside_order();
         let work = Work {
             start: b.current(),
             kernels: what.kernels,

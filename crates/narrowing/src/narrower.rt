@@ -1,10 +1,11 @@
 //! What narrows the boxes of one searcher.
 
-ghost use Rattle.std.specs.Prelude.{◌≡◌, ◌≤◌, ◌<◌, ℕ, ℤ, List, length, All, IfOk};
+ghost use Rattle.std.specs.Prelude.{◌≡◌, ◌≤◌, ◌<◌, ℕ, ℤ, List, length, All, IfOk, OnErr};
 ghost use Rattle.interval.specs.Limits.{box_limit};
 ghost use Rattle.interval.specs.Boxes.{Bounds, IsProper, put_of};
 ghost use Rattle.guarded_tell.specs.declared.kernel.Kernel.{Kernel};
 ghost use Rattle.guarded_tell.specs.Kernels.{IsKernel};
+ghost use Rattle.fixpoint_laws.specs.Rounds.{HaveRun};
 ghost use Rattle.moved_fixpoint.specs.Moved.{AreMasksOf};
 ghost use Rattle.rounds.specs.Shares.{share_limit};
 ghost use Rattle.narrowing.specs.Narrowing.{IsNarrowed};
@@ -94,7 +95,8 @@ impl Narrower {
 
     /// Narrows the proper box to the greatest closed box inside it, or finds that there is none, or gives up after so many rounds
     /// as the limit. Each kernel that names none of the variables that are noted has to be quiet on the box; none is noted
-    /// then. The stack stays as it is, and so it does where memory is refused.
+    /// then. The stack stays as it is. Where memory is refused the stack stays too, and the box is one between what it was and
+    /// the greatest closed box inside that.
     pub fn narrow<R: Threads + Sync, L: Gate + Sync>(
         &mut self,
         rt: &R,
@@ -113,6 +115,7 @@ impl Narrower {
         ensures same_length { length b.new.current ≡ length b.old.current }
         ensures none { NotesNone self.new }
         ensures narrowed { IfOk result (IsNarrowed what.now.kernels.now what.now.round_limit b.old.current b.new.current) }
+        ensures err { OnErr result (HaveRun what.now.kernels.now b.old.current b.new.current) }
     {
         match self {
             Narrower::Alone(alone) => alone.narrow(what, b),

@@ -1,5 +1,5 @@
 -- The loop of the search for the least cost follows the machine.
-use Rattle.std.proofs.Common.{◌≡◌, ◌≢◌, ℕ, zero, suc, ℤ, ◌+◌, ◌-◌, ◌<◌, ◌≤◌, ◌≤ℤ◌, neg_ℤ, ◌⊎◌, inl, inr, List, [], ◌∷◌, ◌++◌, length, take, map, reverse, Option, Some, None, refl, sym, ap, subst, ◌∙◌, arith, append-nil, length-append}
+use Rattle.std.proofs.Common.{◌≡◌, ◌≢◌, ℕ, zero, suc, ℤ, ◌+◌, ◌-◌, ◌<◌, ◌≤◌, ◌≤ℤ◌, neg_ℤ, ◌⊎◌, inl, inr, List, [], ◌∷◌, ◌++◌, length, take, map, reverse, Option, Some, None, Result, Ok, Err, OnErr, refl, sym, ap, subst, ◌∙◌, arith, append-nil, length-append}
 use Rattle.std.specs.Prelude.{IfSome, MatchOption, option_to_list}
 use Rattle.std.specs.List.{All, Any, Contains, sum_by}
 use Rattle.std.proofs.lemmas.Int.{ints, by_lt_z}
@@ -25,13 +25,13 @@ use Rattle.search.specs.declared.kind.Kind.{Kind}
 use Rattle.search.specs.declared.ends.Why.{Why}
 use Rattle.search.specs.Costs.{IsAtMost, IsTermIn, IsObjectiveIn}
 use Rattle.narrowing.specs.Narrowing.{MayGiveUp}
-use Rattle.search.specs.Machine.{Search, State, Node, is_dropped, is_solved, is_parted, MayFall, cut_by, best_after, Takes, GoesOn, Reached, stepped}
+use Rattle.search.specs.Machine.{Search, State, Node, is_dropped, is_solved, is_parted, MayFall, cut_by, best_after, Takes, GoesOn, Reached, begun, stepped}
 use Rattle.search.specs.Nodes.{IsNode}
 use Rattle.search.specs.Ends.{EndsDone, EndsOutOfNodes, EndsOutOfRounds, EndsSpent}
 use Rattle.search.specs.declared.closing.Closing.{Closing}
 use Rattle.search.specs.Closings.{IsClosing}
 use Rattle.search.specs.Laws.{IsInsideStart, RecordsSolutions, FindsLeast, MorePosted}
-use Rattle.search.specs.LeastEnds.{least_of, last_of, IsCost, PostsCosts, SeesCosts, CostAtLeast}
+use Rattle.search.specs.LeastEnds.{least_of, last_of, IsCost, PostsCosts, SeesCosts, IsBrokenOff, CostAtLeast}
 use Rattle.search.proofs.StackLaws.{some_left, weight, Lies, top_lies, cut_inside, step_less}
 use Rattle.search.proofs.PremiseLaws.{long_sub, runs_sub}
 use Rattle.search.proofs.SearchLaws.{IsCounted, below_limit, full_here}
@@ -367,3 +367,26 @@ with_objective (Some c) P h q = (h, q)
 -- a box has more variables than the model
 pub few_vars : (n m k : ℕ) → n < m → k ≡ m → n ≤ k - 1
 few_vars n m k h e = omega (arith, h, e)
+
+-- ---- where memory is refused
+
+-- what holds at any rate holds where a call is refused
+pub on_any_err : {T E P : Type 0} (r : Result T E) → P → OnErr r P
+on_any_err (Ok x) p = tt
+on_any_err (Err e) p = p
+
+-- nothing was taken from the stack
+pub broken_at_start : (s : Search) (posted : List ℤ) → IsBrokenOff s posted posted
+broken_at_start s posted = record {
+  state = record { stack = s.sub ∷ []; best = None; count = 0; found = [] };
+  reached = begun s (record { stack = s.sub ∷ []; best = None; count = 0; found = [] }) refl (inl refl) refl refl;
+  posts = posts_none s.model.goal posted;
+}
+
+-- a node is broken off, and so the state is the one before it; the seat has looked, and posted nothing
+pub broken_at_node : (s : Search) (state : State) (before middle after : List ℤ) → Reached s state → PostsCosts s.model.goal state.found before middle → after ≡ middle → IsBrokenOff s before after
+broken_at_node s state before middle after r p e = record {
+  state = state;
+  reached = r;
+  posts = subst (PostsCosts s.model.goal state.found before) (sym e) p;
+}

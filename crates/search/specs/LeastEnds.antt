@@ -9,7 +9,7 @@ use Rattle.decompose.specs.declared.program.Program.{Program}
 use Rattle.solution_lists.specs.Solutions.{SolvesInside}
 use Rattle.search.specs.declared.kind.Kind.{Kind}
 use Rattle.search.specs.declared.ends.LeastEnd.{LeastEnd}
-use Rattle.search.specs.Machine.{Search}
+use Rattle.search.specs.Machine.{Search, State, Reached}
 use Rattle.search.specs.Ends.{EndsDone, EndsSpent}
 
 -- the search of a box for the least cost, with these costs posted
@@ -57,6 +57,12 @@ pub record IsLeastEnd (s : Search) (before after : List ℤ) (end : LeastEnd) : 
   pub found : List (List ℤ)
   pub ends : EndsLeast s found end
   pub posts : PostsCosts s.model.goal found before after
+
+-- the search is broken off in a state that it reaches, and what it recorded by then was posted
+pub record IsBrokenOff (s : Search) (before after : List ℤ) : Type 0 where
+  pub state : State
+  pub reached : Reached s state
+  pub posts : PostsCosts s.model.goal state.found before after
 
 -- each solution in the box costs at least one of these costs
 abbrev pub CostAtLeast : FznModel → Bounds → List ℤ → Type 0

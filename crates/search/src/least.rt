@@ -1,6 +1,6 @@
 //! The run for the least cost: branch and bound, with the best cost shared.
 
-ghost use Rattle.std.specs.Prelude.{◌≡◌, ◌≢◌, ◌≤◌, ◌++◌, ◌↔◌, ℤ, length, All, IfOk, OnOk};
+ghost use Rattle.std.specs.Prelude.{◌≡◌, ◌≢◌, ◌≤◌, ◌++◌, ◌↔◌, ℤ, length, All, IfOk, OnOk, OnErr};
 ghost use Rattle.interval.specs.Limits.{IsNumber};
 ghost use Rattle.interval.specs.Boxes.{IsInside};
 ghost use Rattle.constraint_model.specs.declared.model.Goal.TheVariants.{Satisfy};
@@ -10,7 +10,7 @@ ghost use Rattle.best_bound.specs.Seats.{IsBestSeatOf, best_parts, costs_seen, c
 ghost use Rattle.search.specs.Costs.{IsObjectiveIn};
 ghost use Rattle.search.specs.Premises.{IsRun};
 ghost use Rattle.search.specs.Closings.{IsClosing};
-ghost use Rattle.search.specs.LeastEnds.{least_of, IsCost, PostsCosts, SeesCosts, IsLeastEnd, CostAtLeast, OnDone};
+ghost use Rattle.search.specs.LeastEnds.{least_of, IsCost, PostsCosts, SeesCosts, IsLeastEnd, IsBrokenOff, CostAtLeast, OnDone};
 
 use crate::closing::{Closing, counted, is_full};
 use crate::costs::cost;
@@ -28,7 +28,7 @@ use rounds::Gate;
 use std::alloc::{AllocError, Global};
 use std::thread::Threads;
 
-/// Records what a node found, a solution or nothing, and posts its cost.
+/// Records what a node found, a solution or nothing, and posts its cost. Where memory is refused nothing is posted.
 #[tactic(auto, unfolding(interval::specs::Limits::largest_number))]
 fn record_fresh<C: Costs>(
     goal: Goal,
@@ -47,6 +47,7 @@ fn record_fresh<C: Costs>(
     ensures recorded { OnOk result (found.new ≡ found.old ++ fresh.items) }
     ensures posted { OnOk result (PostsCosts goal fresh.items (costs_posted seat.old) (costs_posted seat.new)) }
     ensures seen { OnOk result (SeesCosts goal fresh.items (costs_seen seat.old) (costs_seen seat.new)) }
+    ensures err { OnErr result (seat.new ≡ seat.old) }
 {
     match fresh.pop() {
         None => Ok(()),
@@ -79,6 +80,7 @@ fn search_least<R: Threads + Sync, L: Gate + Sync, C: Costs>(
     ensures closing { IfOk result (λ closing. IsClosing (least_of run.now.model.now run.now.program.now run.now.node_limit run.now.round_limit (costs_seen seat.new) sub.now) closing) }
     ensures posted { IfOk result (λ closing. PostsCosts run.now.model.now.goal closing.found (costs_posted seat.old) (costs_posted seat.new)) }
     ensures least { IfOk result (λ closing. closing.stopped ≡ None → CostAtLeast run.now.model.now sub.now (costs_seen seat.new)) }
+    ensures err { OnErr result (IsBrokenOff (least_of run.now.model.now run.now.program.now run.now.node_limit run.now.round_limit (costs_seen seat.new) sub.now) (costs_posted seat.old) (costs_posted seat.new)) }
 {
     law_branches();
     law_inside_order();
@@ -120,7 +122,7 @@ fn search_least<R: Threads + Sync, L: Gate + Sync, C: Costs>(
 }
 
 /// Searches a box for a solution of least cost. Costs that other seats post are used as the best, and each that is found is
-/// posted.
+/// posted; those stay posted where memory is refused later.
 pub fn run_least<R: Threads + Sync, L: Gate + Sync, C: Costs>(
     rt: &R,
     alloc: Global,
@@ -139,6 +141,7 @@ pub fn run_least<R: Threads + Sync, L: Gate + Sync, C: Costs>(
     ensures kept { (cost : ℤ) → Among (costs_seen seat.old) cost → Among (costs_seen seat.new) cost }
     ensures end { IfOk result (λ end. IsLeastEnd (least_of run.now.model.now run.now.program.now run.now.node_limit run.now.round_limit (costs_seen seat.new) sub.now) (costs_posted seat.old) (costs_posted seat.new) end) }
     ensures least { IfOk result (λ end. OnDone end (CostAtLeast run.now.model.now sub.now (costs_seen seat.new))) }
+    ensures err { OnErr result (IsBrokenOff (least_of run.now.model.now run.now.program.now run.now.node_limit run.now.round_limit (costs_seen seat.new) sub.now) (costs_posted seat.old) (costs_posted seat.new)) }
 {
     let closing = search_least(rt, alloc, run, sub, best, seat)?;
     let Closing {

@@ -3,17 +3,18 @@ use Rattle.std.specs.List.{All}
 use Rattle.interval.specs.Boxes.{Bounds}
 use Rattle.solution_lists.specs.Solutions.{SolvesInside}
 use Rattle.best_bound.specs.Seats.{costs_seen, costs_posted}
+use Rattle.best_bound.specs.declared.seat.BestSeat.{BestSeat}
 use Rattle.search.specs.declared.kind.Kind.{Kind}
 use Rattle.search.specs.Machine.{Reached, begun, cut_by, best_after}
 use Rattle.search.specs.Nodes.{IsVisit}
-use Rattle.search.specs.LeastEnds.{least_of, PostsCosts, SeesCosts}
+use Rattle.search.specs.LeastEnds.{least_of, PostsCosts, SeesCosts, IsBrokenOff}
 use Rattle.search.specs.Costs.{IsObjectiveIn}
 use Rattle.search.specs.Premises.{CanSearch}
 use Rattle.search.specs.Stacks.{boxes_of, count_of}
 use Rattle.search.proofs.PremiseLaws.{can_search}
 use Rattle.search.proofs.RunLaws.{of_false}
 use Rattle.search.proofs.SearchLaws.{counted_more, of_done, of_given_up}
-use Rattle.search.proofs.LeastRunLaws.{premises, reached_after_look, falls_to, kept_by, lowest_number, objective_in, with_objective, few_vars, node_reached, out_of_rounds, node_less, recorded_solve, at_most_one, can_post, cost_posted, node_low, posts_more, posts_none, covered, contains_of, among_of, popped_none}
+use Rattle.search.proofs.LeastRunLaws.{premises, reached_after_look, falls_to, kept_by, lowest_number, objective_in, with_objective, few_vars, node_reached, out_of_rounds, node_less, recorded_solve, at_most_one, can_post, cost_posted, node_low, posts_more, posts_none, covered, contains_of, among_of, popped_none, on_any_err, broken_at_start, broken_at_node}
 use Rattle.search.proofs.least.search_least.Goals as goal
 
 pub boxes-init : goal.boxes-init
@@ -107,3 +108,20 @@ pub returns-clause-least : goal.returns-clause-least
 returns-clause-least g c =
     let empty = of_false c.has_next.result (boxes_of c.boxes.searcher ≡ []) c.boxes-test.false c.has_next.ensures.none in
     λ e. covered c.law_inside_order.ensures c.law_branches.ensures (least_of c.args.run.now.model.now c.args.run.now.program.now c.args.run.now.node_limit c.args.run.now.round_limit (costs_seen c.boxes.seat) c.args.sub.now) refl (premises c.args.run.now.model.now c.args.run.now.program.now c.args.run.now.node_limit c.args.run.now.round_limit c.args.sub.now c.requires.run.program c.requires.run.model c.requires.inside c.len-length.ensures.in_range (costs_seen c.boxes.seat)) c.requires.run.model (boxes_of c.boxes.searcher) c.boxes.invariant.lowest c.boxes.invariant.count c.boxes.found c.boxes.invariant.reached c.law_finds_least.ensures empty c.boxes.invariant.low
+
+pub returns-in_err-searcher-clause-err : goal.returns-in_err-searcher-clause-err
+returns-in_err-searcher-clause-err g c = on_any_err _ (broken_at_start (least_of c.args.run.now.model.now c.args.run.now.program.now c.args.run.now.node_limit c.args.run.now.round_limit (costs_seen c.args.seat.now) c.args.sub.now) (costs_posted c.args.seat.now))
+
+pub returns-in_err-node-clause-err : goal.returns-in_err-node-clause-err
+returns-in_err-node-clause-err g c = on_any_err _
+    (broken_at_node (least_of c.args.run.now.model.now c.args.run.now.program.now c.args.run.now.node_limit c.args.run.now.round_limit (costs_seen c.seen-lowest.new.seat) c.args.sub.now) (record { stack = boxes_of c.boxes.searcher; best = c.boxes.invariant.lowest; count = c.boxes.invariant.count; found = c.boxes.found })
+    (costs_posted c.args.seat.now) (costs_posted c.boxes.seat) (costs_posted c.seen-lowest.new.seat)
+    (reached_after_look c.args.run.now.model.now c.args.run.now.program.now c.args.run.now.node_limit c.args.run.now.round_limit c.args.sub.now c.requires.run.program c.requires.run.model c.requires.inside c.len-length.ensures.in_range c.law_more_posted.ensures (costs_seen c.boxes.seat) (costs_seen c.seen-lowest.new.seat) c.seen-lowest.result (record { stack = (boxes_of c.boxes.searcher); best = c.boxes.invariant.lowest; count = c.boxes.invariant.count; found = c.boxes.found }) c.seen-lowest.ensures.seen c.boxes.invariant.reached) c.boxes.invariant.posted c.seen-lowest.ensures.posted)
+
+pub returns-in_err-record_fresh-in-Done-clause-err : goal.returns-in_err-record_fresh-in-Done-clause-err
+returns-in_err-record_fresh-in-Done-clause-err g c = on_any_err _
+    (subst (λ (seat : BestSeat). IsBrokenOff (least_of c.args.run.now.model.now c.args.run.now.program.now c.args.run.now.node_limit c.args.run.now.round_limit (costs_seen seat) c.args.sub.now) (costs_posted c.args.seat.now) (costs_posted seat))
+    (sym c.in_err-record_fresh-in-Done.ensures.err)
+    (broken_at_node (least_of c.args.run.now.model.now c.args.run.now.program.now c.args.run.now.node_limit c.args.run.now.round_limit (costs_seen c.seen-lowest.new.seat) c.args.sub.now) (record { stack = boxes_of c.boxes.searcher; best = c.boxes.invariant.lowest; count = c.boxes.invariant.count; found = c.boxes.found })
+    (costs_posted c.args.seat.now) (costs_posted c.boxes.seat) (costs_posted c.seen-lowest.new.seat)
+    (reached_after_look c.args.run.now.model.now c.args.run.now.program.now c.args.run.now.node_limit c.args.run.now.round_limit c.args.sub.now c.requires.run.program c.requires.run.model c.requires.inside c.len-length.ensures.in_range c.law_more_posted.ensures (costs_seen c.boxes.seat) (costs_seen c.seen-lowest.new.seat) c.seen-lowest.result (record { stack = (boxes_of c.boxes.searcher); best = c.boxes.invariant.lowest; count = c.boxes.invariant.count; found = c.boxes.found }) c.seen-lowest.ensures.seen c.boxes.invariant.reached) c.boxes.invariant.posted c.seen-lowest.ensures.posted))

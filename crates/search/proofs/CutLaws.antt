@@ -1,5 +1,5 @@
 -- A box with its objective cut: it has the assignments of the box that cost so much at most.
-use Rattle.std.proofs.Common.{◌≡◌, ℕ, zero, suc, ℤ, pos, negsuc, ◌+◌, ◌<◌, ◌≤ℤ◌, ◌<ℤ◌, ◌-ℤ◌, neg_ℤ, List, [], ◌∷◌, ◌++◌, length, refl, sym, ap, subst, ◌∙◌, ◌⊎◌, inl, inr, Bool, true, false, cond, Option, Some, None, arith}
+use Rattle.std.proofs.Common.{◌≡◌, ℕ, zero, suc, ℤ, pos, ◌<◌, ◌≤ℤ◌, ◌<ℤ◌, neg_ℤ, List, [], ◌∷◌, length, refl, sym, ap, subst, ◌∙◌, Bool, true, false, cond, Option, Some, None, arith}
 use Rattle.std.specs.Prelude.{int_le, int_lt}
 use Rattle.std.specs.Int.{int_min, int_max}
 use Rattle.std.proofs.lemmas.Int.{ints}
@@ -7,14 +7,13 @@ use Rattle.std.proofs.lemmas.List.{get_or_append_left, set-get_or}
 use Rattle.interval.specs.Boxes.{Bounds, low_of, high_of, put_of, IsInside, InsideOrder}
 use Rattle.guarded_tell.specs.Words.{value_of}
 use Rattle.constraint_model.specs.declared.model.Term.{Term}
-use Rattle.constraint_model.specs.declared.model.VarDecl.{VarDecl}
 use Rattle.constraint_model.specs.declared.model.Goal.{Goal}
 use Rattle.constraint_model.specs.declared.model.FznModel.{FznModel}
 use Rattle.constraint_model.specs.Relations.{value, cost_of}
 use Rattle.constraint_model.specs.WellFormed.{constants_of, IsGoalOf}
 use Rattle.decompose.specs.Program.{fixed_box, extended}
 use Rattle.solution_lists.specs.Solutions.{LiesIn}
-use Rattle.search.specs.Costs.{up_to, from_on, where_at_most, at_most}
+use Rattle.search.specs.Costs.{up_to, from_on, at_most}
 use Rattle.search.proofs.BoxLaws.{low_put, high_put, put_inside, put_holds}
 
 -- the lesser of two numbers, and the greater

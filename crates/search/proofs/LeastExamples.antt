@@ -1,5 +1,5 @@
 -- The small model is well-formed.
-use Rattle.std.proofs.Common.{◌≡◌, ◌≢◌, ◌↔◌, ℕ, ℤ, pos, ◌<◌, ◌≤◌, unsigned_abs, true, false, [], ◌∷◌, length, refl, sym, ap, subst, lit≤, lit<, arith, ◌∙◌}
+use Rattle.std.proofs.Common.{◌≡◌, ◌≢◌, ◌↔◌, ℕ, ℤ, pos, ◌<◌, ◌≤◌, unsigned_abs, true, false, [], refl, sym, ap, subst, lit≤, lit<, arith, ◌∙◌}
 use Rattle.std.specs.List.{All}
 use Rattle.std.proofs.lemmas.List.Elements.{All-nil, All-cons}
 use Rattle.constraint_model.specs.declared.model.Term.{Term}

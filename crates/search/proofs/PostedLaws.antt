@@ -1,8 +1,8 @@
 -- Where more costs are posted a search reaches what it reached.
-use Rattle.std.proofs.Common.{◌≡◌, ℤ, List, inl, inr, Option, Some, None}
+use Rattle.std.proofs.Common.{ℤ, List, inl, inr, Option, None}
 use Rattle.std.specs.List.{Contains}
 use Rattle.interval.specs.Boxes.{Bounds}
-use Rattle.search.specs.Machine.{Search, State, MayFall, Takes, Step, GoesOn, Reached, begun, stepped}
+use Rattle.search.specs.Machine.{Search, State, MayFall, Takes, Reached, begun, stepped}
 use Rattle.search.specs.Laws.{MorePosted}
 
 module _ (s : Search) (more : List ℤ) (all : (cost : ℤ) → Contains s.posted cost → Contains more cost) where

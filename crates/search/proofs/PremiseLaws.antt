@@ -1,5 +1,5 @@
 -- What follows for a search inside the start of a model's program.
-use Rattle.std.proofs.Common.{◌≡◌, ℕ, suc, ℤ, ◌+◌, ◌<◌, List, ◌++◌, length, map, sym, subst, arith, length-append}
+use Rattle.std.proofs.Common.{ℕ, ℤ, ◌<◌, List, length, map, sym, subst, arith, length-append}
 use Rattle.std.specs.List.{All}
 use Rattle.std.proofs.lemmas.List.{length-map}
 use Rattle.interval.specs.Boxes.{Bounds, IsInside}

@@ -1,10 +1,9 @@
 -- What the tests' runs have to meet.
-use Rattle.std.proofs.Common.{◌≡◌, ℕ, ◌≤◌, ◌<◌, List, length, sym, subst, ◌∙◌, arith}
+use Rattle.std.proofs.Common.{◌≡◌, ℕ, ◌≤◌, List, length, sym, subst, ◌∙◌, arith}
 use Rattle.std.specs.List.{All}
 use Rattle.guarded_tell.specs.declared.kernel.Kernel.{Kernel}
 use Rattle.guarded_tell.specs.Kernels.{IsKernel}
 use Rattle.moved_set.specs.Sets.{IsNaming}
-use Rattle.moved_fixpoint.specs.Moved.{AreMasksOf}
 use Rattle.constraint_model.specs.WellFormed.{IsWellFormed}
 use Rattle.decompose.specs.Program.{IsProgramOf}
 use Rattle.search.specs.declared.run.Run.{Run}

@@ -1,5 +1,5 @@
 -- The search's loop follows the machine.
-use Rattle.std.proofs.Common.{◌≡◌, ◌≢◌, ℕ, ℤ, ◌+◌, ◌<◌, ◌≤◌, ◌⊎◌, inl, inr, List, [], ◌∷◌, ◌++◌, length, min, Option, None, sym, subst, refl, ◌∙◌, arith}
+use Rattle.std.proofs.Common.{◌≡◌, ◌≢◌, ℕ, ℤ, ◌+◌, ◌<◌, ◌≤◌, ◌⊎◌, inl, inr, List, [], ◌∷◌, ◌++◌, length, Option, None, sym, subst, refl, arith}
 use Rattle.std.specs.List.{All, sum_by}
 use Rattle.interval.specs.Boxes.{Bounds, IsInRange, InsideOrder}
 use Rattle.guarded_tell.specs.declared.kernel.Kernel.{Kernel}
@@ -10,11 +10,11 @@ use Rattle.constraint_model.specs.Searches.{IsSearchOf}
 use Rattle.branching.specs.Tree.{BranchLaws}
 use Rattle.search.specs.declared.kind.Kind.{Kind}
 use Rattle.narrowing.specs.Narrowing.{MayGiveUp}
-use Rattle.search.specs.Machine.{Search, State, Node, cut_by, best_after, Takes, GoesOn, Reached, stepped}
+use Rattle.search.specs.Machine.{Search, State, Node, best_after, Takes, GoesOn, Reached, stepped}
 use Rattle.search.specs.declared.node.Visit.{Visit}
 use Rattle.search.specs.Nodes.{IsNode, IsVisit}
 use Rattle.search.specs.Ends.{EndsDone, EndsOutOfNodes, EndsOutOfRounds, told_count}
-use Rattle.search.proofs.StackLaws.{some_left, weight, Lies, cut_inside, top_lies, step_less}
+use Rattle.search.proofs.StackLaws.{some_left, weight, Lies, top_lies, step_less}
 use Rattle.search.proofs.RunLaws.{no_cut}
 
 -- the count is within the limit, and told

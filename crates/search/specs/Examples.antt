@@ -1,5 +1,5 @@
 -- A small model that is searched by hand.
-use Rattle.std.specs.Prelude.{pos, false, List, [], ◌∷◌}
+use Rattle.std.specs.Prelude.{pos, false, [], ◌∷◌}
 use Rattle.constraint_model.specs.declared.model.Term.{Term}
 use Rattle.constraint_model.specs.declared.model.Operand.{Operand}
 use Rattle.constraint_model.specs.declared.model.VarDecl.{VarDecl}

@@ -3,10 +3,9 @@
 -- Source: depth-first branch and bound by propagation and branching, as the FlatZinc chapter of the MiniZinc Handbook has
 -- it in its solve items and search annotations.
 use Rattle.std.specs.Prelude.{◌≡◌, ◌≢◌, ◌⊎◌, ℕ, ◌+◌, ◌<◌, ℤ, pos, ◌-ℤ◌, List, [], ◌∷◌, ◌++◌, Option, Some, None, Contains}
-use Rattle.interval.specs.Boxes.{Bounds, IsInside, IsProper}
+use Rattle.interval.specs.Boxes.{Bounds}
 use Rattle.guarded_tell.specs.declared.kernel.Kernel.{Kernel}
-use Rattle.fixpoint_laws.specs.Fixpoints.{IsClosed, IsGreatest, Fails}
-use Rattle.fixpoint_laws.specs.OneRound.{LeadsIn}
+use Rattle.fixpoint_laws.specs.Fixpoints.{IsGreatest, Fails}
 use Rattle.constraint_model.specs.declared.model.Goal.{Goal}
 use Rattle.constraint_model.specs.declared.model.FznModel.{FznModel}
 use Rattle.constraint_model.specs.Relations.{cost_of}

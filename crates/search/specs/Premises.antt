@@ -1,6 +1,5 @@
 -- What is asked of a run.
 use Rattle.std.specs.Prelude.{ℕ, ◌<◌, ◌≤◌, length, All}
-use Rattle.interval.specs.Boxes.{Bounds}
 use Rattle.guarded_tell.specs.Kernels.{IsKernel}
 use Rattle.moved_fixpoint.specs.Moved.{AreMasksOf}
 use Rattle.constraint_model.specs.Searches.{IsSearchOf}

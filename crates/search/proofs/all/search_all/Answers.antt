@@ -1,10 +1,10 @@
-use Rattle.std.proofs.Common.{◌≡◌, None, ℕ, ◌+◌, length, refl, sym, subst, ◌∙◌, inl, inr, arith}
+use Rattle.std.proofs.Common.{◌≡◌, None, ℕ, ◌+◌, refl, sym, subst, ◌∙◌, inl, inr, arith}
 use Rattle.search.specs.declared.kind.Kind.{Kind}
 use Rattle.search.specs.Machine.{begun}
 use Rattle.search.specs.Ends.{search_of}
 use Rattle.search.specs.Stacks.{boxes_of}
 use Rattle.search.specs.Premises.{CanSearch}
-use Rattle.search.proofs.SearchLaws.{counted_more, node_reached, out_of_nodes, out_of_rounds, node_less, of_done, of_given_up}
+use Rattle.search.proofs.SearchLaws.{counted_more, node_reached, out_of_rounds, node_less, of_done, of_given_up}
 use Rattle.search.proofs.all.search_all.Goals as goal
 
 pub boxes-init : goal.boxes-init

@@ -1,4 +1,4 @@
-use Rattle.std.proofs.Common.{◌≡◌, None, ℕ, ◌+◌, [], length, refl, sym, ap, subst, ◌∙◌, inl, inr, arith}
+use Rattle.std.proofs.Common.{◌≡◌, None, ℕ, ◌+◌, [], refl, sym, ap, subst, ◌∙◌, inl, inr, arith}
 use Rattle.search.specs.declared.kind.Kind.{Kind}
 use Rattle.search.specs.declared.ends.Why.{Why}
 use Rattle.search.specs.Machine.{begun}
@@ -6,7 +6,7 @@ use Rattle.search.specs.Ends.{search_of, head_of}
 use Rattle.search.specs.Stacks.{boxes_of}
 use Rattle.search.specs.Premises.{CanSearch}
 use Rattle.search.proofs.RunLaws.{of_false, at_most, first_done, popped_is_head, first_spent}
-use Rattle.search.proofs.SearchLaws.{counted_more, node_reached, out_of_nodes, out_of_rounds, node_less, of_done, of_given_up, done_empty, done_first}
+use Rattle.search.proofs.SearchLaws.{counted_more, node_reached, out_of_rounds, node_less, of_done, of_given_up, done_empty, done_first}
 use Rattle.search.proofs.first.search_first.Goals as goal
 
 pub boxes-init : goal.boxes-init

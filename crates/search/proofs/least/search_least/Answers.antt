@@ -1,6 +1,5 @@
-use Rattle.std.proofs.Common.{◌≡◌, ◌+◌, ◌-◌, ◌≤◌, Some, ◌++◌, ℤ, List, [], ◌∷◌, None, length, get_or, ℕ, ap, refl, sym, subst, ◌∙◌, arith, inl, inr}
+use Rattle.std.proofs.Common.{◌≡◌, ◌+◌, ◌-◌, ◌≤◌, Some, ◌++◌, ℤ, List, [], None, length, get_or, ℕ, ap, refl, sym, subst, ◌∙◌, arith, inl, inr}
 use Rattle.std.specs.List.{All}
-use Rattle.interval.specs.Boxes.{Bounds}
 use Rattle.solution_lists.specs.Solutions.{SolvesInside}
 use Rattle.best_bound.specs.Seats.{costs_seen, costs_posted}
 use Rattle.best_bound.specs.declared.seat.BestSeat.{BestSeat}
@@ -14,7 +13,7 @@ use Rattle.search.specs.Stacks.{boxes_of, count_of}
 use Rattle.search.proofs.PremiseLaws.{can_search}
 use Rattle.search.proofs.RunLaws.{of_false}
 use Rattle.search.proofs.SearchLaws.{counted_more, of_done, of_given_up}
-use Rattle.search.proofs.LeastRunLaws.{premises, reached_after_look, falls_to, kept_by, lowest_number, objective_in, with_objective, few_vars, node_reached, out_of_rounds, node_less, recorded_solve, at_most_one, can_post, cost_posted, node_low, posts_more, posts_none, covered, contains_of, among_of, popped_none, on_any_err, broken_at_start, broken_at_node}
+use Rattle.search.proofs.LeastRunLaws.{premises, reached_after_look, falls_to, kept_by, lowest_number, objective_in, with_objective, few_vars, node_reached, out_of_rounds, node_less, recorded_solve, at_most_one, can_post, cost_posted, node_low, posts_more, posts_none, covered, contains_of, among_of, on_any_err, broken_at_start, broken_at_node}
 use Rattle.search.proofs.least.search_least.Goals as goal
 
 pub boxes-init : goal.boxes-init

@@ -1,4 +1,4 @@
-use Rattle.std.proofs.Common.{◌≡◌, List, length, sym, subst, ◌∙◌}
+use Rattle.std.proofs.Common.{length, sym, subst, ◌∙◌}
 use Rattle.interval.specs.Boxes.{Bounds}
 use Rattle.narrowing.specs.Narrowers.{Fits, AreQuietUnlessNoted}
 use Rattle.search.specs.Stacks.{TellsCrossed}

@@ -1,5 +1,4 @@
-use Rattle.std.proofs.Common.{◌≡◌, ℕ, true, List, [], ◌∷◌, ◌++◌, length, ap, sym, subst, refl, ◌∙◌}
-use Rattle.interval.specs.Boxes.{Bounds, IsInside}
+use Rattle.std.proofs.Common.{List, [], ◌∷◌, ◌++◌, ap, sym, subst, refl, ◌∙◌}
 use Rattle.branching.specs.declared.fronts.Front.{Front}
 use Rattle.trailed_box.specs.Trailed.{Left, boxes_of as left_boxes}
 use Rattle.narrowing.specs.Narrowing.{IsNarrowed}

@@ -1,13 +1,12 @@
-use Rattle.std.proofs.Common.{◌≡◌, ℕ, true, cond, List, [], ◌∷◌, ◌++◌, length, ap, sym, subst, ◌∙◌, arith}
+use Rattle.std.proofs.Common.{◌≡◌, ℕ, [], ◌∷◌, ◌++◌, length, ap, sym, subst, ◌∙◌, arith}
 use Rattle.std.specs.List.{All}
 use Rattle.std.proofs.lemmas.List.{length-set}
 use Rattle.interval.specs.Boxes.{Bounds, IsInside, IsProper, put_of}
 use Rattle.guarded_tell.specs.Kernels.{IsKernel}
 use Rattle.trailed_box.specs.declared.trail.Part.{Part}
-use Rattle.trailed_box.specs.Trailed.{Left, IsPart, left_of, boxes_of as left_boxes}
+use Rattle.trailed_box.specs.Trailed.{IsPart, left_of, boxes_of as left_boxes}
 use Rattle.branching.specs.Fronts.{right_by, left_by}
 use Rattle.narrowing.specs.Narrowers.{Fits, AreQuietUnlessNoted}
-use Rattle.search.specs.Stacks.{AreSound}
 use Rattle.search.proofs.SearcherLaws.{sound_push, boxes_parted, told_proper}
 use Rattle.search.proofs.searcher.Searcher.part.Goals as goal
 

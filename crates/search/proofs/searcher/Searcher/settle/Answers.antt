@@ -1,4 +1,4 @@
-use Rattle.std.proofs.Common.{◌≡◌, ◌<◌, ℤ, List, [], ◌∷◌, ◌++◌, length, ap, sym, subst, refl, inl, inr, ◌∙◌}
+use Rattle.std.proofs.Common.{[], ◌∷◌, ◌++◌, ap, sym, subst, refl, inl, inr, ◌∙◌}
 use Rattle.interval.specs.Boxes.{Bounds, IsProper}
 use Rattle.branching.specs.Parts.{IsBranch, AreParts}
 use Rattle.branching.specs.Fronts.{IsFrontOf, FitsBox, right_by, left_by}

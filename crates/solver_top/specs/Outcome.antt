@@ -1,10 +1,10 @@
 -- What the top call owes: its statuses, each with its cause, and what it writes.
 --
 -- The statuses and their lines are this program's own.
-use Rattle.std.specs.Prelude.{◌≡◌, ℕ, ◌≤◌, List, [], ◌∷◌, ◌++◌, length, take, codes, Option, Some, None}
+use Rattle.std.specs.Prelude.{◌≡◌, ℕ, ◌+◌, ◌≤◌, List, [], ◌∷◌, ◌++◌, length, take, codes, Bool, true, false, Option, Some, None}
 use Rattle.std.specs.Option.{option_map_or}
 use Rattle.fzn_io.specs.Faults.{CountRose}
-use Rattle.fzn_io.specs.Streams.{Adds, IsHeld}
+use Rattle.fzn_io.specs.Streams.{Adds, IsHeld, IsPartRead, later_names}
 use Rattle.std.specs.Fmt.{decimal}
 use Rattle.constraint_model.specs.declared.model.FznModel.{FznModel}
 use Rattle.fzn_model.specs.FaultKinds.{kind_name as name_of, kind_numbered}
@@ -12,7 +12,7 @@ use Rattle.fzn_print.specs.AnswerText.{line_end}
 use Rattle.command_line.specs.declared.words.Options.{Options}
 use Rattle.command_line.specs.CommandLine.{InputOf, file, made as made_of}
 use Rattle.made_model.specs.Made.{made}
-use Rattle.solver_top.specs.Texts.{IsTextOf, HasFaultOn}
+use Rattle.solver_top.specs.Texts.{IsTextOf, HasFaultOn, most_bytes}
 use Rattle.solver_top.specs.Answers.{IsAnswerOf, IsLineOf}
 use Rattle.solver_top.specs.declared.status.Status.{Status}
 use Rattle.solver_top.specs.declared.status.Status.TheVariants.{Answered, Usage, Refused, ReadFault, WriteFault, NoMemory}
@@ -101,6 +101,13 @@ IsAskedAlone names (Some (options, made_of n)) = Unit {0}
 abbrev pub CanOpen : Option (List (List ℕ)) → Option Asked → Type 0
 CanOpen None asked = Unit {0}
 CanOpen (Some names) asked = IsAskedAlone names asked
+
+-- A source was asked for a file, and tells this of it: its name has left the list; where it is open, a front of it was read; and
+-- only where the source refused it isn't open.
+pub record WasAsked (held : Option (Option (List ℕ))) (before after : Option (List (List ℕ))) (left : Option (List ℕ)) (is_open : Bool) (refused : Type 0) : Type 0 where
+  pub name_leaves : after ≡ later_names before
+  pub part_read : is_open ≡ true → IsPartRead held left (most_bytes + 1)
+  pub closed : is_open ≡ false → refused
 
 -- Why a text may have no answer.
 abbrev pub IsTextCause : List ℕ → Status → Type 0

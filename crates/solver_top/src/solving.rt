@@ -1,13 +1,13 @@
 //! What is written of the words, before it is written.
 
-ghost use Rattle.std.specs.Prelude.{◌≡◌, ◌≤◌, Some, IfOk, IfErr};
+ghost use Rattle.std.specs.Prelude.{◌≡◌, ◌⊎◌, ◌≤◌, Some, IfOk, IfErr, IsErrOf};
 ghost use Rattle.fzn_io.specs.Streams.{IsHeld};
 ghost use Rattle.constraint_model.specs.WellFormed.{IsWellFormed};
 ghost use Rattle.command_line.specs.CommandLine.{AreOptions, IsConfig, config_meant, config_of, file, input_meant};
 ghost use Rattle.made_model.specs.Made.{made};
 ghost use Rattle.solver_top.specs.Texts.{IsCause, IsTextOf, fault_line};
 ghost use Rattle.solver_top.specs.Answers.{IsAnswerOf, IsAnswerWith, IsLineOf, search_options};
-ghost use Rattle.solver_top.specs.Outcome.{CanOpen, IsAnswerOfInput, IsAnswerOfWords, IsFileAlone, IsFileCause, IsInputCause, IsTextCause, IsWordsCause, ReadsFile};
+ghost use Rattle.solver_top.specs.Outcome.{CanOpen, IsAnswerOfInput, IsAnswerOfWords, IsFileAlone, IsFileCause, IsInputCause, IsTextCause, IsWordsCause, ReadsFile, WasAsked, told_text};
 
 use crate::laws::law_unfinished_marks;
 use crate::printing::{known_objective, print_answer};
@@ -35,6 +35,9 @@ pub(crate) fn answer_of_words<R: Threads + Sync, S: Source, C: Gate + Sync, L: G
     ensures ok { IfOk result (λ bytes. IsAnswerOfWords (S.held files.old) (config_of words.now) bytes.items) }
     ensures cause { IfErr result (IsWordsCause (S.held files.old) (config_of words.now) (S.faults files.old) (S.faults files.new)) }
     ensures unread { (ReadsFile (config_of words.now) → ⊥) → files.new ≡ files.old }
+    ensures held_kept { S.held files.new ≡ S.held files.old }
+    ensures asked { ReadsFile (config_of words.now)
+        → ((files.new ≡ files.old) × IsErrOf result Status.NoMemory) ⊎ WasAsked (told_text (S.held files.old) (config_of words.now)) (S.names files.old) (S.names files.new) (S.left files.new) (S.is_open files.new) (IsErrOf result Status.ReadFault) }
 {
     match read_words(alloc, words) {
         Ok(config) => answer_of_input(rt, alloc, &config, files, gates),
@@ -56,6 +59,9 @@ fn answer_of_input<R: Threads + Sync, S: Source, C: Gate + Sync, L: Gate + Sync>
     ensures ok { IfOk result (λ bytes. IsAnswerOfInput (S.held files.old) config.now.options (input_meant config.now.input) bytes.items) }
     ensures cause { IfErr result (IsInputCause (S.held files.old) (input_meant config.now.input) (S.faults files.old) (S.faults files.new)) }
     ensures unread { (ReadsFile (Some (config_meant config.now)) → ⊥) → files.new ≡ files.old }
+    ensures held_kept { S.held files.new ≡ S.held files.old }
+    ensures asked { ReadsFile (Some (config_meant config.now))
+        → WasAsked (told_text (S.held files.old) (Some (config_meant config.now))) (S.names files.old) (S.names files.new) (S.left files.new) (S.is_open files.new) (IsErrOf result Status.ReadFault) }
 {
     match config.input {
         Input::File(name) => answer_of_file(rt, alloc, name, &config.options, files, gates),
@@ -76,6 +82,8 @@ fn answer_of_file<R: Threads + Sync, S: Source, C: Gate + Sync, L: Gate + Sync>(
     requires open { IsFileAlone (S.names files.old) name.now }
     ensures ok { IfOk result (λ bytes. IsAnswerOfInput (S.held files.old) options.now (file name.now) bytes.items) }
     ensures cause { IfErr result (IsFileCause (S.held files.old name.now) (S.faults files.old) (S.faults files.new)) }
+    ensures held_kept { S.held files.new ≡ S.held files.old }
+    ensures asked { WasAsked (S.held files.old name.now) (S.names files.old) (S.names files.new) (S.left files.new) (S.is_open files.new) (IsErrOf result Status.ReadFault) }
 {
     let text = text_of_file(alloc, name, files)?;
     answer_of_text(rt, alloc, &text, options, gates)
@@ -86,6 +94,8 @@ fn text_of_file<S: Source>(alloc: Global, name: &str, files: &mut S) -> Result<V
     requires { IsFileAlone (S.names files.old) name.now }
     ensures ok { IfOk result (λ text. IsHeld (S.held files.old name.now) text.items) }
     ensures cause { IfErr result (IsFileCause (S.held files.old name.now) (S.faults files.old) (S.faults files.new)) }
+    ensures held_kept { S.held files.new ≡ S.held files.old }
+    ensures asked { WasAsked (S.held files.old name.now) (S.names files.old) (S.names files.new) (S.left files.new) (S.is_open files.new) (IsErrOf result Status.ReadFault) }
 {
     match read_named(alloc, files, name, MOST_BYTES) {
         Ok(text) => Ok(text),

@@ -4,7 +4,7 @@ ghost use Rattle.std.specs.Prelude.{◌≡◌, ◌⊎◌, ℕ, None};
 ghost use Rattle.fzn_io.specs.Faults.{CountRose};
 ghost use Rattle.fzn_io.specs.Streams.{Adds, AddsFront};
 ghost use Rattle.command_line.specs.CommandLine.{config_of};
-ghost use Rattle.solver_top.specs.Outcome.{CanOpen, IsFaultOfTold, ReadsFile, ToldHasFault, ToldHasModel, WroteAnswer, WroteFront, status_line, told_text};
+ghost use Rattle.solver_top.specs.Outcome.{CanOpen, IsFaultOfTold, ReadsFile, ToldHasFault, ToldHasModel, WasAsked, WroteAnswer, WroteFront, status_line, told_text};
 
 use crate::laws::law_one_text;
 use crate::solving::answer_of_words;
@@ -16,7 +16,8 @@ use std::alloc::Global;
 use std::thread::Threads;
 
 /// Reads the words and the file that they name, or makes the text that they ask for, and writes the answer to `out`; with
-/// any other status a line goes to `err`. Nothing is written to `out` unless the status is `Answered` or `WriteFault`.
+/// any other status a line goes to `err`. Nothing is written to `out` unless the status is `Answered` or `WriteFault`. A file that
+/// was asked for is open then, and read as far as that took, unless the source refused.
 pub fn solve_main<R: Threads + Sync, S: Source, K: Sink, E: Sink, C: Gate + Sync, L: Gate + Sync>(
     rt: &R,
     alloc: Global,
@@ -38,6 +39,9 @@ pub fn solve_main<R: Threads + Sync, S: Source, K: Sink, E: Sink, C: Gate + Sync
         → WroteFront (S.held files.old) (config_of words.now) (K.written out.old) (K.written out.new) }
     ensures silent { (result ≡ Status.Answered → ⊥) → (result ≡ Status.WriteFault → ⊥) → out.new ≡ out.old }
     ensures unread { (ReadsFile (config_of words.now) → ⊥) → files.new ≡ files.old }
+    ensures held_kept { S.held files.new ≡ S.held files.old }
+    ensures asked { ReadsFile (config_of words.now)
+        → ((files.new ≡ files.old) × (result ≡ Status.NoMemory)) ⊎ WasAsked (told_text (S.held files.old) (config_of words.now)) (S.names files.old) (S.names files.new) (S.left files.new) (S.is_open files.new) (result ≡ Status.ReadFault) }
     ensures complete { ToldHasModel (told_text (S.held files.old) (config_of words.now))
         → (CountRose (S.faults files.old) (S.faults files.new) → ⊥)
         → (CountRose (K.faults out.old) (K.faults out.new) → ⊥)

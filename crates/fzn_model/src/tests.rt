@@ -64,18 +64,10 @@ fn some_names(alloc: Global) -> Result<Scope, AllocError> {
     declare(alloc, &mut scope, "x", Meaning::One(scalar(x)))?;
     declare(alloc, &mut scope, "c", Meaning::One(scalar(c)))?;
     declare(alloc, &mut scope, "y", Meaning::One(scalar(y)))?;
-    declare(
-        alloc,
-        &mut scope,
-        "row",
-        Meaning::Row(Entries::new(alloc, row, 3)?),
-    )?;
-    declare(
-        alloc,
-        &mut scope,
-        "s",
-        Meaning::Set(SharedList::empty(alloc)),
-    )?;
+    let row = Entries::new(alloc, row, 3)?;
+    declare(alloc, &mut scope, "row", Meaning::Row(row))?;
+    let set = SharedList::empty(alloc);
+    declare(alloc, &mut scope, "s", Meaning::Set(set))?;
     Ok(scope)
 }
 

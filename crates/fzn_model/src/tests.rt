@@ -55,7 +55,8 @@ fn declare(
 
 // The variables x and y, the number c, the array row of x, c and y, and the empty set s.
 fn some_names(alloc: Global) -> Result<Scope, AllocError> {
-    let mut scope = Scope::new(alloc, name_hash(b"".as_slice(), [].as_slice()));
+    let items = Vec::new(alloc);
+    let mut scope = Scope::new(alloc, name_hash(b"".as_slice(), items.as_slice()));
     let (x, c, y) = (Term::Var(0), Term::Number(7), Term::Var(1));
     let mut row = Vec::new(alloc);
     for term in [x, c, y] {

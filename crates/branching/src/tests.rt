@@ -10,6 +10,7 @@ use crate::{Branching, Front, are_fixed, branch_from, choose, law_fronts};
 use constraint_model::{FznModel, Goal, Phase, ValSel, VarDecl, VarSel};
 use interval::{BoxOf, NoMemory, clamp_bound, is_crossed};
 use list_of::ListOf;
+use shared_list::SharedList;
 use std::alloc::{AllocError, Global};
 use std::test::Fail;
 
@@ -38,12 +39,8 @@ fn three_declared(alloc: Global) -> Result<ListOf<VarDecl>, AllocError>
 fn all_of_them(alloc: Global) -> Result<Phase, AllocError>
     ensures { IfOk result (λ phase. phase ≡ last_phase 3) }
 {
-    let mut vars = ListOf::new(alloc);
-    vars.push(0)?;
-    vars.push(1)?;
-    vars.push(2)?;
     Ok(Phase {
-        vars,
+        vars: SharedList::from_vec(vec![in alloc; 0, 1, 2]?)?,
         var_sel: VarSel::InputOrder,
         val_sel: ValSel::Min,
     })
@@ -61,7 +58,7 @@ fn searched_by(
     ensures phases { IfOk result (λ model. IsSearchOf model) }
 {
     let phase = Phase {
-        vars: ListOf::from_vec(Vec::from_slice(alloc, vars)?),
+        vars: SharedList::from_vec(Vec::from_slice(alloc, vars)?)?,
         var_sel,
         val_sel,
     };

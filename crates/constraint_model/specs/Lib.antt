@@ -7,3 +7,4 @@ pub mod Relations
 pub mod Searches
 pub mod Table
 pub mod WellFormed
+pub mod Entries

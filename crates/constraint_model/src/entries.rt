@@ -1,6 +1,7 @@
 //! The entries of an array.
 
 ghost use Rattle.std.specs.Prelude.{◌≡◌, length, map, IfOk};
+ghost use Rattle.constraint_model.specs.Entries.{variables_in};
 
 use crate::meanings::Scalar;
 use crate::model::Term;
@@ -9,22 +10,24 @@ use std::alloc::{AllocError, Global};
 use std::marker::Model;
 
 /// The entries of an array, seen by contracts as the list of what they stand for. Beside them stand their terms alone,
-/// which the constraints that name the array share.
+/// which the constraints that name the array share, and their variables, which search annotations share.
 #[derive(Drop)]
 pub struct Entries {
     scalars: SharedList<Scalar>,
     terms: SharedList<Term>,
+    variables: SharedList<u32>,
 }
 
 impl Model for Entries {
     ghost use Rattle.std.specs.Prelude.{◌≡◌, List, map};
     ghost use Rattle.constraint_model.specs.declared.meanings.Scalar.{Scalar};
+    ghost use Rattle.constraint_model.specs.Entries.{variables_in};
 
     ghost Value = { List Scalar };
 
     ghost view = { λ e. e.scalars };
 
-    ghost invariant = { λ e. e.terms ≡ map (λ s. s.term) e.scalars };
+    ghost invariant = { λ e. (e.terms ≡ map (λ s. s.term) e.scalars) × (e.variables ≡ variables_in e.scalars) };
 }
 
 /// The terms of scalars.
@@ -34,15 +37,27 @@ fn terms_of(alloc: Global, scalars: &[Scalar]) -> Result<Vec<Term>, AllocError>
     scalars.iter().map(|scalar| scalar.term).collect(alloc)
 }
 
+/// The variables among scalars.
+fn variables_of(alloc: Global, scalars: &[Scalar]) -> Result<Vec<u32>, AllocError>
+    ensures { IfOk result (λ variables. variables.items ≡ variables_in scalars.now) }
+{
+    scalars
+        .iter()
+        .filter_map(|scalar| scalar.term.variable())
+        .collect(alloc)
+}
+
 impl Entries {
     /// These entries, with a mark by which their list of terms is told from others.
     pub fn new(alloc: Global, scalars: Vec<Scalar>, mark: usize) -> Result<Entries, AllocError>
         ensures { IfOk result (λ entries. entries ≡ scalars.items) }
     {
         let terms = SharedList::with_mark(terms_of(alloc, scalars.as_slice())?, mark)?;
+        let variables = SharedList::from_vec(variables_of(alloc, scalars.as_slice())?)?;
         Ok(Entries {
             scalars: SharedList::from_vec(scalars)?,
             terms,
+            variables,
         })
     }
 
@@ -67,6 +82,7 @@ impl Entries {
         Ok(Entries {
             scalars: self.scalars.share(alloc)?,
             terms: self.terms.share(alloc)?,
+            variables: self.variables.share(alloc)?,
         })
     }
 
@@ -77,11 +93,22 @@ impl Entries {
         self.terms.share(alloc)
     }
 
+    /// Their variables for another owner, in order. Of a long array none is copied.
+    pub fn share_variables(&self, alloc: Global) -> Result<SharedList<u32>, AllocError>
+        ensures { IfOk result (λ variables. variables ≡ variables_in self.now) }
+    {
+        self.variables.share(alloc)
+    }
+
     /// Their terms.
     pub fn into_terms(self) -> SharedList<Term>
         ensures { result ≡ map (λ s. s.term) self }
     {
-        let Entries { scalars: _, terms } = self;
+        let Entries {
+            scalars: _,
+            terms,
+            variables: _,
+        } = self;
         terms
     }
 }

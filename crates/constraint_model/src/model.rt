@@ -1,5 +1,7 @@
 //! What a text means: its variables, what must hold of them, and what is asked for.
 
+ghost use Rattle.std.specs.Prelude.{◌≡◌};
+
 use crate::table::ConstraintName;
 use list_of::ListOf;
 use shared_list::SharedList;
@@ -11,6 +13,20 @@ pub enum Term {
     Number(i64),
     /// A variable, by its place among the declared variables from 0.
     Var(u32),
+}
+
+impl Term {
+    ghost use Rattle.constraint_model.specs.Entries.{variable_in};
+
+    /// The variable that it is, if it is one.
+    pub fn variable(self) -> Option<u32>
+        ensures { result ≡ variable_in self }
+    {
+        match self {
+            Term::Number(_) => None,
+            Term::Var(variable) => Some(variable),
+        }
+    }
 }
 
 /// What stands at an argument of a constraint.
@@ -78,7 +94,7 @@ pub enum ValSel {
 #[derive(Drop)]
 pub struct Phase {
     /// Its variables, in order.
-    pub vars: ListOf<u32>,
+    pub vars: SharedList<u32>,
     /// Which variable is taken.
     pub var_sel: VarSel,
     /// Which values come first.

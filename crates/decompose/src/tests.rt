@@ -73,12 +73,9 @@ fn constraint(name: ConstraintName, operands: ListOf<Operand>) -> Constraint
 fn phases(alloc: Global) -> Result<ListOf<Phase>, AllocError>
     ensures { IfOk result (λ made. made ≡ last_phase 2 ∷ []) }
 {
-    let mut vars = ListOf::new(alloc);
-    vars.push(0)?;
-    vars.push(1)?;
     let mut phases = ListOf::new(alloc);
     phases.push(Phase {
-        vars,
+        vars: SharedList::from_vec(vec![in alloc; 0, 1]?)?,
         var_sel: VarSel::InputOrder,
         val_sel: ValSel::Min,
     })?;

@@ -13,11 +13,12 @@ use Rattle.constraint_model.specs.declared.model.ValSel.{ValSel}
 use Rattle.constraint_model.specs.declared.model.Phase.{Phase}
 use Rattle.constraint_model.specs.declared.meanings.Scalar.{Scalar}
 use Rattle.constraint_model.specs.declared.meanings.Meaning.{Meaning}
+use Rattle.constraint_model.specs.Entries.{variable_in, variables_in}
 use Rattle.constraint_model.specs.Searches.{last_phase}
 use Rattle.constraint_model.specs.WellFormed.{IsTermOf, IsScalarOf, IsMeaningOf}
 use Rattle.fzn_model.specs.Scopes.{Scope, meaning_of}
 use Rattle.fzn_model.specs.Outputs.{both, is_spelled}
-use Rattle.fzn_model.specs.Searches.{variable_in, variables_in, variables_of_entry, entry_variables, entries_variables, variables_of_row, phase_variables, var_sel_of, val_sel_of, phase_on, phase_of, is_search, phases_in, phases_in_list, phases_in_row, phases_in_entries, phases_in_entry, phases_of}
+use Rattle.fzn_model.specs.Searches.{variables_of_entry, entry_variables, entries_variables, variables_of_row, phase_variables, var_sel_of, val_sel_of, phase_on, phase_of, is_search, phases_in, phases_in_list, phases_in_row, phases_in_entries, phases_in_entry, phases_of}
 use Rattle.fzn_model.proofs.MeaningLaws.{each_append, each_weaker, AreNames, found}
 
 abbrev pub AreBelow : ℕ → List ℕ → Type 0

@@ -1,25 +1,16 @@
 -- The phases of the search that annotations of the solve item ask for. An annotation of any other shape asks for none.
 -- (MiniZinc Handbook, FlatZinc: search annotations.)
-use Rattle.std.specs.Prelude.{ℕ, List, [], ◌∷◌, ◌++◌, Bool, cond, ◌||◌, codes, bytes_eq, filter_map, Option, Some, None, option_map, if◌then◌else◌}
+use Rattle.std.specs.Prelude.{ℕ, List, [], ◌∷◌, ◌++◌, Bool, cond, ◌||◌, codes, bytes_eq, Option, Some, None, option_map, if◌then◌else◌}
 use Rattle.fzn_lexer.specs.declared.Token.{Token}
 use Rattle.fzn_parser.specs.Notes.{ArgTree, note_arg, row_arg, AnnTree, bare, called, ArgTrees, no_args, more_args}
 use Rattle.fzn_parser.specs.Texts.{spelling}
-use Rattle.constraint_model.specs.declared.model.Term.{Term}
 use Rattle.constraint_model.specs.declared.model.VarSel.{VarSel}
 use Rattle.constraint_model.specs.declared.model.ValSel.{ValSel}
 use Rattle.constraint_model.specs.declared.model.Phase.{Phase}
-use Rattle.constraint_model.specs.declared.meanings.Scalar.{Scalar}
 use Rattle.constraint_model.specs.declared.meanings.Meaning.{Meaning}
+use Rattle.constraint_model.specs.Entries.{variables_in}
 use Rattle.fzn_model.specs.Scopes.{Scope, meaning_of}
 use Rattle.fzn_model.specs.Outputs.{is_spelled, both}
-
--- the variable of a scalar, where it is one
-abbrev pub variable_in : Term → Option ℕ
-variable_in (Term.Number n) = None
-variable_in (Term.Var v) = Some v
-
-abbrev pub variables_in : List Scalar → List ℕ
-variables_in entries = filter_map (λ s. variable_in s.term) entries
 
 -- what a name among the variables stands for: one variable, or none where it is a constant or a set. An array, or a
 -- name that wasn't declared, is no such name

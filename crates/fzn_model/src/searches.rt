@@ -5,36 +5,18 @@ ghost use Rattle.std.specs.List.{range_with_len};
 ghost use Rattle.fzn_parser.specs.Notes.{arg_tree, ann_tree, args_of};
 ghost use Rattle.fzn_parser.specs.Texts.{spelling};
 ghost use Rattle.fzn_model.specs.Scopes.{meaning_of};
-ghost use Rattle.fzn_model.specs.Searches.{variable_in, variables_in, variables_of_row, entry_variables, entries_variables, phase_variables, var_sel_named, val_sel_named, var_sel_of, val_sel_of, phase_of, is_search, phases_in, phases_in_list, phases_in_row, phases_in_entries, phases_in_entry, phases_of};
+ghost use Rattle.fzn_model.specs.Searches.{variables_of_row, entry_variables, entries_variables, phase_variables, var_sel_named, val_sel_named, var_sel_of, val_sel_of, phase_of, is_search, phases_in, phases_in_list, phases_in_row, phases_in_entries, phases_in_entry, phases_of};
 ghost use Rattle.constraint_model.specs.Searches.{last_phase};
 
 use crate::exprs::spelling;
 use crate::outputs::is_spelled;
 use crate::scope::Scope;
-use constraint_model::{Meaning, Phase, Scalar, Term, ValSel, VarSel};
+use constraint_model::{Meaning, Phase, ValSel, VarSel};
 use fzn_lexer::Token;
 use fzn_parser::tree::{Ann, Arg};
 use list_of::ListOf;
+use shared_list::SharedList;
 use std::alloc::{AllocError, Global};
-
-/// The variable of a scalar, where it is one.
-fn variable_in(term: Term) -> Option<u32>
-    ensures { result ≡ variable_in term }
-{
-    match term {
-        Term::Number(_) => None,
-        Term::Var(variable) => Some(variable),
-    }
-}
-
-fn variables_in(alloc: Global, entries: &[Scalar]) -> Result<Vec<u32>, AllocError>
-    ensures { IfOk result (λ vars. vars.items ≡ variables_in entries.now) }
-{
-    entries
-        .iter()
-        .filter_map(|entry| variable_in(entry.term))
-        .collect(alloc)
-}
 
 /// What one entry of an array literal adds to the variables, where it may stand there.
 fn entry_variable(text: &[u8], scope: &Scope, entry: &Arg) -> Option<Option<u32>>
@@ -42,7 +24,7 @@ fn entry_variable(text: &[u8], scope: &Scope, entry: &Arg) -> Option<Option<u32>
 {
     match entry {
         Arg::Ann(Ann { name, args: None }) => match scope.meaning(spelling(text, name)) {
-            Some(Meaning::One(scalar)) => Some(variable_in(scalar.term)),
+            Some(Meaning::One(scalar)) => Some(scalar.term.variable()),
             Some(Meaning::Set(_)) => Some(None),
             Some(Meaning::Row(_)) | None => None,
         },
@@ -57,10 +39,10 @@ fn entries_variables(
     text: &[u8],
     scope: &Scope,
     entries: &[Arg],
-) -> Result<Option<ListOf<u32>>, AllocError>
+) -> Result<Option<SharedList<u32>>, AllocError>
     ensures { IfOk result (λ o. o ≡ entries_variables text.now scope.now (args_of (map arg_tree entries.now))) }
 {
-    let mut vars = ListOf::new(alloc);
+    let mut vars = Vec::new(alloc);
     for entry in entries {
         match entry_variable(text, scope, entry) {
             Some(Some(variable)) => vars.push(variable)?,
@@ -68,7 +50,7 @@ fn entries_variables(
             None => return Ok(None),
         }
     }
-    Ok(Some(vars))
+    Ok(Some(SharedList::from_vec(vars)?))
 }
 
 /// The variables of the array of this name.
@@ -77,14 +59,11 @@ fn array_variables(
     text: &[u8],
     scope: &Scope,
     name: &Token,
-) -> Result<Option<ListOf<u32>>, AllocError>
+) -> Result<Option<SharedList<u32>>, AllocError>
     ensures { IfOk result (λ o. o ≡ variables_of_row (meaning_of scope.now (spelling text.now name.now))) }
 {
     match scope.meaning(spelling(text, name)) {
-        Some(Meaning::Row(entries)) => {
-            let vars = variables_in(alloc, entries.as_slice())?;
-            Ok(Some(ListOf::from_vec(vars)))
-        }
+        Some(Meaning::Row(entries)) => Ok(Some(entries.share_variables(alloc)?)),
         _ => Ok(None),
     }
 }
@@ -95,7 +74,7 @@ fn phase_variables(
     text: &[u8],
     scope: &Scope,
     arg: &Arg,
-) -> Result<Option<ListOf<u32>>, AllocError>
+) -> Result<Option<SharedList<u32>>, AllocError>
     ensures { IfOk result (λ o. o ≡ phase_variables text.now scope.now (arg_tree arg.now)) }
 {
     match arg {
@@ -325,7 +304,7 @@ pub(crate) fn last_phase(alloc: Global, count: u32) -> Result<Phase, AllocError>
 {
     let vars = numbers_below(alloc, count)?;
     Ok(Phase {
-        vars: ListOf::from_vec(vars),
+        vars: SharedList::from_vec(vars)?,
         var_sel: VarSel::InputOrder,
         val_sel: ValSel::Min,
     })

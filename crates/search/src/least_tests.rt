@@ -11,6 +11,7 @@ use constraint_model::{FznModel, Goal, Phase, Term, ValSel, VarDecl, VarSel};
 use decompose::compile;
 use interval::{NoMemory, law_inside_order};
 use list_of::ListOf;
+use shared_list::SharedList;
 use moved_set::Masks;
 use rounds::NoGate;
 use std::alloc::{AllocError, Global};
@@ -31,10 +32,8 @@ impl Costs for SmallCosts {
 fn phase(alloc: Global) -> Result<Phase, AllocError>
     ensures { IfOk result (λ phase. phase ≡ last_phase 1) }
 {
-    let mut vars = ListOf::new(alloc);
-    vars.push(0)?;
     Ok(Phase {
-        vars,
+        vars: SharedList::from_vec(vec![in alloc; 0]?)?,
         var_sel: VarSel::InputOrder,
         val_sel: ValSel::Min,
     })

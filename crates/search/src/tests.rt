@@ -63,11 +63,8 @@ fn order(alloc: Global) -> Result<Constraint, AllocError>
 fn both_of_them(alloc: Global) -> Result<Phase, AllocError>
     ensures { IfOk result (λ phase. phase ≡ last_phase 2) }
 {
-    let mut vars = ListOf::new(alloc);
-    vars.push(0)?;
-    vars.push(1)?;
     Ok(Phase {
-        vars,
+        vars: SharedList::from_vec(vec![in alloc; 0, 1]?)?,
         var_sel: VarSel::InputOrder,
         val_sel: ValSel::Min,
     })

@@ -13,6 +13,7 @@ use constraint_model::{FznModel, Goal, Phase, ValSel, VarDecl, VarSel};
 use decompose::{Program, compile};
 use interval::{BoxOf, NoMemory};
 use list_of::ListOf;
+use shared_list::SharedList;
 use moved_set::Masks;
 use std::alloc::{AllocError, Global};
 use std::test::Fail;
@@ -34,10 +35,8 @@ fn declared(alloc: Global) -> VarDecl
 fn phase(alloc: Global) -> Result<Phase, AllocError>
     ensures { IfOk result (λ phase. phase ≡ last_phase 1) }
 {
-    let mut vars = ListOf::new(alloc);
-    vars.push(0)?;
     Ok(Phase {
-        vars,
+        vars: SharedList::from_vec(vec![in alloc; 0]?)?,
         var_sel: VarSel::InputOrder,
         val_sel: ValSel::Min,
     })

@@ -1,4 +1,4 @@
--- What stands in a program for lists of terms, in a program whose variables are numbered so.
+-- What stands for lists of terms in a program whose variables are numbered so.
 use Rattle.std.specs.Prelude.{◌≡◌, List, map, All}
 use Rattle.decompose.specs.Kernels.{variables_of, number_of}
 use Rattle.decompose.specs.Places.{Numbering, AreFew}

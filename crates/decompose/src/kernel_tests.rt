@@ -457,7 +457,7 @@ fn is_long_sum(
 }
 
 #[test]
-fn long_lists_have_one_owner_more(rt: HostRuntime) -> Result<(), Fail> {
+fn a_long_array_is_shared(rt: HostRuntime) -> Result<(), Fail> {
     let alloc = rt.alloc();
     let threes = long_list(alloc, Term::Number(3), 7)?;
     let fours = long_list(alloc, FOUR, 8)?;

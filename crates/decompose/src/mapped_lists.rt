@@ -10,7 +10,7 @@ use std::collections::BTreeMap;
 /// The mark of a list that one propagator alone has.
 pub(crate) const NO_MARK: usize = 0;
 
-/// What stands for a list of terms. Which of the two is asked for lies with the place where the list stands.
+/// What stands for a list of terms: the variables where it stands as terms, the numbers where it stands as coefficients.
 #[derive(Drop)]
 pub(crate) struct MappedList {
     /// The terms.
@@ -21,7 +21,7 @@ pub(crate) struct MappedList {
     pub numbers: SharedList<i64>,
 }
 
-/// What stands for several lists of terms. It is found by the mark of a list, and used only where the terms are the same.
+/// What stands for several lists of terms. It is found by the mark of a list, and given only where the terms are the same.
 #[derive(Drop)]
 pub(crate) struct MappedLists {
     /// What stands for the lists.

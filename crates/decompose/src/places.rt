@@ -227,8 +227,8 @@ impl Places {
         Ok(())
     }
 
-    /// The same places, with what stands for the long arrays that the constraints share: so the memory of the propagators'
-    /// lists is linear in the text, however many constraints name an array.
+    /// The same places, with what stands for the long arrays that the constraints share, so that the propagators which name
+    /// one have its lists together.
     pub(crate) fn with_lists(
         self,
         alloc: Global,

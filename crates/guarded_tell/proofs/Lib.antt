@@ -41,3 +41,4 @@ pub mod OpenLaws
 pub mod QuotientLaws
 pub mod RoomLaws
 pub mod ClauseQuiet
+pub mod ProductQuiet

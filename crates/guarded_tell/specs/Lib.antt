@@ -16,3 +16,4 @@ pub mod Hull
 pub mod Kernels
 pub mod Narrowing
 pub mod Short
+pub mod Products

@@ -2,8 +2,13 @@
 
 ghost use Rattle.guarded_tell.specs.Kernels.{IsKernel};
 
-use crate::test_support::{PAST, Pairs, after, expect, high, low};
-use crate::{Kernel, Tell};
+use crate::test_support::{
+    PAST, Pairs, after, expect, high, is_seen_quiet, low, narrowing_told, told,
+};
+use crate::{Hint, Kernel, Tell};
+use interval::NoMemory;
+use std::alloc::Global;
+use std::process::Abort;
 use std::test::Fail;
 
 /// Variable 2 is the product of variables 0 and 1.
@@ -70,6 +75,114 @@ fn the_product_tells_what_is_worked_out_by_hand(rt: HostRuntime) -> Result<(), F
     ] {
         let kernel = product();
         assert_eq!(rt; after(&rt, alloc, &kernel, [x, y, z, (0, 0)])?, after_all);
+    }
+    Ok(())
+}
+
+/// Ranges of a factor: on either side of 0, beginning or ending at it, and over it.
+const FACTORS: [(i64, i64); 11] = [
+    (-3, -2),
+    (-3, -1),
+    (-2, 2),
+    (-1, 0),
+    (0, 0),
+    (0, 3),
+    (1, 1),
+    (1, 3),
+    (2, 3),
+    (3, 3),
+    (-3, 3),
+];
+
+/// Ranges of a product.
+const PRODUCTS: [(i64, i64); 13] = [
+    (-9, 9),
+    (-9, -6),
+    (-6, 6),
+    (-6, -2),
+    (-2, -1),
+    (0, 0),
+    (0, 4),
+    (1, 9),
+    (2, 6),
+    (3, 3),
+    (4, 9),
+    (6, 9),
+    (-1, 1),
+];
+
+/// Asserts that the product of these factors is seen to be quiet exactly where it narrows nothing, for each range of the
+/// product, and adds the boxes on which it is.
+fn add_quiet_boxes(
+    rt: &impl Abort,
+    alloc: Global,
+    x: (i64, i64),
+    y: (i64, i64),
+    quiet: &mut Vec<Pairs>,
+) -> Result<(), NoMemory> {
+    for z in PRODUCTS {
+        let pairs = [x, y, z, (0, 0)];
+        let is_quiet = is_product_seen_quiet(rt, alloc, pairs)?;
+        if is_quiet && quiet.push(pairs).is_err() {
+            return Err(NoMemory);
+        }
+    }
+    Ok(())
+}
+
+/// Whether the product is seen to be quiet on the box of these bounds, which is asserted to be so exactly where it narrows
+/// nothing.
+fn is_product_seen_quiet(rt: &impl Abort, alloc: Global, pairs: Pairs) -> Result<bool, NoMemory> {
+    let kernel = product();
+    let seen = is_seen_quiet(rt, alloc, &kernel, pairs)?;
+    let mut hint = Hint::new();
+    let narrowing = narrowing_told(rt, alloc, &kernel, pairs, &mut hint)?;
+    assert_eq!(rt; seen, narrowing.is_empty());
+    told(rt, alloc, &kernel, pairs)?;
+    Ok(seen)
+}
+
+/// Adds the boxes with this first factor.
+fn add_all_quiet_boxes(
+    rt: &impl Abort,
+    alloc: Global,
+    x: (i64, i64),
+    quiet: &mut Vec<Pairs>,
+) -> Result<(), NoMemory> {
+    for y in FACTORS {
+        add_quiet_boxes(rt, alloc, x, y, quiet)?;
+    }
+    Ok(())
+}
+
+#[test]
+fn the_product_is_seen_to_be_quiet_exactly_where_it_is(rt: HostRuntime) -> Result<(), Fail> {
+    let alloc = rt.alloc();
+    let mut quiet: Vec<Pairs> = Vec::new(alloc);
+    for x in FACTORS {
+        add_all_quiet_boxes(&rt, alloc, x, &mut quiet)?;
+    }
+    // Counted by another program, over the same 1,573 boxes.
+    assert_eq!(rt; quiet.len(), 181);
+    Ok(())
+}
+
+#[test]
+fn the_product_is_seen_to_be_quiet_at_both_ends(rt: HostRuntime) -> Result<(), Fail> {
+    let all = (-PAST, PAST);
+    for (x, y, z, is_quiet) in [
+        (all, all, all, true),
+        (all, (-1, -1), all, true),
+        (all, (PAST, PAST), all, false),
+        ((1, PAST), (1, PAST), (1, PAST), true),
+        ((-PAST, -1), (1, PAST), (-PAST, -1), true),
+        ((-PAST, -1), (-PAST, -1), (1, PAST), true),
+        ((-PAST, -1), (-PAST, -2), (1, PAST), false),
+        ((PAST, PAST), (1, 1), (PAST, PAST), true),
+        ((PAST, PAST), (1, 2), (PAST, PAST), false),
+    ] {
+        let seen = is_product_seen_quiet(&rt, rt.alloc(), [x, y, z, (0, 0)])?;
+        assert_eq!(rt; seen, is_quiet);
     }
     Ok(())
 }

@@ -24,6 +24,7 @@ mod maximum;
 mod minimum;
 mod narrowing;
 mod pairs;
+mod products;
 mod quiet;
 mod remainder;
 mod short;

@@ -10,6 +10,7 @@ ghost use Rattle.guarded_tell.specs.Kernels.{vars_of, tells, IsKernel};
 ghost use Rattle.guarded_tell.specs.Narrowing.{narrowing, narrowing_tells};
 ghost use Rattle.guarded_tell.specs.Narrowing as words;
 
+use crate::products::is_product_quiet;
 use crate::quiet::{Hint, is_at_most_quiet, is_clause_quiet, is_equation_quiet};
 use crate::{Hear, Kernel, Side, Tell, law_tell_place, visit_tells};
 use interval::{BoxOf, law_clamp_order, law_quotient_order};
@@ -28,7 +29,7 @@ pub fn visit_narrowing<H: Hear>(k: &Kernel, b: &BoxOf, hint: &mut Hint, h: &mut 
 
 /// Whether the kernel is seen to narrow nothing, without its tells being formed.
 #[tactic(auto, unfolding(crate::specs::Kernels::tells, crate::specs::Kernels::vars_of, crate::specs::Kernels::HasNumbers))]
-fn is_quiet(k: &Kernel, b: &BoxOf, hint: &mut Hint) -> bool
+pub fn is_quiet(k: &Kernel, b: &BoxOf, hint: &mut Hint) -> bool
     requires kernel { IsKernel (length b.now) k.now }
     requires proper { IsProperIn (vars_of k.now) b.now }
     ensures { OnTrue result (All (Keeps b.now) (tells k.now b.now)) }
@@ -47,6 +48,7 @@ fn is_quiet(k: &Kernel, b: &BoxOf, hint: &mut Hint) -> bool
             limit,
         } => is_equation_quiet(*lit, coeffs.as_slice(), vars.as_slice(), *limit, b, hint),
         Kernel::Clause { lits } => is_clause_quiet(lits.as_slice(), b, hint),
+        Kernel::Times { x, y, z } => is_product_quiet(*x, *y, *z, b),
         _ => false,
     }
 }

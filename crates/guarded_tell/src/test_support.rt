@@ -4,6 +4,7 @@ ghost use Rattle.std.specs.Prelude.{◌≡◌, ◌≤◌, IfOk, length, unsigned
 ghost use Rattle.interval.specs.Limits.{IsBound, IsNumber, bound_limit, largest_number};
 ghost use Rattle.guarded_tell.specs.Kernels.{IsKernel};
 
+use crate::narrowing::is_quiet;
 use crate::{Hear, Hint, Kernel, Side, Tell, visit_narrowing, visit_tells};
 use interval::{BoxOf, NoMemory, is_crossed};
 use std::alloc::Global;
@@ -150,6 +151,22 @@ pub fn narrowing_told(
     let mut heard = silence(alloc);
     visit_narrowing(kernel, &b, hint, &mut heard);
     all_heard(heard)
+}
+
+/// Whether the kernel is seen to narrow nothing on the box of these bounds.
+pub fn is_seen_quiet(
+    rt: &impl Abort,
+    alloc: Global,
+    kernel: &Kernel,
+    pairs: Pairs,
+) -> Result<bool, NoMemory>
+    requires { IsKernel 4 kernel.now }
+{
+    let b = box_of(rt, alloc, pairs)?;
+    let crossed = is_crossed(&b);
+    assert!(rt; !crossed);
+    let mut hint = Hint::new();
+    Ok(is_quiet(kernel, &b, &mut hint))
 }
 
 /// Whether `narrowing` are the tells that narrow these bounds, in their order.

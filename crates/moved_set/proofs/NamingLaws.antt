@@ -1,5 +1,5 @@
 -- Rows and the sets of the kernels' variables.
-use Rattle.std.proofs.Common.{◌≡◌, ℕ, zero, suc, ◌<◌, List, [], ◌∷◌, length, get_or, refl, sym, ◌∙◌, ap, subst, arith, inl, inr, ◌⊎◌}
+use Rattle.std.proofs.Common.{◌≡◌, ℕ, zero, suc, ◌<◌, List, [], ◌∷◌, length, get_or, refl, sym, ◌∙◌, subst, arith, inl, inr}
 use Rattle.std.specs.Prelude.{Vec, Contains}
 use Rattle.std.specs.declared.alloc.Global.{Global}
 use Rattle.std.proofs.lemmas.List.Elements.{Contains-get_or}
@@ -7,8 +7,8 @@ use Rattle.guarded_tell.specs.declared.kernel.Kernel.{Kernel}
 use Rattle.moved_set.specs.declared.parts.Part.{Part}
 use Rattle.moved_set.specs.declared.rows.Rows.{Rows}
 use Rattle.moved_set.specs.Sets.{IsIn, Naming, set_at, IsNaming}
-use Rattle.moved_set.specs.Parts.{vars_at, list_at, part_at, own_at, IsPart, AreParts}
-use Rattle.moved_set.specs.Rows.{row_at, AreRowsTo, AreShaped, HasKernel, AreRows}
+use Rattle.moved_set.specs.Parts.{vars_at, list_at, part_at, own_at, AreParts}
+use Rattle.moved_set.specs.Rows.{row_at, AreRowsTo, AreRows}
 use Rattle.moved_set.proofs.PartLaws.{vars_are, named_in_part}
 
 one_of : (x l : ℕ) → Contains (x ∷ []) l → x ≡ l

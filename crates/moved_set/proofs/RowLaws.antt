@@ -1,12 +1,12 @@
 -- Rows of the numbers that have a key.
-use Rattle.std.proofs.Common.{◌≡◌, ◌≢◌, ℕ, ◌+◌, ◌<◌, ◌≤◌, List, [], ◌∷◌, ◌++◌, length, get_or, set, map, take, refl, sym, ◌∙◌, ap, subst, ⊎_elim, arith, inl, inr, ◌⊎◌}
+use Rattle.std.proofs.Common.{◌≡◌, ◌≢◌, ℕ, ◌+◌, ◌<◌, ◌≤◌, List, [], ◌∷◌, ◌++◌, length, get_or, set, refl, sym, ◌∙◌, ap, subst, ⊎_elim, arith, inl, inr, ◌⊎◌}
 use Rattle.std.specs.Prelude.{Vec, Contains}
 use Rattle.std.specs.declared.alloc.Global.{Global}
 use Rattle.std.proofs.lemmas.Bool.{cases_eq, cases_lt}
 use Rattle.std.proofs.lemmas.Grind.{get_or-set_at}
-use Rattle.std.proofs.lemmas.List.{length_push, length-set, length-map, get_or-map, get_or_append_left, get_or_push, get_or_default, get_or-set_other}
+use Rattle.std.proofs.lemmas.List.{length_push, length-set, get_or-map, get_or_append_left, get_or_push, get_or-set_other}
 use Rattle.std.proofs.lemmas.List.Elements.{Contains-get_or, Contains-push, Contains-push_cases, Contains-append_left}
-use Rattle.moved_set.specs.Rows.{IsRising, row_at, IsRowTo, AreRowsTo, PutsAll}
+use Rattle.moved_set.specs.Rows.{IsRising, row_at, IsRowTo, AreRowsTo}
 
 pub none_of : (x : ℕ) → Contains [] x → ⊥
 none_of x c = let lt = c.1 in omega arith

@@ -112,16 +112,16 @@ impl Lists {
             return Ok(whole);
         };
         let place = self.place_of(alloc, list, mark)?;
-        Ok(if place == 0 { whole } else { Part { own, list: place } })
+        Ok(if place == 0 {
+            whole
+        } else {
+            Part { own, list: place }
+        })
     }
 }
 
 /// The parts of kernels that name some of the first `count` variables.
-pub(crate) fn parts_of(
-    alloc: Global,
-    kernels: &[Kernel],
-    count: u32,
-) -> Result<Parts, AllocError>
+pub(crate) fn parts_of(alloc: Global, kernels: &[Kernel], count: u32) -> Result<Parts, AllocError>
     requires { All (IsKernel count) kernels.now }
     ensures lists { IfOk result (λ parts. AreLists count parts.lists.items) }
     ensures parts { IfOk result (λ parts. AreParts kernels.now (length kernels.now) parts.lists.items parts.of_kernels.items) }
@@ -140,11 +140,7 @@ pub(crate) fn parts_of(
 }
 
 /// The variables of a kernel that are its own, in the place of what the list had.
-pub(crate) fn own_vars(
-    vars: &mut Vec<u32>,
-    kernel: &Kernel,
-    part: Part,
-) -> Result<(), AllocError>
+pub(crate) fn own_vars(vars: &mut Vec<u32>, kernel: &Kernel, part: Part) -> Result<(), AllocError>
     requires numbers { HasNumbers kernel.now }
     requires within { part.own ≤ length (vars_of kernel.now) }
     ensures { OnOk result (vars.new.items ≡ take part.own (vars_of kernel.now)) }

@@ -174,11 +174,7 @@ fn list_rows(
 }
 
 /// For each of so many lists the row of the kernels that end with it.
-fn user_rows(
-    alloc: Global,
-    parts: &[Part],
-    count: usize,
-) -> Result<Vec<Vec<usize>>, AllocError>
+fn user_rows(alloc: Global, parts: &[Part], count: usize) -> Result<Vec<Vec<usize>>, AllocError>
     requires { (j : ℕ) → j < length parts.now → (part_at parts.now j).list < count }
     ensures { IfOk result (λ rows. AreRowsTo (λ j. (part_at parts.now j).list ∷ []) (length parts.now) count rows.items) }
 {

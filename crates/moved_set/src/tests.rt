@@ -180,7 +180,9 @@ fn are_found(kernels: &[Kernel], masks: &Masks, set: &MovedSet) -> bool
         if names_one(&kernels[below], set) {
             last = below + 1;
         }
-        agrees = agrees && masks.next(from, set) == first && masks.next_back(below + 1, set) == last;
+        agrees = agrees
+            && masks.next(from, set) == first
+            && masks.next_back(below + 1, set) == last;
     }
     agrees
 }

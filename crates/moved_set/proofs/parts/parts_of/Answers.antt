@@ -1,7 +1,6 @@
-use Rattle.std.proofs.Common.{◌≡◌, ◌+◌, ◌++◌, ◌∷◌, [], ℕ, List, length, subst, sym, arith}
+use Rattle.std.proofs.Common.{◌+◌, ℕ, List, subst, sym, arith}
 use Rattle.guarded_tell.specs.Kernels.{vars_of, IsKernel}
 use Rattle.guarded_tell.specs.declared.kernel.Kernel.{Kernel}
-use Rattle.moved_set.specs.declared.parts.Part.{Part}
 use Rattle.moved_set.specs.Parts.{AreParts}
 use Rattle.moved_set.proofs.PartLaws.{lists_grown, parts_more}
 use Rattle.moved_set.proofs.parts.parts_of.Goals as goal

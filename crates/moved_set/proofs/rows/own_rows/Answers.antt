@@ -1,8 +1,7 @@
 use Rattle.std.proofs.Common.{◌≡◌, ℕ, List, length, take, ap, sym, subst, ◌∙◌, arith}
 use Rattle.guarded_tell.specs.declared.kernel.Kernel.{Kernel}
-use Rattle.guarded_tell.specs.Kernels.{vars_of}
 use Rattle.moved_set.specs.declared.parts.Part.{Part}
-use Rattle.moved_set.specs.Parts.{part_at, own_at, vars_at}
+use Rattle.moved_set.specs.Parts.{part_at, own_at}
 use Rattle.moved_set.specs.Rows.{AreRowsTo}
 use Rattle.moved_set.proofs.PartLaws.{vars_lent}
 use Rattle.moved_set.proofs.rows.own_rows.Goals as goal

@@ -1,4 +1,3 @@
-use Rattle.std.proofs.Common.{◌≡◌}
 use Rattle.moved_set.proofs.RowLaws.{row_lent}
 use Rattle.moved_set.proofs.rows.row.Goals as goal
 

@@ -1,6 +1,4 @@
-use Rattle.std.proofs.Common.{◌≡◌, ◌<◌, ◌∷◌, [], ℕ, List, length, refl, subst, arith}
-use Rattle.std.specs.Prelude.{Vec}
-use Rattle.std.specs.declared.alloc.Global.{Global}
+use Rattle.std.proofs.Common.{◌≡◌, ◌∷◌, [], ℕ, List, length, refl, subst, arith}
 use Rattle.moved_set.specs.declared.parts.Part.{Part}
 use Rattle.moved_set.specs.Parts.{part_at}
 use Rattle.moved_set.specs.Rows.{AreRowsTo}

@@ -1,12 +1,13 @@
 -- Questions that are answered by the rows.
-use Rattle.std.proofs.Common.{◌≡◌, ℕ, ◌+◌, ◌-◌, ◌<◌, ◌≤◌, Bool, false, List, length, get_or, take, sym, ◌∙◌, subst, ⊎_elim, arith, ◌⊎◌, inl, inr}
+use Rattle.std.proofs.Common.{◌≡◌, ℕ, ◌+◌, ◌-◌, ◌<◌, ◌≤◌, Bool, false, List, [], length, ap, get_or, take, sym, ◌∙◌, subst, ⊎_elim, arith, ◌⊎◌, inl, inr}
 use Rattle.std.specs.Prelude.{All, Contains}
 use Rattle.std.proofs.lemmas.Bool.{cases_lt}
 use Rattle.std.proofs.lemmas.List.{get_or_past, get_or_default, take_more}
 use Rattle.std.proofs.lemmas.List.Elements.{Contains-get_or, Contains-push_cases}
 use Rattle.moved_set.specs.Sets.{IsIn, Naming, set_at, NoneName, NamesSome}
 use Rattle.moved_set.specs.Listed.{AreAllOf}
-use Rattle.moved_set.specs.Rows.{IsRow}
+use Rattle.moved_set.specs.Rows.{IsRising, AreRows, HasKernel}
+use Rattle.moved_set.specs.declared.rows.Rows.{Rows}
 
 in_length : (s : List Bool) (v : ℕ) → IsIn s v → v < length s
 in_length s v inside =
@@ -18,49 +19,56 @@ all_below s variables count len are k d h =
     let inside = in_length s (get_or variables k d) ((are (get_or variables k d)).0 (Contains-get_or variables k d h)) in
     omega arith
 
--- ---- one variable
+-- ---- a row
 
-pub row_found : (n : Naming) (v : ℕ) (row : List ℕ) (place : ℕ) → IsRow n v row → place < length row → (get_or row place 0 < length n.sets) × IsIn (set_at n (get_or row place 0)) v
-row_found n v row place is h = (is.exactly (get_or row place 0)).0 (Contains-get_or row place 0 h)
-
-row_passed : (n : Naming) (v : ℕ) (row : List ℕ) (from to : ℕ) → IsRow n v row → to ≤ length n.sets → ((k : ℕ) → k < length row → (get_or row k 0 < from) ⊎ (to ≤ get_or row k 0)) → NoneName n from to v
-row_passed n v row from to is within out j le lt inside =
-    let at = (is.exactly j).1 (omega arith, inside) in
-    let here : get_or row at.0 0 ≡ j = get_or_default row at.0 0 j at.1 ∙ at.2 in
-    elim (out at.0 at.1) [
-      | inl below ↦ absurd (omega arith)
-      | inr above ↦ absurd (omega arith)
+pub next_passed : (row : List ℕ) (from place : ℕ) → IsRising row → place < length row → ((k : ℕ) → k < place → get_or row k 0 < from) → (j : ℕ) → Contains row j → from ≤ j → get_or row place 0 ≤ j
+next_passed row from place rising h low j c le =
+    let here : get_or row c.0 0 ≡ j = get_or_default row c.0 0 j c.1 ∙ c.2 in
+    elim (cases_lt c.0 place) [
+      | inl before ↦ let lt = low c.0 before in absurd (omega arith)
+      | inr after ↦ let up = rising place c.0 after c.1 in omega arith
     ]
 
--- from a place on, where the row goes on and where it ends
-pub passed_to : (n : Naming) (v : ℕ) (row : List ℕ) (from place : ℕ) → IsRow n v row → place < length row → ((k : ℕ) → k < place → get_or row k 0 < from) → NoneName n from (get_or row place 0) v
-passed_to n v row from place is h low =
-    let within = (row_found n v row place is h).0 in
-    row_passed n v row from (get_or row place 0) is (omega arith)
-    (λ k lt. elim (cases_lt k place) [
-      | inl before ↦ inl (low k before)
-      | inr after ↦ inr (is.rising place k after lt)
-    ])
+pub next_absent : (row : List ℕ) (from place stop : ℕ) → length row ≤ place → ((k : ℕ) → k < place → get_or row k 0 < from) → (j : ℕ) → Contains row j → from ≤ j → stop ≤ j
+next_absent row from place stop h low j c le =
+    let here : get_or row c.0 0 ≡ j = get_or_default row c.0 0 j c.1 ∙ c.2 in
+    let inside = c.1 in
+    let lt = low c.0 (omega arith) in
+    absurd (omega arith)
 
-pub passed_all : (n : Naming) (v : ℕ) (row : List ℕ) (from place to : ℕ) → IsRow n v row → length row ≤ place → to ≡ length n.sets → ((k : ℕ) → k < place → get_or row k 0 < from) → NoneName n from to v
-passed_all n v row from place to is h e low = row_passed n v row from to is (omega arith) (λ k lt. inl (low k (omega arith)))
+pub last_passed : (row : List ℕ) (place to : ℕ) → IsRising row → 0 < place → place ≤ length row → ((k : ℕ) → place ≤ k → k < length row → to ≤ get_or row k 0) → (j : ℕ) → Contains row j → j < to → j < get_or row (place - 1) 0 + 1
+last_passed row place to rising some h high j c lt =
+    let here : get_or row c.0 0 ≡ j = get_or_default row c.0 0 j c.1 ∙ c.2 in
+    elim (cases_lt c.0 place) [
+      | inl before ↦ let up = rising c.0 (place - 1) (omega arith) (omega arith) in omega arith
+      | inr after ↦ let le = high c.0 after c.1 in absurd (omega arith)
+    ]
 
--- before a place
-pub passed_from : (n : Naming) (v : ℕ) (row : List ℕ) (place to : ℕ) → IsRow n v row → 0 < place → place ≤ length row → to ≤ length n.sets
-    → ((k : ℕ) → place ≤ k → k < length row → to ≤ get_or row k 0) → NoneName n (get_or row (place - 1) 0 + 1) to v
-passed_from n v row place to is some h within high =
-    row_passed n v row (get_or row (place - 1) 0 + 1) to is within
-    (λ k lt. elim (cases_lt k place) [
-      | inl before ↦ let up = is.rising k (place - 1) (omega arith) (omega arith) in inl (omega arith)
-      | inr after ↦ inr (high k after lt)
-    ])
+pub last_absent : (row : List ℕ) (place to : ℕ) → place ≤ 0 → ((k : ℕ) → place ≤ k → k < length row → to ≤ get_or row k 0) → (j : ℕ) → Contains row j → j < to → j < 0
+last_absent row place to none high j c lt =
+    let here : get_or row c.0 0 ≡ j = get_or_default row c.0 0 j c.1 ∙ c.2 in
+    let le = high c.0 (omega arith) c.1 in
+    absurd (omega arith)
 
-pub passed_none : (n : Naming) (v : ℕ) (row : List ℕ) (place to : ℕ) → IsRow n v row → place ≤ 0 → to ≤ length n.sets → ((k : ℕ) → place ≤ k → k < length row → to ≤ get_or row k 0) → NoneName n 0 to v
-passed_none n v row place to is none within high = row_passed n v row 0 to is within (λ k lt. inr (high k (omega arith) lt))
+-- ---- one variable
+
+in_sets : (n : Naming) (j v : ℕ) → IsIn (set_at n j) v → j < length n.sets
+in_sets n j v inside =
+    ⊎_elim (λ (h : j < length n.sets). h) (λ (h : length n.sets ≤ j). let lt = in_length (set_at n j) v inside in let out : length (set_at n j) ≡ 0 = ap length (get_or_past n.sets j [] h) in absurd (omega arith)) (cases_lt j (length n.sets))
+
+pub none_up : (n : Naming) (rows : Rows) (v from result : ℕ) → AreRows n rows → v < n.count → ((j : ℕ) → HasKernel rows v j → from ≤ j → result ≤ j) → NoneName n from result v
+none_up n rows v from result are h passed j le lt inside =
+    let past = passed j ((are.exactly v j h).1 (in_sets n j v inside, inside)) le in
+    absurd (omega arith)
+
+pub none_down : (n : Naming) (rows : Rows) (v result to : ℕ) → AreRows n rows → v < n.count → ((j : ℕ) → HasKernel rows v j → j < to → j < result) → NoneName n result to v
+none_down n rows v result to are h passed j le lt inside =
+    let past = passed j ((are.exactly v j h).1 (in_sets n j v inside, inside)) lt in
+    absurd (omega arith)
 
 -- ---- some variables
 
-next_one : (variables : List ℕ) (i v : ℕ) → i < length variables → Contains (take (i + 1) variables) v → Contains (take i variables) v ⊎ (get_or variables i 0 ≡ v)
+pub next_one : (variables : List ℕ) (i v : ℕ) → i < length variables → Contains (take (i + 1) variables) v → Contains (take i variables) v ⊎ (get_or variables i 0 ≡ v)
 next_one variables i v h c = Contains-push_cases (take i variables) (get_or variables i 0) v (subst (λ (xs : List ℕ). Contains xs v) (take_more variables i 0 h) c)
 
 pub passed_up : (n : Naming) (variables : List ℕ) (i from first one both : ℕ) → i < length variables → both ≤ first → both ≤ one

@@ -3,5 +3,8 @@ pub mod GroupLaws
 pub mod FlatLaws
 pub mod MaskLaws
 pub mod ListedLaws
+pub mod PartLaws
 pub mod RowLaws
+pub mod NamingLaws
 pub mod AskLaws
+pub mod ListLaws

@@ -1,18 +1,23 @@
--- Rows of the kernels that name a variable.
-use Rattle.std.proofs.Common.{◌≡◌, ◌≢◌, ℕ, ◌+◌, ◌<◌, ◌≤◌, List, [], ◌∷◌, ◌++◌, length, get_or, set, sym, ◌∙◌, ap, subst, ⊎_elim, arith, inl, inr}
+-- Rows of the numbers that have a key.
+use Rattle.std.proofs.Common.{◌≡◌, ◌≢◌, ℕ, ◌+◌, ◌<◌, ◌≤◌, List, [], ◌∷◌, ◌++◌, length, get_or, set, refl, sym, ◌∙◌, ap, subst, ⊎_elim, arith, inl, inr, ◌⊎◌}
 use Rattle.std.specs.Prelude.{Vec, Contains}
 use Rattle.std.specs.declared.alloc.Global.{Global}
 use Rattle.std.proofs.lemmas.Bool.{cases_eq, cases_lt}
 use Rattle.std.proofs.lemmas.Grind.{get_or-set_at}
-use Rattle.std.proofs.lemmas.List.{length_push, length-set, get_or_append_left, get_or_push, get_or_default, get_or-set_other}
+use Rattle.std.proofs.lemmas.List.{length_push, length-set, get_or-map, get_or_append_left, get_or_push, get_or-set_other}
 use Rattle.std.proofs.lemmas.List.Elements.{Contains-get_or, Contains-push, Contains-push_cases, Contains-append_left}
-use Rattle.guarded_tell.specs.declared.kernel.Kernel.{Kernel}
-use Rattle.guarded_tell.specs.Kernels.{vars_of}
-use Rattle.moved_set.specs.Sets.{IsIn, Naming, set_at, IsNaming}
-use Rattle.moved_set.specs.Rows.{IsRising, AreRows, NamesAt, IsRowTo, IsRowWith, AreRowsTo, AreRowsWith}
+use Rattle.moved_set.specs.Rows.{IsRising, row_at, IsRowTo, AreRowsTo}
 
-none_of : (x : ℕ) → Contains [] x → ⊥
+pub none_of : (x : ℕ) → Contains [] x → ⊥
 none_of x c = let lt = c.1 in omega arith
+
+-- the row at a place, by any default
+pub row_is : (rows : List (Vec ℕ Global)) (k : ℕ) (d : Vec ℕ Global) → k < length rows → row_at rows k ≡ (get_or rows k d).items
+row_is rows k d h = get_or-map (λ (row : Vec ℕ Global). row.items) rows k d [] h
+
+-- the row that the code lends
+pub row_lent : (rows : List (Vec ℕ Global)) (k : ℕ) (row : Vec ℕ Global) (lent : List ℕ) → k < length rows → row ≡ get_or rows k row → lent ≡ row.items → lent ≡ row_at rows k
+row_lent rows k row lent h is same = same ∙ ap (λ (r : Vec ℕ Global). r.items) is ∙ sym (row_is rows k row h)
 
 rising_push : (row : List ℕ) (j : ℕ) → IsRising row → ((i : ℕ) → Contains row i → i ≤ j) → IsRising (row ++ j ∷ [])
 rising_push row j rising most a b le lt =
@@ -39,20 +44,25 @@ rising_push row j rising most a b le lt =
 
 -- ---- one row
 
-with_none : (kernels : List Kernel) (to v : ℕ) (row : List ℕ) → IsRowTo kernels to v row → IsRowWith kernels to [] v row
-with_none kernels to v row is = record {
+-- the row also has the next number, if its key is among these
+pub record IsRowWith (keys : ℕ → List ℕ) (to : ℕ) (some : List ℕ) (key : ℕ) (row : List ℕ) : Type 0 where
+  pub rising : IsRising row
+  pub exactly : (j : ℕ) → (Contains row j → ((j < to) × Contains (keys j) key) ⊎ ((j ≡ to) × Contains some key)) × (((j < to) × Contains (keys j) key) ⊎ ((j ≡ to) × Contains some key) → Contains row j)
+
+with_none : (keys : ℕ → List ℕ) (to key : ℕ) (row : List ℕ) → IsRowTo keys to key row → IsRowWith keys to [] key row
+with_none keys to key row is = record {
   rising = is.rising;
   exactly = λ j. (
     λ c. inl ((is.exactly j).0 c),
     λ s. elim s [
       | inl p ↦ (is.exactly j).1 p
-      | inr p ↦ absurd (none_of v p.1)
+      | inr p ↦ absurd (none_of key p.1)
     ],
   );
 }
 
-with_put : (kernels : List Kernel) (to : ℕ) (vars : List ℕ) (w v : ℕ) (row : List ℕ) → w ≡ v → IsRowWith kernels to vars v row → IsRowWith kernels to (vars ++ w ∷ []) v (row ++ to ∷ [])
-with_put kernels to vars w v row same is = record {
+with_put : (keys : ℕ → List ℕ) (to : ℕ) (some : List ℕ) (w key : ℕ) (row : List ℕ) → w ≡ key → IsRowWith keys to some key row → IsRowWith keys to (some ++ w ∷ []) key (row ++ to ∷ [])
+with_put keys to some w key row same is = record {
   rising = rising_push row to is.rising (λ i c. elim ((is.exactly i).0 c) [
     | inl p ↦ let lt = p.0 in omega arith
     | inr p ↦ let e = p.0 in omega arith
@@ -61,9 +71,9 @@ with_put kernels to vars w v row same is = record {
     λ c. elim (Contains-push_cases row to j c) [
       | inl before ↦ elim ((is.exactly j).0 before) [
         | inl p ↦ inl p
-        | inr p ↦ inr (p.0, Contains-append_left vars (w ∷ []) v p.1)
+        | inr p ↦ inr (p.0, Contains-append_left some (w ∷ []) key p.1)
       ]
-      | inr here ↦ inr (sym here, subst (Contains (vars ++ w ∷ [])) same (Contains-push vars w))
+      | inr here ↦ inr (sym here, subst (Contains (some ++ w ∷ [])) same (Contains-push some w))
     ],
     λ s. elim s [
       | inl p ↦ Contains-append_left row (to ∷ []) j ((is.exactly j).1 (inl p))
@@ -72,17 +82,17 @@ with_put kernels to vars w v row same is = record {
   );
 }
 
-with_other : (kernels : List Kernel) (to : ℕ) (vars : List ℕ) (w v : ℕ) (row : List ℕ) → w ≢ v → IsRowWith kernels to vars v row → IsRowWith kernels to (vars ++ w ∷ []) v row
-with_other kernels to vars w v row ne is = record {
+with_other : (keys : ℕ → List ℕ) (to : ℕ) (some : List ℕ) (w key : ℕ) (row : List ℕ) → w ≢ key → IsRowWith keys to some key row → IsRowWith keys to (some ++ w ∷ []) key row
+with_other keys to some w key row ne is = record {
   rising = is.rising;
   exactly = λ j. (
     λ c. elim ((is.exactly j).0 c) [
       | inl p ↦ inl p
-      | inr p ↦ inr (p.0, Contains-append_left vars (w ∷ []) v p.1)
+      | inr p ↦ inr (p.0, Contains-append_left some (w ∷ []) key p.1)
     ],
     λ s. elim s [
       | inl p ↦ (is.exactly j).1 (inl p)
-      | inr p ↦ elim (Contains-push_cases vars w v p.1) [
+      | inr p ↦ elim (Contains-push_cases some w key p.1) [
         | inl before ↦ (is.exactly j).1 (inr (p.0, before))
         | inr here ↦ absurd (ne here)
       ]
@@ -90,19 +100,15 @@ with_other kernels to vars w v row ne is = record {
   );
 }
 
-with_all : (kernels : List Kernel) (to v : ℕ) (row : List ℕ) (k : Kernel) → to < length kernels → k ≡ get_or kernels to k → IsRowWith kernels to (vars_of k) v row → IsRowTo kernels (to + 1) v row
-with_all kernels to v row k h is_k is = record {
+with_all : (keys : ℕ → List ℕ) (to key : ℕ) (some row : List ℕ) → keys to ≡ some → IsRowWith keys to some key row → IsRowTo keys (to + 1) key row
+with_all keys to key some row all is = record {
   rising = is.rising;
   exactly = λ j. (
     λ c. elim ((is.exactly j).0 c) [
       | inl p ↦ let lt = p.0 in (omega arith, p.1)
       | inr p ↦
-          let e = p.0 in (
-            omega arith,
-            λ d.
-                let here : k ≡ get_or kernels j d = is_k ∙ get_or_default kernels to k d h ∙ ap (λ (n : ℕ). get_or kernels n d) (sym e) in
-                subst (λ (x : Kernel). Contains (vars_of x) v) here p.1,
-          )
+          let e = p.0 in
+          (omega arith, subst (λ (ks : List ℕ). Contains ks key) (sym all ∙ ap keys (sym e)) p.1)
     ],
     λ p.
         let lt = p.0 in
@@ -110,78 +116,82 @@ with_all kernels to v row k h is_k is = record {
         let last : to ≤ j → Contains row j =
         λ above.
         let e : j ≡ to = omega arith in
-        (is.exactly j).1 (inr (e, subst (λ (x : Kernel). Contains (vars_of x) v) (ap (λ (n : ℕ). get_or kernels n k) e ∙ sym is_k) (p.1 k))) in
+        (is.exactly j).1 (inr (e, subst (λ (ks : List ℕ). Contains ks key) (ap keys e ∙ all) p.1)) in
         ⊎_elim before last (cases_lt j to),
   );
 }
 
 -- ---- all rows
 
-pub rows_none : (kernels : List Kernel) (rows : List (Vec ℕ Global)) → rows ≡ [] → AreRowsTo kernels 0 0 rows
-rows_none kernels rows is = record { length_is = ap length is; each = λ v d h. absurd (omega arith) }
+pub record AreRowsWith (keys : ℕ → List ℕ) (to : ℕ) (some : List ℕ) (count : ℕ) (rows : List (Vec ℕ Global)) : Type 0 where
+  pub length_is : length rows ≡ count
+  pub each : (key : ℕ) → key < count → IsRowWith keys to some key (row_at rows key)
 
-pub rows_empty : (kernels : List Kernel) (count : ℕ) (rows : List (Vec ℕ Global)) (row : Vec ℕ Global) → row.items ≡ [] → AreRowsTo kernels 0 count rows → AreRowsTo kernels 0 (count + 1) (rows ++ row ∷ [])
-rows_empty kernels count rows row is are = record {
-  length_is = length_push rows row ∙ ap (λ (n : ℕ). n + 1) are.length_is;
-  each = λ v d h.
-      let len = are.length_is in
-      let old : v < count → IsRowTo kernels 0 v (get_or (rows ++ row ∷ []) v d).items =
-      λ lt. subst (λ (x : Vec ℕ Global). IsRowTo kernels 0 v x.items) (sym (get_or_append_left rows (row ∷ []) d v (omega arith))) (are.each v d lt) in
-      let new : count ≤ v → IsRowTo kernels 0 v (get_or (rows ++ row ∷ []) v d).items =
-      λ le.
-      let empty : IsRowTo kernels 0 v [] = record {
-        rising = λ a b x y. absurd (omega arith);
-        exactly = λ j. (λ c. absurd (none_of j c), λ p. let lt = p.0 in absurd (omega arith));
-      } in
-      subst (λ (x : Vec ℕ Global). IsRowTo kernels 0 v x.items) (sym (get_or_push rows row d v (omega arith))) (subst (IsRowTo kernels 0 v) (sym is) empty) in
-      ⊎_elim old new (cases_lt v count);
-}
+pub rows_none : (keys : ℕ → List ℕ) (rows : List (Vec ℕ Global)) → rows ≡ [] → AreRowsTo keys 0 0 rows
+rows_none keys rows is = record { length_is = ap length is; each = λ key h. absurd (omega arith) }
 
-pub rows_begin : (kernels : List Kernel) (to count : ℕ) (rows : List (Vec ℕ Global)) → AreRowsTo kernels to count rows → AreRowsWith kernels to [] count rows
-rows_begin kernels to count rows are = record {
-  length_is = are.length_is;
-  each = λ v d h. with_none kernels to v (get_or rows v d).items (are.each v d h);
-}
-
-pub rows_put : (kernels : List Kernel) (to : ℕ) (vars more : List ℕ) (w count : ℕ) (rows : List (Vec ℕ Global)) (old new : Vec ℕ Global) → w < count → more ≡ vars ++ w ∷ []
-    → old ≡ get_or rows w old → new.items ≡ old.items ++ to ∷ [] → AreRowsWith kernels to vars count rows → AreRowsWith kernels to more count (set rows w new)
-rows_put kernels to vars more w count rows old new h e o n are =
+pub rows_empty : (keys : ℕ → List ℕ) (count : ℕ) (rows : List (Vec ℕ Global)) (row : Vec ℕ Global) → row.items ≡ [] → AreRowsTo keys 0 count rows → AreRowsTo keys 0 (count + 1) (rows ++ row ∷ [])
+rows_empty keys count rows row is are =
     let len = are.length_is in
-    subst (λ (xs : List ℕ). AreRowsWith kernels to xs count (set rows w new)) (sym e) (record {
-      length_is = length-set rows w new ∙ are.length_is;
-      each = λ v d k. elim (cases_eq v w) [
-        | inl q ↦
-            subst (λ (x : Vec ℕ Global). IsRowWith kernels to (vars ++ w ∷ []) v x.items) (sym (get_or-set_at rows w v new d q (omega arith)))
-            (subst (IsRowWith kernels to (vars ++ w ∷ []) v) (sym n)
-            (with_put kernels to vars w v old.items (sym q) (subst (λ (x : Vec ℕ Global). IsRowWith kernels to vars v x.items) (ap (λ m. get_or rows m old) q ∙ sym o) (are.each v old k))))
-        | inr ne ↦
-            subst (λ (x : Vec ℕ Global). IsRowWith kernels to (vars ++ w ∷ []) v x.items) (sym (get_or-set_other rows w v new d ne))
-            (with_other kernels to vars w v (get_or rows v d).items (λ z. ne (sym z)) (are.each v d k))
-      ];
+    let more : length (rows ++ row ∷ []) ≡ count + 1 = length_push rows row ∙ ap (λ (n : ℕ). n + 1) are.length_is in
+    record {
+      length_is = more;
+      each = λ key h.
+          let here : row_at (rows ++ row ∷ []) key ≡ (get_or (rows ++ row ∷ []) key row).items = row_is (rows ++ row ∷ []) key row (omega arith) in
+          let old : key < count → IsRowTo keys 0 key (row_at (rows ++ row ∷ []) key) =
+          λ lt.
+          let same : row_at (rows ++ row ∷ []) key ≡ row_at rows key =
+          here ∙ ap (λ (r : Vec ℕ Global). r.items) (get_or_append_left rows (row ∷ []) row key (omega arith)) ∙ sym (row_is rows key row (omega arith)) in
+          subst (IsRowTo keys 0 key) (sym same) (are.each key lt) in
+          let new : count ≤ key → IsRowTo keys 0 key (row_at (rows ++ row ∷ []) key) =
+          λ le.
+          let empty : IsRowTo keys 0 key [] = record {
+            rising = λ a b x y. absurd (omega arith);
+            exactly = λ j. (λ c. absurd (none_of j c), λ p. let lt = p.0 in absurd (omega arith));
+          } in
+          let same : row_at (rows ++ row ∷ []) key ≡ [] =
+          here ∙ ap (λ (r : Vec ℕ Global). r.items) (get_or_push rows row row key (omega arith)) ∙ is in
+          subst (IsRowTo keys 0 key) (sym same) empty in
+          ⊎_elim old new (cases_lt key count);
+    }
+
+pub rows_begin : (keys : ℕ → List ℕ) (to count : ℕ) (rows : List (Vec ℕ Global)) → AreRowsTo keys to count rows → AreRowsWith keys to [] count rows
+rows_begin keys to count rows are = record {
+  length_is = are.length_is;
+  each = λ key h. with_none keys to key (row_at rows key) (are.each key h);
+}
+
+pub rows_put : (keys : ℕ → List ℕ) (to : ℕ) (some more : List ℕ) (w count : ℕ) (rows : List (Vec ℕ Global)) (old new : Vec ℕ Global) → w < length rows → more ≡ some ++ w ∷ []
+    → old ≡ get_or rows w old → new.items ≡ old.items ++ to ∷ [] → AreRowsWith keys to some count rows → AreRowsWith keys to more count (set rows w new)
+rows_put keys to some more w count rows old new h e o n are =
+    let len = are.length_is in
+    let set_len : length (set rows w new) ≡ length rows = length-set rows w new in
+    subst (λ (xs : List ℕ). AreRowsWith keys to xs count (set rows w new)) (sym e) (record {
+      length_is = set_len ∙ are.length_is;
+      each = λ key k.
+          let here : row_at (set rows w new) key ≡ (get_or (set rows w new) key old).items = row_is (set rows w new) key old (omega arith) in
+          let before : row_at rows key ≡ (get_or rows key old).items = row_is rows key old (omega arith) in
+          elim (cases_eq key w) [
+            | inl q ↦
+                let was : row_at rows key ≡ old.items = before ∙ ap (λ (r : Vec ℕ Global). r.items) (ap (λ m. get_or rows m old) q ∙ sym o) in
+                let now : row_at (set rows w new) key ≡ old.items ++ to ∷ [] = here ∙ ap (λ (r : Vec ℕ Global). r.items) (get_or-set_at rows w key new old q (omega arith)) ∙ n in
+                subst (IsRowWith keys to (some ++ w ∷ []) key) (sym now)
+                (with_put keys to some w key old.items (sym q) (subst (IsRowWith keys to some key) was (are.each key k)))
+            | inr ne ↦
+                let same : row_at (set rows w new) key ≡ row_at rows key = here ∙ ap (λ (r : Vec ℕ Global). r.items) (get_or-set_other rows w key new old ne) ∙ sym before in
+                subst (IsRowWith keys to (some ++ w ∷ []) key) (sym same)
+                (with_other keys to some w key (row_at rows key) (λ z. ne (sym z)) (are.each key k))
+          ];
     })
 
-pub rows_end : (kernels : List Kernel) (to count : ℕ) (rows : List (Vec ℕ Global)) (k : Kernel) → to < length kernels → k ≡ get_or kernels to k → AreRowsWith kernels to (vars_of k) count rows → AreRowsTo kernels (to + 1) count rows
-rows_end kernels to count rows k h is are = record {
+pub rows_end : (keys : ℕ → List ℕ) (to count : ℕ) (some : List ℕ) (rows : List (Vec ℕ Global)) → keys to ≡ some → AreRowsWith keys to some count rows → AreRowsTo keys (to + 1) count rows
+rows_end keys to count some rows all are = record {
   length_is = are.length_is;
-  each = λ v d lt. with_all kernels to v (get_or rows v d).items k h is (are.each v d lt);
+  each = λ key h. with_all keys to key some (row_at rows key) all (are.each key h);
 }
 
--- the rows of the kernels are those of the sets of their variables
-pub rows_named : (kernels : List Kernel) (naming : Naming) (rows : List (Vec ℕ Global)) → IsNaming kernels naming → AreRowsTo kernels (length kernels) naming.count rows → AreRows naming rows
-rows_named kernels naming rows named are = record {
-  length_is = are.length_is;
-  each = λ v d h.
-      let row = are.each v d h in
-      let len = named.same_length in
-      record {
-        rising = row.rising;
-        exactly = λ j. (
-          λ c. let p = (row.exactly j).0 c in let lt = p.0 in (omega arith, in_from kernels naming named j v lt p.1),
-          λ p. let lt = p.0 in let below : j < length kernels = omega arith in (row.exactly j).1 (below, λ k. (named.each j k v below).0 p.1),
-        );
-      };
-}
-  where
-    in_from : (kernels : List Kernel) (naming : Naming) → IsNaming kernels naming → (j v : ℕ) → j < length kernels → NamesAt kernels j v → IsIn (set_at naming j) v
-    in_from [] naming named j v h names = absurd (omega arith)
-    in_from (k ∷ ks) naming named j v h names = (named.each j k v h).1 (names k)
+-- one key
+pub rows_one : (keys : ℕ → List ℕ) (to w count : ℕ) (rows : List (Vec ℕ Global)) (old new : Vec ℕ Global) → w < length rows → keys to ≡ w ∷ []
+    → old ≡ get_or rows w old → new.items ≡ old.items ++ to ∷ [] → AreRowsTo keys to count rows → AreRowsTo keys (to + 1) count (set rows w new)
+rows_one keys to w count rows old new h all o n are =
+    rows_end keys to count (w ∷ []) (set rows w new) all (rows_put keys to [] (w ∷ []) w count rows old new h refl o n (rows_begin keys to count rows are))

@@ -14,4 +14,4 @@ pub record IsConsistent (m : Inside) : Type 0 where
   pub sixty_fours : All (AreBelow m.count) m.sixty_fours
   pub by_eight : IsMerged m.kernels m.eights
   pub by_sixty_four : IsMerged m.eights m.sixty_fours
-  pub rows : AreRows (record { count = m.count; sets = map (named_by m.count) m.kernels }) m.rows.items
+  pub rows : AreRows (record { count = m.count; sets = map (named_by m.count) m.kernels }) m.rows

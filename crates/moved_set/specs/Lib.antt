@@ -6,4 +6,5 @@ pub mod Building
 pub mod Questions
 pub mod Consistent
 pub mod ConsistentSet
+pub mod Parts
 pub mod Rows

@@ -6,6 +6,7 @@ mod few;
 mod groups;
 mod mask;
 mod masks;
+mod parts;
 mod rows;
 mod set;
 

@@ -4,14 +4,14 @@ ghost use Rattle.std.specs.Prelude.{◌≡◌, ◌≢◌, ◌<◌, ◌≤◌, �
 ghost use Rattle.guarded_tell.specs.Kernels.{IsKernel};
 ghost use Rattle.moved_set.specs.Sets.{IsIn, Meets, set_at, IsNaming, SomeMeets, NoneMeets, NoneName, NamesSome};
 ghost use Rattle.moved_set.specs.Words.{hits};
-ghost use Rattle.moved_set.specs.Rows.{IsRow};
 ghost use Rattle.moved_set.specs.Questions.{AreBelow, NamesOne};
 
 use crate::MovedSet;
 use crate::build::{kernel_groups, merged};
 use crate::groups::Groups;
 use crate::mask::Mask;
-use crate::rows::{below, kernel_rows};
+use crate::parts::parts_of;
+use crate::rows::Rows;
 use crate::set::word_count;
 use guarded_tell::Kernel;
 use interval::NoMemory;
@@ -26,7 +26,7 @@ pub struct Masks {
     kernels: Groups,
     eights: Groups,
     sixty_fours: Groups,
-    rows: Vec<Vec<usize>>,
+    rows: Rows,
 }
 
 impl Model for Masks {
@@ -50,7 +50,8 @@ impl Masks {
         ensures count { IfOk result (λ m. m.count ≡ count) }
         ensures naming { IfOk result (IsNaming kernels.now) }
     {
-        let rows = kernel_rows(alloc, kernels, count)?;
+        let parts = parts_of(alloc, kernels, count)?;
+        let rows = Rows::of(alloc, kernels, &parts, count)?;
         let words = word_count(count);
         let each = kernel_groups(alloc, kernels, words)?;
         let eights = merged(alloc, &each, words)?;
@@ -175,21 +176,7 @@ impl Masks {
         ensures passed { NoneName self.now from result v }
         ensures found { result < length self.now.sets → IsIn (set_at self.now result) v }
     {
-        let row = self.row(v);
-        let place = below(row, from);
-        if place < row.len() {
-            row[place]
-        } else {
-            self.len()
-        }
-    }
-
-    /// The kernels that name the variable, rising.
-    fn row(&self, v: u32) -> &[usize]
-        requires { v < self.now.count }
-        ensures { IsRow self.now v result.now }
-    {
-        self.rows[v as usize].as_slice()
+        self.rows.next(v, from, self.len())
     }
 
     /// The place behind the last kernel before `to` that names one of these variables, or 0.
@@ -215,9 +202,7 @@ impl Masks {
         ensures passed { NoneName self.now result to v }
         ensures found { 0 < result → IsIn (set_at self.now (result - 1)) v }
     {
-        let row = self.row(v);
-        let place = below(row, to);
-        if place > 0 { row[place - 1] + 1 } else { 0 }
+        self.rows.last(v, to)
     }
 
     /// How many kernels from this one on surely name no variable of the set, asked for 64, for 8 and for one. None

@@ -6,11 +6,11 @@ use Rattle.moved_set.proofs.RowLaws.{rows_empty}
 use Rattle.moved_set.proofs.rows.empty_rows.Goals as goal
 
 pub loop-made-preserved : goal.loop-made-preserved
-loop-made-preserved c kernels =
-    subst (λ (rows : List (Vec ℕ Global)). AreRowsTo kernels 0 (c.loop-made.made + 1) rows) (sym c.in_ok-push.ensures.items)
-    (rows_empty kernels c.loop-made.made c.loop-made.rows.items c.new.result c.new.ensures.items (c.loop-made.invariant kernels))
+loop-made-preserved c keys =
+    subst (λ (rows : List (Vec ℕ Global)). AreRowsTo keys 0 (c.loop-made.made + 1) rows) (sym c.in_ok-push.ensures.items)
+    (rows_empty keys c.loop-made.made c.loop-made.rows.items c.new.result c.new.ensures.items (c.loop-made.invariant keys))
 
 pub returns : goal.returns
-returns c kernels =
+returns c keys =
     let all : c.loop-made.made ≡ c.args.count = omega arith in
-    subst (λ (n : ℕ). AreRowsTo kernels 0 n c.loop-made.rows.items) all (c.loop-made.invariant kernels)
+    subst (λ (n : ℕ). AreRowsTo keys 0 n c.loop-made.rows.items) all (c.loop-made.invariant keys)

@@ -1,24 +1,22 @@
-use Rattle.std.proofs.Common.{◌≡◌, ◌+◌, ◌-◌, ℕ, get_or, subst, sym, arith}
-use Rattle.moved_set.specs.Sets.{IsIn, set_at}
-use Rattle.moved_set.proofs.AskLaws.{row_found, passed_from, passed_none}
+use Rattle.std.proofs.Common.{◌-◌, subst, arith}
+use Rattle.moved_set.specs.Sets.{Naming}
+use Rattle.moved_set.specs.Rows.{AreRows}
+use Rattle.moved_set.proofs.AskLaws.{none_down}
 use Rattle.moved_set.proofs.masks.Masks.last_naming.Goals as goal
 
-pub below-place-requires : goal.below-place-requires
-below-place-requires c = c.row-row.ensures.rising
+pub last-requires : goal.last-requires
+last-requires c =
+    let rows : AreRows c.args.self.now c.self.inside.rows = subst (λ (n : Naming). AreRows n c.self.inside.rows) c.self.view_is c.self.invariant.rows in
+    let len = rows.length_is in
+    let there = c.requires.variable in
+    record { shaped = rows.shaped; variable = omega arith }
 
-pub returns-then-place-gt0-clause-passed : goal.returns-then-place-gt0-clause-passed
-returns-then-place-gt0-clause-passed c =
-    passed_from c.args.self.now c.args.v c.row-row.result.now c.below-place.result c.args.to c.row-row.ensures c.if-place-gt0.true c.below-place.ensures.within c.requires.to c.below-place.ensures.high
+pub returns-clause-passed : goal.returns-clause-passed
+returns-clause-passed c =
+    let rows : AreRows c.args.self.now c.self.inside.rows = subst (λ (n : Naming). AreRows n c.self.inside.rows) c.self.view_is c.self.invariant.rows in
+    none_down c.args.self.now c.self.inside.rows c.args.v c.last.result c.args.to rows c.requires.variable c.last.ensures.passed
 
-pub returns-then-place-gt0-clause-found : goal.returns-then-place-gt0-clause-found
-returns-then-place-gt0-clause-found c h =
-    let within = c.below-place.ensures.within in
-    let some = c.if-place-gt0.true in
-    let at : ℕ = get_or c.row-row.result.now (c.below-place.result - 1) 0 in
-    let back : at + 1 - 1 ≡ at = omega arith in
-    subst (λ (j : ℕ). IsIn (set_at c.args.self.now j) c.args.v) (sym back)
-    (row_found c.args.self.now c.args.v c.row-row.result.now (c.below-place.result - 1) c.row-row.ensures (omega arith)).1
-
-pub returns-else-place-gt0-clause-passed : goal.returns-else-place-gt0-clause-passed
-returns-else-place-gt0-clause-passed c =
-    passed_none c.args.self.now c.args.v c.row-row.result.now c.below-place.result c.args.to c.row-row.ensures c.if-place-gt0.false c.requires.to c.below-place.ensures.high
+pub returns-clause-found : goal.returns-clause-found
+returns-clause-found c h =
+    let rows : AreRows c.args.self.now c.self.inside.rows = subst (λ (n : Naming). AreRows n c.self.inside.rows) c.self.view_is c.self.invariant.rows in
+    ((rows.exactly c.args.v (c.last.result - 1) c.requires.variable).0 (c.last.ensures.found h)).1

@@ -1,5 +1,5 @@
 use Rattle.moved_set.proofs.MaskLaws.{kernels_below, groups_below, merged_below, naming_made}
-use Rattle.moved_set.proofs.RowLaws.{rows_named}
+use Rattle.moved_set.proofs.NamingLaws.{rows_named}
 use Rattle.moved_set.proofs.masks.Masks.new.Goals as goal
 
 pub kernel_groups-requires : goal.kernel_groups-requires
@@ -16,7 +16,9 @@ invariant_of-result c =
       sixty_fours = merged_below c.args.count words c.in_ok-eights.eights c.in_ok-sixty_fours.sixty_fours c.word_count-words.ensures eights c.in_ok-sixty_fours.ensures.merged c.in_ok-sixty_fours.ensures.within;
       by_eight = c.in_ok-eights.ensures.merged;
       by_sixty_four = c.in_ok-sixty_fours.ensures.merged;
-      rows = rows_named c.args.kernels.now _ c.in_ok-rows.rows.items (naming_made c.args.count c.args.kernels.now c.in_ok-each.each c.requires c.in_ok-each.ensures.named) c.in_ok-rows.ensures;
+      rows = rows_named c.args.kernels.now c.in_ok-parts.parts.lists.items c.in_ok-parts.parts.of_kernels.items _ c.in_ok-rows.rows
+          (naming_made c.args.count c.args.kernels.now c.in_ok-each.each c.requires c.in_ok-each.ensures.named) c.in_ok-parts.ensures.parts
+          c.in_ok-rows.ensures.own c.in_ok-rows.ensures.lists c.in_ok-rows.ensures.users;
     }
 
 pub returns-clause-naming : goal.returns-clause-naming

@@ -1,0 +1,52 @@
+-- Kernels' variables in two parts: some of the kernel's own, and behind them a list that it may have with others.
+use Rattle.std.specs.Prelude.{◌≡◌, ℕ, ◌<◌, ◌≤◌, ◌⊎◌, ◌++◌, List, [], ◌∷◌, length, map, take, slice_index_or, Contains}
+use Rattle.guarded_tell.specs.declared.kernel.Kernel.{Kernel}
+use Rattle.guarded_tell.specs.Kernels.{vars_of}
+use Rattle.moved_set.specs.declared.parts.Part.{Part}
+
+-- the variables of the kernel at a place
+abbrev pub vars_at : List Kernel → ℕ → List ℕ
+vars_at kernels j = slice_index_or (map vars_of kernels) j []
+
+-- the list at a place
+abbrev pub list_at : List (List ℕ) → ℕ → List ℕ
+list_at lists l = slice_index_or lists l []
+
+-- the part of the kernel at a place
+abbrev pub part_at : List Part → ℕ → Part
+part_at parts j = slice_index_or parts j (record { own = 0; list = 0 })
+
+-- behind so many first variables stands the list, up to the end
+pub record EndsWith (vars : List ℕ) (own : ℕ) (list : List ℕ) : Type 0 where
+  pub within : own ≤ length vars
+  pub parted : vars ≡ take own vars ++ list
+
+-- behind so many first variables stands the list at the part's place
+pub record IsPart (vars : List ℕ) (lists : List (List ℕ)) (part : Part) : Type 0 where
+  pub there : part.list < length lists
+  pub ends : EndsWith vars part.own (list_at lists part.list)
+
+-- the first list is empty, and all are of the first `count` variables
+pub record AreLists (count : ℕ) (lists : List (List ℕ)) : Type 0 where
+  pub some : 0 < length lists
+  pub empty : list_at lists 0 ≡ []
+  pub variables : (l v : ℕ) → Contains (list_at lists l) v → v < count
+
+-- the kernels before a place have these parts
+pub record AreParts (kernels : List Kernel) (to : ℕ) (lists : List (List ℕ)) (parts : List Part) : Type 0 where
+  pub same_length : length parts ≡ to
+  pub each : (j : ℕ) → j < to → IsPart (vars_at kernels j) lists (part_at parts j)
+
+-- the own variables of the kernel at a place
+abbrev pub own_at : List Kernel → List Part → ℕ → List ℕ
+own_at kernels parts j = take (part_at parts j).own (vars_at kernels j)
+
+-- ---- while they are built
+
+-- the list is put behind the others, or they stay
+abbrev pub Grows : List ℕ → List (List ℕ) → List (List ℕ) → Type 0
+Grows list old new = (new ≡ old) ⊎ (new ≡ old ++ list ∷ [])
+
+-- a list that the variables end with is put behind the others, or they stay
+abbrev pub GrowsBy : List ℕ → List (List ℕ) → List (List ℕ) → Type 0
+GrowsBy vars old new = (new ≡ old) ⊎ ((own : ℕ) × (list : List ℕ) × EndsWith vars own list × (new ≡ old ++ list ∷ []))

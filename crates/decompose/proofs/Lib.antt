@@ -5,6 +5,7 @@ pub mod ConstantLaws
 pub mod ElementRows
 pub mod ExampleLaws
 pub mod ExtremeRows
+pub mod KernelLaws
 pub mod Means
 pub mod OneKernel
 pub mod ProgramLaws

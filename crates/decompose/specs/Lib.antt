@@ -1,5 +1,6 @@
 pub mod Examples
 pub mod Kernels
+pub mod Mapped
 pub mod Places
 pub mod Program
 pub mod Rows

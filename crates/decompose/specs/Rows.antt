@@ -19,6 +19,11 @@ abbrev pub sum_kernel : Relation → Numbering → Lit → List ℤ → List Ter
 sum_kernel Relation.AtMost numbering l coefficients terms limit = inequality numbering l coefficients terms limit
 sum_kernel Relation.Equal numbering l coefficients terms limit = equation numbering l coefficients terms limit
 
+-- the same of variables, as one kernel
+abbrev pub linear_kernel : Relation → Lit → List ℤ → List ℕ → ℤ → Kernel
+linear_kernel Relation.AtMost l coefficients vars limit = Kernel.Le l coefficients vars limit
+linear_kernel Relation.Equal l coefficients vars limit = Kernel.Eq l coefficients vars limit
+
 -- the literal is true exactly where two terms compare so
 abbrev pub compared : Comparison → Numbering → Lit → Term → Term → List Kernel
 compared c numbering l x y = sum_kernel c.relation numbering l (pos 1 ∷ c.sign ∷ []) (x ∷ y ∷ []) c.limit
@@ -36,7 +41,11 @@ operation_on Operation.Remainder x y z = Kernel.Mod x y z
 abbrev pub operation_kernel : Operation → Numbering → Term → Term → Term → List Kernel
 operation_kernel operation numbering x y z = operation_on operation (variable_of numbering x) (variable_of numbering y) (variable_of numbering z) ∷ []
 
--- a term is the greatest or the least of some
+-- a variable, or a term, is the greatest or the least of some
+abbrev pub extreme_on : Extreme → ℕ → List ℕ → Kernel
+extreme_on Extreme.Greatest m vars = Kernel.Max m vars
+extreme_on Extreme.Least m vars = Kernel.Min m vars
+
 abbrev pub extreme_kernel : Extreme → Numbering → Term → List Term → List Kernel
 extreme_kernel Extreme.Greatest numbering m terms = Kernel.Max (variable_of numbering m) (variables_of numbering terms) ∷ []
 extreme_kernel Extreme.Least numbering m terms = Kernel.Min (variable_of numbering m) (variables_of numbering terms) ∷ []

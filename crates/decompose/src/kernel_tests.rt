@@ -1,7 +1,7 @@
 //! The kernels of each row of the table, worked out by hand. The variables x, y, z, a, b and r are declared, so that they
 //! are the variables 1 to 6; the constants 4, 9 and 0 are the variables 7, 8 and 9, and the constant 1 is variable 0.
 
-ghost use Rattle.std.specs.Prelude.{◌≡◌, true, IfOk};
+ghost use Rattle.std.specs.Prelude.{◌≡◌, true, All, IfOk};
 ghost use Rattle.decompose.specs.Places.{IsDeclared, HasDeclared};
 
 use crate::kernels::kernels_of;
@@ -43,7 +43,7 @@ fn places(alloc: Global) -> Result<Places, AllocError>
         constants.add(number)?;
     }
     if constants.len() == 3 {
-        Ok(Places::new(6, constants))
+        Ok(Places::new(alloc, 6, constants))
     } else {
         Err(AllocError)
     }
@@ -76,18 +76,30 @@ fn kernels(
     name: Name,
     operands: Vec<Operand>,
 ) -> Result<ListOf<Kernel>, AllocError> {
-    let places = places(alloc)?;
     let constraint = Constraint {
         name,
         operands: ListOf::from_vec(operands),
     };
-    if constraint
+    all_kernels(alloc, &[constraint])
+}
+
+/// Whether each variable of a constraint is declared.
+fn is_served(constraint: &Constraint) -> bool
+    ensures { result ≡ true → All (HasDeclared 6) constraint.now.operands }
+{
+    constraint
         .operands
         .as_slice()
         .iter()
         .all(|operand| has_declared(operand))
-    {
-        kernels_of(alloc, &places, &[constraint])
+}
+
+/// The kernels of constraints, which share what stands for the long lists that the constraints share.
+fn all_kernels(alloc: Global, constraints: &[Constraint]) -> Result<ListOf<Kernel>, AllocError> {
+    let places = places(alloc)?;
+    if constraints.iter().all(|constraint| is_served(constraint)) {
+        let places = places.with_lists(alloc, constraints)?;
+        kernels_of(alloc, &places, constraints)
     } else {
         Ok(ListOf::new(alloc))
     }
@@ -392,5 +404,135 @@ fn clauses_have_two_lists(rt: HostRuntime) -> Result<(), Fail> {
             &[&[is(6), not(4)], &[is(6), is(5)], &[not(6), is(4), not(5)]]
         )
     );
+    Ok(())
+}
+
+/// A long list of one term, with this mark.
+fn long_list(alloc: Global, term: Term, mark: usize) -> Result<SharedList<Term>, AllocError> {
+    let mut terms = Vec::new(alloc);
+    for _ in 0..100 {
+        terms.push(term)?;
+    }
+    SharedList::with_mark(terms, mark)
+}
+
+/// That the sum of the terms, each times its coefficient, is at most 7.
+fn sum_at_most(
+    alloc: Global,
+    coefficients: &SharedList<Term>,
+    terms: &SharedList<Term>,
+) -> Result<Constraint, AllocError> {
+    let operands = vec![in alloc;
+        Operand::Row(coefficients.share(alloc)?),
+        Operand::Row(terms.share(alloc)?),
+        Operand::One(Term::Number(7)),
+    ]?;
+    Ok(Constraint {
+        name: Name::IntLinLe,
+        operands: ListOf::from_vec(operands),
+    })
+}
+
+/// Whether a kernel is a sum of this coefficient and of this variable at each place, and its two lists have these marks.
+fn is_long_sum(
+    kernel: &Kernel,
+    coefficient: i64,
+    var: u32,
+    marks: (Option<usize>, Option<usize>),
+) -> bool {
+    match kernel {
+        Kernel::Le { coeffs, vars, .. } => {
+            coeffs.len() == 100
+                && coeffs
+                    .as_slice()
+                    .iter()
+                    .all(|number| *number == coefficient)
+                && vars.len() == 100
+                && vars.as_slice().iter().all(|place| *place == var)
+                && coeffs.mark_if_shared() == marks.0
+                && vars.mark_if_shared() == marks.1
+        }
+        _ => false,
+    }
+}
+
+#[test]
+fn a_long_array_is_shared(rt: HostRuntime) -> Result<(), Fail> {
+    let alloc = rt.alloc();
+    let threes = long_list(alloc, Term::Number(3), 7)?;
+    let fours = long_list(alloc, FOUR, 8)?;
+    let constraints = vec![in alloc;
+        sum_at_most(alloc, &threes, &fours)?,
+        sum_at_most(alloc, &fours, &fours)?,
+    ]?;
+    let found = all_kernels(alloc, constraints.as_slice())?;
+    match found.as_slice() {
+        [first, second] => {
+            assert!(rt; is_long_sum(first, 3, 7, (None, Some(2))));
+            assert!(rt; is_long_sum(second, 4, 7, (None, Some(2))));
+        }
+        _ => assert!(rt; false),
+    }
+    Ok(())
+}
+
+#[test]
+fn lists_of_one_mark_are_told_apart(rt: HostRuntime) -> Result<(), Fail> {
+    let alloc = rt.alloc();
+    let ones = long_list(alloc, ONE, 3)?;
+    let first = long_list(alloc, X, 7)?;
+    let second = long_list(alloc, Y, 7)?;
+    let constraints = vec![in alloc;
+        sum_at_most(alloc, &ones, &first)?,
+        sum_at_most(alloc, &ones, &second)?,
+    ]?;
+    let found = all_kernels(alloc, constraints.as_slice())?;
+    match found.as_slice() {
+        [first, second] => {
+            assert!(rt; is_long_sum(first, 1, 1, (Some(1), None)));
+            assert!(rt; is_long_sum(second, 1, 2, (Some(1), None)));
+        }
+        _ => assert!(rt; false),
+    }
+    Ok(())
+}
+
+#[test]
+fn entries_and_extremes_share_an_array(rt: HostRuntime) -> Result<(), Fail> {
+    let alloc = rt.alloc();
+    let list = long_list(alloc, Y, 7)?;
+    let greatest = vec![in alloc; Operand::One(X), Operand::Row(list.share(alloc)?)]?;
+    let entry = vec![in alloc;
+        Operand::One(X),
+        Operand::Row(list.share(alloc)?),
+        Operand::One(Z),
+    ]?;
+    let constraints = vec![in alloc;
+        Constraint {
+            name: Name::ArrayIntMaximum,
+            operands: ListOf::from_vec(greatest),
+        },
+        Constraint {
+            name: Name::ArrayVarIntElement,
+            operands: ListOf::from_vec(entry),
+        },
+    ]?;
+    let found = all_kernels(alloc, constraints.as_slice())?;
+    match found.as_slice() {
+        [
+            Kernel::Max { m: 1, xs },
+            Kernel::Element {
+                x: 1,
+                entries,
+                c: 3,
+            },
+        ] => {
+            assert_eq!(rt; xs.len(), 100);
+            assert!(rt; xs.as_slice().iter().all(|place| *place == 2));
+            assert_eq!(rt; xs.mark_if_shared(), Some(1));
+            assert_eq!(rt; entries.mark_if_shared(), Some(1));
+        }
+        _ => assert!(rt; false),
+    }
     Ok(())
 }

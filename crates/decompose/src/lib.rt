@@ -2,11 +2,13 @@
 #![tactic(auto)]
 
 mod booleans;
+mod coefficients;
 mod comparisons;
 mod constants;
 #[cfg(test)]
 mod kernel_tests;
 mod kernels;
+mod mapped_lists;
 mod places;
 mod program;
 mod start;

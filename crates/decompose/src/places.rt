@@ -4,11 +4,14 @@ ghost use Rattle.std.specs.Prelude.{◌≡◌, ◌≤◌, ◌++◌, map, length,
 ghost use Rattle.std.specs.List.{position_or_len};
 ghost use Rattle.std.specs.Ordering.{int_eq};
 ghost use Rattle.constraint_model.specs.Limits.{most_constants};
-ghost use Rattle.decompose.specs.Kernels.{variable_of, variables_of};
-ghost use Rattle.decompose.specs.Places.{AreFew, IsDeclared};
+ghost use Rattle.decompose.specs.Kernels.{variable_of, variables_of, number_of};
+ghost use Rattle.decompose.specs.Mapped.{IsMapped};
+ghost use Rattle.decompose.specs.Places.{AreFew, IsDeclared, HasDeclared};
 ghost use Rattle.decompose.specs.Rows.{literal_at};
 
-use constraint_model::{Constants, Term};
+use crate::coefficients::numbers;
+use crate::mapped_lists::{MappedList, MappedLists, NO_MARK};
+use constraint_model::{Constants, Constraint, Operand, Term};
 use guarded_tell::Lit;
 use shared_list::SharedList;
 use std::alloc::{AllocError, Global};
@@ -27,23 +30,27 @@ pub(crate) const NEVER: Lit = Lit {
 };
 
 /// For what the variables of a program stand: the constant 1, the declared variables, the other constants. There are so
-/// few of them that each has a number.
+/// few of them that each has a number. Beside them stands what the propagators that name the same long list share; contracts
+/// don't see it.
 #[derive(Drop)]
 pub(crate) struct Places {
     /// How many variables are declared.
     count: u32,
     /// The constants other than 1, in the order of their variables.
     constants: Constants,
+    /// The variables and the numbers of long lists of terms.
+    lists: MappedLists,
 }
 
 impl Model for Places {
-    ghost use Rattle.decompose.specs.Places.{Numbering, AreFew};
+    ghost use Rattle.decompose.specs.Mapped.{ArePlaces};
+    ghost use Rattle.decompose.specs.Places.{Numbering};
 
     ghost Value = { Numbering };
 
     ghost view = { λ p. record { count = p.count; constants = p.constants } };
 
-    ghost invariant = { λ p. AreFew (record { count = p.count; constants = p.constants }) };
+    ghost invariant = { λ p. ArePlaces (record { count = p.count; constants = p.constants }) p.lists.entries.items };
 }
 
 /// The place of a constant.
@@ -56,12 +63,16 @@ fn place(number: i64, constants: &Constants) -> u32
 }
 
 impl Places {
-    /// The places of so many declared variables and of these other constants.
-    pub(crate) fn new(count: u32, constants: Constants) -> Self
+    /// The places of so many declared variables and of these other constants, with no lists.
+    pub(crate) fn new(alloc: Global, count: u32, constants: Constants) -> Self
         requires { AreFew (record { count = count; constants = constants }) }
         ensures { result ≡ record { count = count; constants = constants } }
     {
-        Places { count, constants }
+        Places {
+            count,
+            constants,
+            lists: MappedLists::new(alloc),
+        }
     }
 
     /// The variable of a number.
@@ -105,7 +116,22 @@ impl Places {
         Ok(())
     }
 
-    /// The variables of terms.
+    /// The variables of terms, in a list with this mark.
+    fn marked_variables(
+        &self,
+        alloc: Global,
+        terms: &[Term],
+        mark: usize,
+    ) -> Result<SharedList<u32>, AllocError>
+        requires { All (IsDeclared self.now.count) terms.now }
+        ensures { IfOk result (λ variables. variables ≡ variables_of self.now terms.now) }
+    {
+        let mut variables = Vec::with_capacity(alloc, terms.len())?;
+        self.add_variables(terms, &mut variables)?;
+        SharedList::with_mark(variables, mark)
+    }
+
+    /// The variables of terms, in a list of their own.
     pub(crate) fn variables(
         &self,
         alloc: Global,
@@ -114,9 +140,108 @@ impl Places {
         requires { All (IsDeclared self.now.count) terms.now }
         ensures { IfOk result (λ variables. variables ≡ variables_of self.now terms.now) }
     {
-        let mut variables = Vec::with_capacity(alloc, terms.len())?;
-        self.add_variables(terms, &mut variables)?;
-        SharedList::from_vec(variables)
+        self.marked_variables(alloc, terms, NO_MARK)
+    }
+
+    /// The variables of the entries of an array, in a list that those who name the same long array share.
+    pub(crate) fn variables_of_row(
+        &self,
+        alloc: Global,
+        terms: &SharedList<Term>,
+    ) -> Result<SharedList<u32>, AllocError>
+        requires { All (IsDeclared self.now.count) terms.now }
+        ensures { IfOk result (λ variables. variables ≡ variables_of self.now terms.now) }
+    {
+        match self.lists.find(terms) {
+            Some(list) => list.variables.share(alloc),
+            None => self.variables(alloc, terms.as_slice()),
+        }
+    }
+
+    /// The numbers of the entries of an array, shared likewise.
+    pub(crate) fn numbers_of_row(
+        &self,
+        alloc: Global,
+        terms: &SharedList<Term>,
+    ) -> Result<SharedList<i64>, AllocError>
+        ensures { IfOk result (λ numbers. numbers ≡ map number_of terms.now) }
+    {
+        match self.lists.find(terms) {
+            Some(list) => list.numbers.share(alloc),
+            None => numbers(alloc, terms.as_slice(), NO_MARK),
+        }
+    }
+
+    /// What stands for the entries of an array.
+    fn mapped(&self, alloc: Global, terms: &SharedList<Term>) -> Result<MappedList, AllocError>
+        requires { All (IsDeclared self.now.count) terms.now }
+        ensures { IfOk result (λ list. IsMapped self.now list) }
+    {
+        let mark = self.lists.next_mark();
+        Ok(MappedList {
+            terms: terms.share(alloc)?,
+            variables: self.marked_variables(alloc, terms.as_slice(), mark)?,
+            numbers: numbers(alloc, terms.as_slice(), mark)?,
+        })
+    }
+
+    /// Adds what stands for an array of this mark, unless the mark has something. Contracts see the same places.
+    fn add_row(
+        &mut self,
+        alloc: Global,
+        mark: usize,
+        terms: &SharedList<Term>,
+    ) -> Result<(), AllocError>
+        requires { All (IsDeclared self.old.count) terms.now }
+        ensures { self.new ≡ self.old }
+    {
+        if self.lists.has_mark(mark) {
+            return Ok(());
+        }
+        let list = self.mapped(alloc, terms)?;
+        self.lists.add(mark, list)
+    }
+
+    /// Adds what stands for an argument that is a long array and has other owners.
+    fn add_operand(&mut self, alloc: Global, operand: &Operand) -> Result<(), AllocError>
+        requires { HasDeclared self.old.count operand.now }
+        ensures { self.new ≡ self.old }
+    {
+        let Operand::Row(terms) = operand else {
+            return Ok(());
+        };
+        match terms.mark_if_shared() {
+            Some(mark) => self.add_row(alloc, mark, terms),
+            None => Ok(()),
+        }
+    }
+
+    /// Adds what stands for such arguments.
+    fn add_operands(&mut self, alloc: Global, operands: &[Operand]) -> Result<(), AllocError>
+        requires { All (HasDeclared self.old.count) operands.now }
+        ensures { self.new ≡ self.old }
+    {
+        for operand in operands {
+            self.add_operand(alloc, operand)?;
+        }
+        Ok(())
+    }
+
+    /// The same places, with what stands for the long arrays that the constraints share, so that the propagators which name
+    /// one have its lists together.
+    pub(crate) fn with_lists(
+        self,
+        alloc: Global,
+        constraints: &[Constraint],
+    ) -> Result<Places, AllocError>
+        requires { All (λ c. All (HasDeclared self.count) c.operands) constraints.now }
+        ensures { IfOk result (λ places. places ≡ self) }
+    {
+        let mut places = self;
+        for constraint in constraints {
+            places.add_operands(alloc, constraint.operands.as_slice())?;
+        }
+        Ok(places)
     }
 
     /// The literal that is true where the boolean is, or where it isn't.

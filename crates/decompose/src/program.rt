@@ -35,8 +35,10 @@ pub fn compile(alloc: Global, model: &FznModel) -> Result<Program, NoMemory>
     let constants = constant_set(alloc, model)?;
     let vars = model.vars.as_slice();
     let start = start_box(alloc, vars, constants.as_slice())?;
-    let places = Places::new(vars.len() as u32, constants);
-    let kernels = kernels_of(alloc, &places, model.constraints.as_slice())?;
+    let constraints = model.constraints.as_slice();
+    let places = Places::new(alloc, vars.len() as u32, constants);
+    let places = places.with_lists(alloc, constraints)?;
+    let kernels = kernels_of(alloc, &places, constraints)?;
     Ok(Program { start, kernels })
 }
 

@@ -4,8 +4,9 @@ ghost use Rattle.std.specs.Prelude.{◌≡◌, ◌++◌, [], ◌∷◌, map, neg
 ghost use Rattle.constraint_model.specs.declared.table.ConstraintName.{ConstraintName};
 ghost use Rattle.decompose.specs.Kernels.{number_of, variables_of, on_sum, on_reified_sum, row_of};
 ghost use Rattle.decompose.specs.Places.{IsDeclared, HasDeclared};
-ghost use Rattle.decompose.specs.Rows.{literal_at, sum_kernel};
+ghost use Rattle.decompose.specs.Rows.{literal_at, sum_kernel, linear_kernel};
 
+use crate::coefficients::{add_numbers, number};
 use crate::places::{ALWAYS, Places};
 use constraint_model::{Operand, Term};
 use guarded_tell::{Kernel, Lit};
@@ -33,7 +34,35 @@ pub(crate) struct LinearComparison {
     pub limit: i64,
 }
 
+impl LinearComparison {
+    /// Its kernel, of these variables and of a literal that is true exactly where it holds.
+    fn to_kernel(self, lit: Lit, vars: SharedList<u32>) -> Kernel
+        ensures { result ≡ linear_kernel self.relation lit self.coeffs vars self.limit }
+    {
+        let LinearComparison {
+            relation,
+            coeffs,
+            limit,
+        } = self;
+        match relation {
+            Relation::AtMost => Kernel::Le {
+                lit,
+                coeffs,
+                vars,
+                limit,
+            },
+            Relation::Equal => Kernel::Eq {
+                lit,
+                coeffs,
+                vars,
+                limit,
+            },
+        }
+    }
+}
+
 /// Adds the kernel of a comparison of terms that holds exactly where a literal is true.
+#[tactic(auto, using(crate::proofs::KernelLaws::sum_kernel_is))]
 pub(crate) fn add_sum(
     alloc: Global,
     places: &Places,
@@ -46,56 +75,26 @@ pub(crate) fn add_sum(
     ensures { OnOk result (kernels.new ≡ kernels.old ++ sum_kernel comparison.relation places.now lit comparison.coeffs terms.now comparison.limit) }
 {
     let vars = places.variables(alloc, terms)?;
-    let LinearComparison {
-        relation,
-        coeffs,
-        limit,
-    } = comparison;
-    let kernel = match relation {
-        Relation::AtMost => Kernel::Le {
-            lit,
-            coeffs,
-            vars,
-            limit,
-        },
-        Relation::Equal => Kernel::Eq {
-            lit,
-            coeffs,
-            vars,
-            limit,
-        },
-    };
-    kernels.push(kernel)?;
+    kernels.push(comparison.to_kernel(lit, vars))?;
     Ok(())
 }
 
-/// The number of a coefficient or a limit.
-fn number(term: Term) -> i64
-    ensures { result ≡ number_of term }
+/// Adds such a kernel, of the terms of an array.
+#[tactic(auto, using(crate::proofs::KernelLaws::sum_kernel_is))]
+fn add_sum_of_row(
+    alloc: Global,
+    places: &Places,
+    lit: Lit,
+    comparison: LinearComparison,
+    terms: &SharedList<Term>,
+    kernels: &mut ListOf<Kernel>,
+) -> Result<(), AllocError>
+    requires { All (IsDeclared places.now.count) terms.now }
+    ensures { OnOk result (kernels.new ≡ kernels.old ++ sum_kernel comparison.relation places.now lit comparison.coeffs terms.now comparison.limit) }
 {
-    match term {
-        Term::Number(number) => number,
-        Term::Var(_) => 0,
-    }
-}
-
-/// Adds the numbers of coefficients.
-fn add_numbers(terms: &[Term], numbers: &mut Vec<i64>) -> Result<(), AllocError>
-    ensures { OnOk result (numbers.new.items ≡ numbers.old.items ++ map number_of terms.now) }
-{
-    for term in terms {
-        numbers.push(number(*term))?;
-    }
+    let vars = places.variables_of_row(alloc, terms)?;
+    kernels.push(comparison.to_kernel(lit, vars))?;
     Ok(())
-}
-
-/// The numbers of coefficients.
-fn numbers(alloc: Global, terms: &[Term]) -> Result<SharedList<i64>, AllocError>
-    ensures { IfOk result (λ numbers. numbers ≡ map number_of terms.now) }
-{
-    let mut numbers = Vec::with_capacity(alloc, terms.len())?;
-    add_numbers(terms, &mut numbers)?;
-    SharedList::from_vec(numbers)
 }
 
 /// Adds the kernel of a sum that must be so to a limit, or not.
@@ -118,10 +117,10 @@ pub(crate) fn sum(
         ] => {
             let comparison = LinearComparison {
                 relation,
-                coeffs: numbers(alloc, coefficients.as_slice())?,
+                coeffs: places.numbers_of_row(alloc, coefficients)?,
                 limit: number(*limit),
             };
-            add_sum(alloc, places, lit, comparison, terms.as_slice(), kernels)
+            add_sum_of_row(alloc, places, lit, comparison, terms, kernels)
         }
         _ => Ok(()),
     }
@@ -149,10 +148,10 @@ pub(crate) fn sum_reified(
             let lit = places.literal(positive, *r);
             let comparison = LinearComparison {
                 relation,
-                coeffs: numbers(alloc, coefficients.as_slice())?,
+                coeffs: places.numbers_of_row(alloc, coefficients)?,
                 limit: number(*limit),
             };
-            add_sum(alloc, places, lit, comparison, terms.as_slice(), kernels)
+            add_sum_of_row(alloc, places, lit, comparison, terms, kernels)
         }
         _ => Ok(()),
     }

@@ -4,12 +4,13 @@ ghost use Rattle.std.specs.Prelude.{◌≡◌, ◌++◌, [], ◌∷◌, All, OnO
 ghost use Rattle.constraint_model.specs.declared.table.ConstraintName.{ConstraintName};
 ghost use Rattle.decompose.specs.Kernels.{row_of, on_three, on_one_of_row, on_entry, variable_of, variables_of};
 ghost use Rattle.decompose.specs.Places.{IsDeclared, HasDeclared};
-ghost use Rattle.decompose.specs.Rows.{operation_on, operation_kernel, extreme_kernel};
+ghost use Rattle.decompose.specs.Rows.{operation_on, operation_kernel, extreme_on, extreme_kernel};
 
 use crate::places::{ALWAYS, Places};
 use constraint_model::{Operand, Term};
 use guarded_tell::Kernel;
 use list_of::ListOf;
+use shared_list::SharedList;
 use std::alloc::{AllocError, Global};
 
 /// Which of some numbers is meant.
@@ -89,7 +90,18 @@ pub(crate) fn absolute(
     }
 }
 
+/// The kernel of a variable that is the greatest or the least of some.
+fn extreme_on(extreme: Extreme, m: u32, xs: SharedList<u32>) -> Kernel
+    ensures { result ≡ extreme_on extreme m xs }
+{
+    match extreme {
+        Extreme::Greatest => Kernel::Max { m, xs },
+        Extreme::Least => Kernel::Min { m, xs },
+    }
+}
+
 /// Adds that a term is the greatest or the least of some.
+#[tactic(auto, using(crate::proofs::KernelLaws::extreme_kernel_is))]
 fn add_extreme(
     alloc: Global,
     places: &Places,
@@ -102,13 +114,8 @@ fn add_extreme(
     requires declared { All (IsDeclared places.now.count) terms.now }
     ensures { OnOk result (kernels.new ≡ kernels.old ++ extreme_kernel extreme places.now extreme_term terms.now) }
 {
-    let m = places.variable(extreme_term);
     let xs = places.variables(alloc, terms)?;
-    let kernel = match extreme {
-        Extreme::Greatest => Kernel::Max { m, xs },
-        Extreme::Least => Kernel::Min { m, xs },
-    };
-    kernels.push(kernel)?;
+    kernels.push(extreme_on(extreme, places.variable(extreme_term), xs))?;
     Ok(())
 }
 
@@ -132,6 +139,7 @@ pub(crate) fn extreme_of_two(
 }
 
 /// Adds the kernel of the greatest or the least of an array.
+#[tactic(auto, using(crate::proofs::KernelLaws::extreme_kernel_is))]
 pub(crate) fn extreme_of_row(
     alloc: Global,
     places: &Places,
@@ -144,7 +152,9 @@ pub(crate) fn extreme_of_row(
 {
     match operands {
         [Operand::One(m), Operand::Row(terms)] => {
-            add_extreme(alloc, places, extreme, *m, terms.as_slice(), kernels)
+            let xs = places.variables_of_row(alloc, terms)?;
+            kernels.push(extreme_on(extreme, places.variable(*m), xs))?;
+            Ok(())
         }
         _ => Ok(()),
     }
@@ -166,7 +176,7 @@ pub(crate) fn element(
             Operand::Row(entries),
             Operand::One(entry),
         ] => {
-            let entries = places.variables(alloc, entries.as_slice())?;
+            let entries = places.variables_of_row(alloc, entries)?;
             kernels.push(Kernel::Element {
                 x: places.variable(*place),
                 entries,

@@ -7,14 +7,19 @@ pub start_box-requires : goal.start_box-requires
 start_box-requires c =
     pairs_in_range c.args.model.now c.as_slice-vars.result.now c.as_slice.result.now c.as_slice-vars.ensures (c.as_slice.ensures ∙ c.in_ok-constants.ensures) c.requires
 
+pub with_lists-requires : goal.with_lists-requires
+with_lists-requires c =
+    constraints_declared c.args.model.now c.as_slice-vars.result.now c.in_ok-constants.constants c.as_slice-vars.ensures c.in_ok-constants.ensures
+    c.new-places.result c.new-places.ensures c.as_slice-constraints.result.now c.as_slice-constraints.ensures c.requires
+
 pub kernels_of-requires : goal.kernels_of-requires
 kernels_of-requires c =
     constraints_declared c.args.model.now c.as_slice-vars.result.now c.in_ok-constants.constants c.as_slice-vars.ensures c.in_ok-constants.ensures
-    c.new-places.result c.new-places.ensures c.as_slice-2.result.now c.as_slice-2.ensures c.requires
+    c.in_ok-places.places (c.in_ok-places.ensures ∙ c.new-places.ensures) c.as_slice-constraints.result.now c.as_slice-constraints.ensures c.requires
 
 pub returns : goal.returns
 returns c =
     program_of c.args.model.now c.as_slice-vars.result.now c.in_ok-constants.constants c.as_slice-vars.ensures c.in_ok-constants.ensures
-    c.new-places.result c.new-places.ensures c.in_ok-start.start c.in_ok-kernels.kernels c.as_slice-2.result.now c.as_slice-2.ensures
+    c.in_ok-places.places (c.in_ok-places.ensures ∙ c.new-places.ensures) c.in_ok-start.start c.in_ok-kernels.kernels c.as_slice-constraints.result.now c.as_slice-constraints.ensures
     (c.in_ok-start.ensures ∙ ap (start_pairs c.as_slice-vars.result.now) c.as_slice.ensures)
     c.in_ok-kernels.ensures c.law_table.ensures.letters c.requires

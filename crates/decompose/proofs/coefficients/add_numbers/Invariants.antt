@@ -1,6 +1,6 @@
 use Rattle.std.proofs.Common.{◌≡◌, ◌++◌, map, take}
 use Rattle.decompose.specs.Kernels.{number_of}
-use Rattle.decompose.proofs.sums.add_numbers.Given as goal
+use Rattle.decompose.proofs.coefficients.add_numbers.Given as goal
 
 -- the numbers of the terms so far stand behind those that stood before
 abbrev pub invariant-loop-term : goal.invariant-loop-term

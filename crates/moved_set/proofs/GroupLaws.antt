@@ -1,12 +1,9 @@
 -- Groups of masks that are built.
-use Rattle.std.proofs.Common.{◌≡◌, ℕ, zero, suc, ◌+◌, ◌*◌, ◌/◌, ◌%◌, ◌<◌, ◌≤◌, ◌==◌, Bool, true, false, ◌||◌, ◌&&◌, List, [], ◌∷◌, ◌++◌, length, get_or, set, take, bit_or, refl, sym, ◌∙◌, ap, ⊎_elim, arith}
-use Rattle.std.specs.List.{list_any}
+use Rattle.std.proofs.Common.{◌≡◌, ℕ, zero, suc, ◌+◌, ◌*◌, ◌/◌, ◌%◌, ◌<◌, ◌≤◌, ◌==◌, Bool, true, false, ◌||◌, ◌&&◌, List, [], ◌∷◌, ◌++◌, length, get_or, set, bit_or, refl, sym, ◌∙◌, ap, ⊎_elim, arith}
 use Rattle.std.proofs.lemmas.Bool.{cases_lt}
-use Rattle.std.proofs.lemmas.List.{length_push, length-take-le, get_or_append_left, get_or_push, get_or-take, get_or_default}
-use Rattle.guarded_tell.specs.declared.kernel.Kernel.{Kernel}
-use Rattle.guarded_tell.specs.Kernels.{vars_of}
+use Rattle.std.proofs.lemmas.List.{length_push, get_or_append_left, get_or_push}
 use Rattle.moved_set.specs.Words.{has_bit, hits, names}
-use Rattle.moved_set.specs.Building.{AreNamed, AreFrom, IsMerged}
+use Rattle.moved_set.specs.Building.{AreFrom, IsMerged}
 use Rattle.moved_set.specs.declared.mask.Mask.{Mask}
 use Rattle.moved_set.proofs.SetLaws.{has_bit-or}
 
@@ -17,7 +14,7 @@ or_swap false true false = refl
 or_swap false false true = refl
 or_swap false false false = refl
 
-or_assoc : (a b t : Bool) → (a || (b || t)) ≡ ((a || b) || t)
+pub or_assoc : (a b t : Bool) → (a || (b || t)) ≡ ((a || b) || t)
 or_assoc true b t = refl
 or_assoc false b t = refl
 
@@ -46,33 +43,6 @@ pub names_more : (masks : List Mask) (at v : ℕ) (old mask : Mask) → at < len
 names_more masks at v old mask h is same =
     names_set masks at v old (record { place = old.place; bits = bit_or old.bits mask.bits }) (hits v mask) h is (hits_or v old.place mask.place old.bits mask.bits same)
 
--- ---- the groups of kernels
-
-pub named_push : (kernels : List Kernel) (groups : List (List Mask)) (group : List Mask) (k : Kernel) (i : ℕ) → i < length kernels → k ≡ get_or kernels i k
-    → ((v : ℕ) → names group v ≡ list_any (λ w. v == w) (vars_of k)) → AreNamed (take i kernels) groups → AreNamed (take (i + 1) kernels) (groups ++ group ∷ [])
-named_push kernels groups group k i h is names_are named =
-    let before : length (take i kernels) ≡ i = length-take-le i kernels (omega arith) in
-    let after : length (take (i + 1) kernels) ≡ i + 1 = length-take-le (i + 1) kernels (omega arith) in
-    let groups_len : length groups ≡ i = named.same_length ∙ before in
-    record {
-      same_length = length_push groups group ∙ ap (λ (n : ℕ). n + 1) groups_len ∙ sym after;
-      each = λ j d v lt.
-          let kernel : get_or (take (i + 1) kernels) j d ≡ get_or kernels j d = get_or-take (i + 1) kernels j d (omega arith) in
-          let old : j < i → names (get_or (groups ++ group ∷ []) j []) v ≡ list_any (λ w. v == w) (vars_of (get_or (take (i + 1) kernels) j d)) =
-          λ below.
-          ap (λ (g : List Mask). names g v) (get_or_append_left groups (group ∷ []) [] j (omega arith))
-          ∙ named.each j d v (omega arith)
-          ∙ ap (λ (x : Kernel). list_any (λ w. v == w) (vars_of x)) (get_or-take i kernels j d below ∙ sym kernel) in
-          let new : i ≤ j → names (get_or (groups ++ group ∷ []) j []) v ≡ list_any (λ w. v == w) (vars_of (get_or (take (i + 1) kernels) j d)) =
-          λ le.
-          let j_is : j ≡ i = omega arith in
-          let here : k ≡ get_or kernels j d = is ∙ get_or_default kernels i k d h ∙ ap (λ (n : ℕ). get_or kernels n d) (sym j_is) in
-          ap (λ (g : List Mask). names g v) (get_or_push groups group [] j (omega arith))
-          ∙ names_are v
-          ∙ ap (λ (x : Kernel). list_any (λ w. v == w) (vars_of x)) (here ∙ sym kernel) in
-          ⊎_elim old new (cases_lt j i);
-    }
-
 -- ---- groups of groups
 
 pub from_none : (lower : List (List Mask)) (from : ℕ) (group : List Mask) → group ≡ [] → AreFrom lower from from group
@@ -83,11 +53,11 @@ pub or_cases : {R : Type 0} (a b : Bool) → (a || b) ≡ true → (a ≡ true �
 or_cases true b h f g = f refl
 or_cases false b h f g = g h
 
-or_right : (a b : Bool) → b ≡ true → (a || b) ≡ true
+pub or_right : (a b : Bool) → b ≡ true → (a || b) ≡ true
 or_right true b h = refl
 or_right false b h = h
 
-or_left : (a b : Bool) → a ≡ true → (a || b) ≡ true
+pub or_left : (a b : Bool) → a ≡ true → (a || b) ≡ true
 or_left a b h = ap (λ (t : Bool). t || b) h
 
 pub from_more : (lower : List (List Mask)) (from to : ℕ) (old new more : List Mask) → from ≤ to → more ≡ get_or lower to []

@@ -7,4 +7,5 @@ pub mod PartLaws
 pub mod RowLaws
 pub mod NamingLaws
 pub mod AskLaws
+pub mod JoinedLaws
 pub mod ListLaws

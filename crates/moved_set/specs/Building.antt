@@ -24,6 +24,11 @@ pub record NamesBelow (words : ℕ) (k : Kernel) : Type 0 where
   pub variables : AreVariables (64 * words) (vars_of k)
   pub numbers : HasNumbers k
 
+-- the groups are those of the variables of so many things
+pub record AreGroupsOf (vars : ℕ → List ℕ) (count : ℕ) (groups : List (List Mask)) : Type 0 where
+  pub same_length : length groups ≡ count
+  pub each : (j v : ℕ) → j < count → names (slice_index_or groups j []) v ≡ list_any (λ w. v == w) (vars j)
+
 -- the groups are those of the kernels' variables
 pub record AreNamed (kernels : List Kernel) (groups : List (List Mask)) : Type 0 where
   pub same_length : length groups ≡ length kernels

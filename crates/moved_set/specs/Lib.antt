@@ -7,4 +7,5 @@ pub mod Questions
 pub mod Consistent
 pub mod ConsistentSet
 pub mod Parts
+pub mod Joined
 pub mod Rows

@@ -2,13 +2,12 @@
 
 ghost use Rattle.std.specs.Prelude.{◌≡◌, ◌<◌, ◌≤◌, ◌*◌, ◌+◌, ◌-◌, ◌==◌, ◌||◌, ◌↔◌, ℕ, true, length, All, IsTrue, IfOk, OnOk, [], slice_index_or};
 ghost use Rattle.std.specs.List.{list_any};
-ghost use Rattle.guarded_tell.specs.Kernels.{vars_of};
 ghost use Rattle.moved_set.specs.Words.{hits, names};
-ghost use Rattle.moved_set.specs.Building.{place_at, Adds, AreWithin, NamesBelow, AreNamed, AreFrom, IsMerged};
+ghost use Rattle.moved_set.specs.Building.{place_at, Adds, AreWithin, AreFrom, IsMerged};
 
 use crate::groups::Groups;
+use crate::kernel_masks::KernelMasks;
 use crate::mask::{Mask, mask_of};
-use guarded_tell::Kernel;
 use interval::NoMemory;
 use std::alloc::Global;
 
@@ -39,38 +38,21 @@ fn is_there(group: &[Mask], at: usize, word: u32) -> bool
     at < group.len() && group[at].place == word
 }
 
-/// Makes the group of the variables of a kernel.
-fn add_kernel(group: &mut Vec<Mask>, last: &mut [usize], kernel: &Kernel) -> Result<(), NoMemory>
-    requires { NamesBelow (length last.old) kernel.now }
-    ensures named { OnOk result ((v : ℕ) → names group.new.items v ≡ list_any (λ w. v == w) (vars_of kernel.now)) }
+/// Makes the group of these variables.
+pub(crate) fn add_vars(
+    group: &mut Vec<Mask>,
+    last: &mut [usize],
+    vars: &[u32],
+) -> Result<(), NoMemory>
+    requires { All (λ v. v < 64 * length last.old) vars.now }
+    ensures named { OnOk result ((v : ℕ) → names group.new.items v ≡ list_any (λ w. v == w) vars.now) }
     ensures within { OnOk result (AreWithin (length last.old) group.new.items) }
 {
     group.clear();
-    for place in 0..kernel.var_count() {
-        add(group, last, mask_of(kernel.var_at(place)))?;
+    for v in vars {
+        add(group, last, mask_of(*v))?;
     }
     Ok(())
-}
-
-/// The groups of the variables of each kernel.
-pub(crate) fn kernel_groups(
-    alloc: Global,
-    kernels: &[Kernel],
-    words: usize,
-) -> Result<Groups, NoMemory>
-    requires { All (NamesBelow words) kernels.now }
-    ensures named { IfOk result (AreNamed kernels.now) }
-    ensures within { IfOk result (λ groups. All (AreWithin words) groups) }
-{
-    let mut groups = Groups::new(alloc)?;
-    let mut group = Vec::new(alloc);
-    let mut places = vec![in alloc; 0; words]?;
-    let last = places.as_mut_slice();
-    for kernel in kernels {
-        add_kernel(&mut group, last, kernel)?;
-        groups.push(group.as_slice())?;
-    }
-    Ok(groups)
 }
 
 /// Adds masks to a group.
@@ -105,6 +87,53 @@ fn merge(
         add_all(group, last, lower.group(j))?;
     }
     Ok(())
+}
+
+/// Makes the group of the masks of the kernels from one place up to another.
+fn merge_kernels(
+    group: &mut Vec<Mask>,
+    last: &mut [usize],
+    lower: &KernelMasks,
+    from: usize,
+    to: usize,
+) -> Result<(), NoMemory>
+    requires order { from ≤ to }
+    requires end { to ≤ length lower.now }
+    requires within { All (AreWithin (length last.old)) lower.now }
+    ensures merged { OnOk result (AreFrom lower.now from to group.new.items) }
+    ensures within { OnOk result (AreWithin (length last.old) group.new.items) }
+{
+    group.clear();
+    for j in from..to {
+        let (own, listed) = lower.masks(j);
+        add_all(group, last, own)?;
+        add_all(group, last, listed)?;
+    }
+    Ok(())
+}
+
+/// The groups of each eight kernels.
+pub(crate) fn merged_kernels(
+    alloc: Global,
+    lower: &KernelMasks,
+    words: usize,
+) -> Result<Groups, NoMemory>
+    requires { All (AreWithin words) lower.now }
+    ensures merged { IfOk result (IsMerged lower.now) }
+    ensures within { IfOk result (λ groups. All (AreWithin words) groups) }
+{
+    let mut groups = Groups::new(alloc)?;
+    let mut group = Vec::new(alloc);
+    let mut places = vec![in alloc; 0; words]?;
+    let last = places.as_mut_slice();
+    let mut from = 0;
+    while from < lower.len() {
+        let to = from + (lower.len() - from).min(8);
+        merge_kernels(&mut group, last, lower, from, to)?;
+        groups.push(group.as_slice())?;
+        from = to;
+    }
+    Ok(groups)
 }
 
 /// The groups of each eight groups.

@@ -4,6 +4,7 @@
 mod build;
 mod few;
 mod groups;
+mod kernel_masks;
 mod mask;
 mod masks;
 mod parts;

@@ -7,8 +7,9 @@ ghost use Rattle.moved_set.specs.Words.{hits};
 ghost use Rattle.moved_set.specs.Questions.{AreBelow, NamesOne};
 
 use crate::MovedSet;
-use crate::build::{kernel_groups, merged};
+use crate::build::{merged, merged_kernels};
 use crate::groups::Groups;
+use crate::kernel_masks::KernelMasks;
 use crate::mask::Mask;
 use crate::parts::parts_of;
 use crate::rows::Rows;
@@ -23,7 +24,7 @@ use std::marker::Model;
 #[derive(Drop)]
 pub struct Masks {
     count: u32,
-    kernels: Groups,
+    kernels: KernelMasks,
     eights: Groups,
     sixty_fours: Groups,
     rows: Rows,
@@ -53,8 +54,8 @@ impl Masks {
         let parts = parts_of(alloc, kernels, count)?;
         let rows = Rows::of(alloc, kernels, &parts, count)?;
         let words = word_count(count);
-        let each = kernel_groups(alloc, kernels, words)?;
-        let eights = merged(alloc, &each, words)?;
+        let each = KernelMasks::of(alloc, kernels, parts, words)?;
+        let eights = merged_kernels(alloc, &each, words)?;
         let sixty_fours = merged(alloc, &eights, words)?;
         Ok(Masks {
             count,
@@ -257,7 +258,11 @@ impl Masks {
         requires set { length set.now ≡ self.now.count }
         ensures { IsTrue result ↔ Meets (set_at self.now j) set.now }
     {
-        meets(self.kernels.group(j), set)
+        let (own, listed) = self.kernels.masks(j);
+        if meets(own, set) {
+            return true;
+        }
+        meets(listed, set)
     }
 
     /// Whether one of the kernels from 8 * `g` to 8 * `g` + 7 names a variable of the set.

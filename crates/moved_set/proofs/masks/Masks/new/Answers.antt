@@ -1,9 +1,10 @@
-use Rattle.moved_set.proofs.MaskLaws.{kernels_below, groups_below, merged_below, naming_made}
+use Rattle.moved_set.proofs.MaskLaws.{groups_below, merged_below, naming_made}
+use Rattle.moved_set.proofs.JoinedLaws.{lists_below}
 use Rattle.moved_set.proofs.NamingLaws.{rows_named}
 use Rattle.moved_set.proofs.masks.Masks.new.Goals as goal
 
-pub kernel_groups-requires : goal.kernel_groups-requires
-kernel_groups-requires c = kernels_below c.args.count c.args.kernels.now c.word_count-words.result c.word_count-words.ensures c.requires
+pub of-requires-2-clause-lists : goal.of-requires-2-clause-lists
+of-requires-2-clause-lists c = lists_below c.args.count c.word_count-words.result c.in_ok-parts.parts.lists.items c.word_count-words.ensures c.in_ok-parts.ensures.lists
 
 pub invariant_of-result : goal.invariant_of-result
 invariant_of-result c =

@@ -20,7 +20,8 @@ use std::alloc::Global;
 use std::marker::Model;
 
 /// For each kernel, each eight and each sixty-four kernels, the variables that they name, as masks, and for each variable
-/// the kernels that name it. Contracts see the set of each kernel's variables.
+/// the kernels that name it. A long list of variables that several kernels have stands there once. Contracts see the set
+/// of each kernel's variables.
 #[derive(Drop)]
 pub struct Masks {
     count: u32,

@@ -22,8 +22,8 @@ pub(crate) struct Part {
 
 /// Lists, and where the list of each mark stands.
 #[derive(Drop)]
-pub(crate) struct Lists {
-    pub(crate) items: Vec<SharedList<u32>>,
+struct Lists {
+    items: Vec<SharedList<u32>>,
     places: BTreeMap<usize, usize>,
 }
 
@@ -139,7 +139,7 @@ pub(crate) fn parts_of(alloc: Global, kernels: &[Kernel], count: u32) -> Result<
     })
 }
 
-/// The variables of a kernel that are its own, in the place of what the list had.
+/// Makes the list of the variables of a kernel that are its own.
 pub(crate) fn own_vars(vars: &mut Vec<u32>, kernel: &Kernel, part: Part) -> Result<(), AllocError>
     requires numbers { HasNumbers kernel.now }
     requires within { part.own ≤ length (vars_of kernel.now) }

@@ -1,7 +1,6 @@
 -- The kernel's variables are there.
 use Rattle.std.proofs.Common.{ℕ, zero, suc, ◌<◌, [], ◌∷◌, get_or, arith}
-use Rattle.guarded_tell.specs.Words.{AreVariables}
-use Rattle.guarded_tell.specs.Kernels.{vars_of, HasNumbers, IsKernel}
+use Rattle.guarded_tell.specs.Kernels.{vars_of, HasNumbers}
 use Rattle.moved_set.proofs.tests.absolute.Goals as goal
 
 two : (x y : ℕ) → x < 130 → y < 130 → (i : ℕ) → i < 2 → get_or (x ∷ y ∷ []) i 0 < 130

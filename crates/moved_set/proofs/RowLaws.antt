@@ -6,7 +6,7 @@ use Rattle.std.proofs.lemmas.Bool.{cases_eq, cases_lt}
 use Rattle.std.proofs.lemmas.Grind.{get_or-set_at}
 use Rattle.std.proofs.lemmas.List.{length_push, length-set, get_or-map, get_or_append_left, get_or_push, get_or-set_other}
 use Rattle.std.proofs.lemmas.List.Elements.{Contains-get_or, Contains-push, Contains-push_cases, Contains-append_left}
-use Rattle.moved_set.specs.Rows.{IsRising, row_at, IsRowTo, AreRowsTo}
+use Rattle.moved_set.specs.Rows.{IsRising, PutsOnce, row_at, IsRowTo, AreRowsTo}
 
 pub none_of : (x : ℕ) → Contains [] x → ⊥
 none_of x c = let lt = c.1 in omega arith
@@ -78,6 +78,21 @@ with_put keys to some w key row same is = record {
     λ s. elim s [
       | inl p ↦ Contains-append_left row (to ∷ []) j ((is.exactly j).1 (inl p))
       | inr p ↦ subst (Contains (row ++ to ∷ [])) (sym p.0) (Contains-push row to)
+    ],
+  );
+}
+
+with_kept : (keys : ℕ → List ℕ) (to : ℕ) (some : List ℕ) (w key : ℕ) (row : List ℕ) → w ≡ key → Contains row to → IsRowWith keys to some key row → IsRowWith keys to (some ++ w ∷ []) key row
+with_kept keys to some w key row same there is = record {
+  rising = is.rising;
+  exactly = λ j. (
+    λ c. elim ((is.exactly j).0 c) [
+      | inl p ↦ inl p
+      | inr p ↦ inr (p.0, Contains-append_left some (w ∷ []) key p.1)
+    ],
+    λ s. elim s [
+      | inl p ↦ (is.exactly j).1 (inl p)
+      | inr p ↦ subst (Contains row) (sym p.0) there
     ],
   );
 }
@@ -161,8 +176,13 @@ rows_begin keys to count rows are = record {
   each = λ key h. with_none keys to key (row_at rows key) (are.each key h);
 }
 
+-- the row of the key, with the number put there or found there
+with_once : (keys : ℕ → List ℕ) (to : ℕ) (some : List ℕ) (w key : ℕ) (old new : List ℕ) → w ≡ key → PutsOnce to old new → IsRowWith keys to some key old → IsRowWith keys to (some ++ w ∷ []) key new
+with_once keys to some w key old new same (inl put) is = subst (IsRowWith keys to (some ++ w ∷ []) key) (sym put) (with_put keys to some w key old same is)
+with_once keys to some w key old new same (inr kept) is = subst (IsRowWith keys to (some ++ w ∷ []) key) (sym kept.0) (with_kept keys to some w key old same kept.1 is)
+
 pub rows_put : (keys : ℕ → List ℕ) (to : ℕ) (some more : List ℕ) (w count : ℕ) (rows : List (Vec ℕ Global)) (old new : Vec ℕ Global) → w < length rows → more ≡ some ++ w ∷ []
-    → old ≡ get_or rows w old → new.items ≡ old.items ++ to ∷ [] → AreRowsWith keys to some count rows → AreRowsWith keys to more count (set rows w new)
+    → old ≡ get_or rows w old → PutsOnce to old.items new.items → AreRowsWith keys to some count rows → AreRowsWith keys to more count (set rows w new)
 rows_put keys to some more w count rows old new h e o n are =
     let len = are.length_is in
     let set_len : length (set rows w new) ≡ length rows = length-set rows w new in
@@ -174,9 +194,9 @@ rows_put keys to some more w count rows old new h e o n are =
           elim (cases_eq key w) [
             | inl q ↦
                 let was : row_at rows key ≡ old.items = before ∙ ap (λ (r : Vec ℕ Global). r.items) (ap (λ m. get_or rows m old) q ∙ sym o) in
-                let now : row_at (set rows w new) key ≡ old.items ++ to ∷ [] = here ∙ ap (λ (r : Vec ℕ Global). r.items) (get_or-set_at rows w key new old q (omega arith)) ∙ n in
+                let now : row_at (set rows w new) key ≡ new.items = here ∙ ap (λ (r : Vec ℕ Global). r.items) (get_or-set_at rows w key new old q (omega arith)) in
                 subst (IsRowWith keys to (some ++ w ∷ []) key) (sym now)
-                (with_put keys to some w key old.items (sym q) (subst (IsRowWith keys to some key) was (are.each key k)))
+                (with_once keys to some w key old.items new.items (sym q) n (subst (IsRowWith keys to some key) was (are.each key k)))
             | inr ne ↦
                 let same : row_at (set rows w new) key ≡ row_at rows key = here ∙ ap (λ (r : Vec ℕ Global). r.items) (get_or-set_other rows w key new old ne) ∙ sym before in
                 subst (IsRowWith keys to (some ++ w ∷ []) key) (sym same)
@@ -194,4 +214,4 @@ rows_end keys to count some rows all are = record {
 pub rows_one : (keys : ℕ → List ℕ) (to w count : ℕ) (rows : List (Vec ℕ Global)) (old new : Vec ℕ Global) → w < length rows → keys to ≡ w ∷ []
     → old ≡ get_or rows w old → new.items ≡ old.items ++ to ∷ [] → AreRowsTo keys to count rows → AreRowsTo keys (to + 1) count (set rows w new)
 rows_one keys to w count rows old new h all o n are =
-    rows_end keys to count (w ∷ []) (set rows w new) all (rows_put keys to [] (w ∷ []) w count rows old new h refl o n (rows_begin keys to count rows are))
+    rows_end keys to count (w ∷ []) (set rows w new) all (rows_put keys to [] (w ∷ []) w count rows old new h refl o (inl n) (rows_begin keys to count rows are))

@@ -1,5 +1,5 @@
 -- For each variable the kernels that name it.
-use Rattle.std.specs.Prelude.{◌≡◌, ℕ, ◌+◌, ◌<◌, ◌≤◌, ◌↔◌, ◌⊎◌, List, [], length, map, slice_index, slice_index_or, Vec, All, Contains}
+use Rattle.std.specs.Prelude.{◌≡◌, ℕ, ◌+◌, ◌<◌, ◌≤◌, ◌↔◌, ◌⊎◌, ◌++◌, List, [], ◌∷◌, length, map, slice_index, slice_index_or, Vec, All, Contains}
 use Rattle.std.specs.declared.alloc.Global.{Global}
 use Rattle.moved_set.specs.Sets.{IsIn, Naming, set_at}
 use Rattle.moved_set.specs.declared.rows.Rows.{Rows}
@@ -16,7 +16,7 @@ row_at rows k = slice_index_or (map (λ row. row.items) rows) k []
 abbrev pub HasKernel : Rows → ℕ → ℕ → Type 0
 HasKernel rows v j = Contains (row_at rows.own.items v) j ⊎ ((l : ℕ) × Contains (row_at rows.lists_of.items v) l × Contains (row_at rows.users.items l) j)
 
--- the rows of kernels are rising, and those of lists name lists that there are
+-- there is a row of either kind for each variable, the rows of kernels are rising, and those of lists name lists that there are
 pub record AreShaped (rows : Rows) : Type 0 where
   pub same_length : length rows.lists_of.items ≡ length rows.own.items
   pub own_rising : (v : ℕ) → v < length rows.own.items → IsRising (row_at rows.own.items v)
@@ -40,6 +40,10 @@ pub record IsRowTo (keys : ℕ → List ℕ) (to key : ℕ) (row : List ℕ) : T
 pub record AreRowsTo (keys : ℕ → List ℕ) (to count : ℕ) (rows : List (Vec ℕ Global)) : Type 0 where
   pub length_is : length rows ≡ count
   pub each : (key : ℕ) → key < count → IsRowTo keys to key (row_at rows key)
+
+-- the number is put behind the row, or it stands there already
+abbrev pub PutsOnce : ℕ → List ℕ → List ℕ → Type 0
+PutsOnce j old new = (new ≡ old ++ j ∷ []) ⊎ ((new ≡ old) × Contains old j)
 
 -- the rows of the numbers before a place become those of the numbers up to it, whatever keys those before it have
 abbrev pub PutsAll : List ℕ → ℕ → List (Vec ℕ Global) → List (Vec ℕ Global) → Type 0

@@ -84,18 +84,24 @@ impl Masks {
         ensures found { result < length self.now.sets → Meets (set_at self.now result) set.now }
     {
         if let Some(variables) = set.few() {
-            if self.are_few(variables.len()) {
+            if self.are_few(variables) {
                 return self.next_of(from, variables);
             }
         }
         self.next_by_groups(from, set)
     }
 
-    /// Whether so many variables are few beside the groups of 64 kernels, so that each of them is sooner asked for its next
-    /// kernel than the groups are for theirs.
-    fn are_few(&self, count: usize) -> bool {
+    /// Whether the rows of these variables are few beside the groups of 64 kernels, so that each of them is sooner asked for
+    /// its next kernel than the groups are for theirs.
+    fn are_few(&self, variables: &[u32]) -> bool {
+        let groups = self.sixty_fours.len();
+        let count = variables.len();
         // no more than 64 are ever listed, so this is their square
-        count.wrapping_mul(count) <= self.sixty_fours.len()
+        if count.wrapping_mul(count) > groups {
+            return false;
+        }
+        let rows = self.rows.count_of(variables);
+        rows.saturating_mul(rows) <= groups
     }
 
     /// The same, asked for 64, for 8 and for one kernel.
@@ -127,7 +133,7 @@ impl Masks {
         ensures found { 0 < result → Meets (set_at self.now (result - 1)) set.now }
     {
         if let Some(variables) = set.few() {
-            if self.are_few(variables.len()) {
+            if self.are_few(variables) {
                 return self.last_of(to, variables);
             }
         }

@@ -4,7 +4,7 @@
 ghost use Rattle.std.specs.Prelude.{◌≡◌, ◌≢◌, ◌<◌, ◌≤◌, ◌+◌, ◌-◌, [], ◌∷◌, ℕ, List, length, slice_index, slice_index_or, All, Contains, IfOk, OnOk};
 ghost use Rattle.guarded_tell.specs.Kernels.{IsKernel};
 ghost use Rattle.moved_set.specs.Parts.{AreLists, AreParts, list_at, part_at, own_at, vars_at};
-ghost use Rattle.moved_set.specs.Rows.{AreRowsTo, AreShaped, HasKernel, IsRising, PutsAll, row_at};
+ghost use Rattle.moved_set.specs.Rows.{AreRowsTo, AreShaped, HasKernel, IsRising, PutsAll, PutsOnce, row_at};
 
 use crate::parts::{Part, Parts, own_vars};
 use guarded_tell::Kernel;
@@ -47,6 +47,17 @@ impl Rows {
             lists_of,
             users,
         })
+    }
+
+    /// How many rows are asked for these variables: one for each, and one for each list that has it.
+    pub(crate) fn count_of(&self, variables: &[u32]) -> usize {
+        let mut count: usize = 0;
+        for v in variables {
+            if let Some(lists) = self.lists_of.as_slice().get(*v as usize) {
+                count = count.saturating_add(lists.len()).saturating_add(1);
+            }
+        }
+        count
     }
 
     /// The first kernel from `from` on that names the variable, or `end`.
@@ -125,13 +136,25 @@ fn empty_rows(alloc: Global, count: usize) -> Result<Vec<Vec<usize>>, AllocError
     Ok(rows)
 }
 
+/// Puts `j` behind a row, unless it stands there last: so a list that has a variable many times stands once in its row.
+fn put_once(row: &mut Vec<usize>, j: usize) -> Result<(), AllocError>
+    ensures { OnOk result (PutsOnce j row.old.items row.new.items) }
+{
+    let count = row.len();
+    if count > 0 && row[count - 1] == j {
+        return Ok(());
+    }
+    row.push(j)?;
+    Ok(())
+}
+
 /// Puts `j` into the row of each of these keys.
 fn put(rows: &mut Vec<Vec<usize>>, keys: &[u32], j: usize) -> Result<(), AllocError>
     requires { All (λ key. key < length rows.old.items) keys.now }
     ensures { OnOk result (PutsAll keys.now j rows.old.items rows.new.items) }
 {
     for key in keys {
-        rows[*key as usize].push(j)?;
+        put_once(&mut rows[*key as usize], j)?;
     }
     Ok(())
 }

@@ -4,6 +4,7 @@ ghost use Rattle.std.specs.Prelude.{◌≡◌, ◌<◌, ◌≤◌, ◌+◌, leng
 ghost use Rattle.guarded_tell.specs.Kernels.{IsKernel};
 ghost use Rattle.moved_set.specs.Sets.{IsNaming};
 
+use crate::parts::parts_of;
 use crate::{Masks, MovedSet};
 use guarded_tell::Kernel;
 use shared_list::SharedList;
@@ -98,6 +99,18 @@ fn variables(alloc: Global, first: u32, count: u32) -> Result<Vec<u32>, AllocErr
     Ok(list)
 }
 
+/// So many variables from one on, and the first one again.
+fn variables_and_first(alloc: Global, first: u32, count: u32) -> Result<Vec<u32>, AllocError>
+    requires some { 0 < count }
+    requires below { first + count ≤ 200 }
+    ensures variables { IfOk result (λ list. All (λ v. v < 200) list.items) }
+    ensures count { IfOk result (λ list. length list.items ≡ count + 1) }
+{
+    let mut list = variables(alloc, first, count)?;
+    list.push(first)?;
+    Ok(list)
+}
+
 /// The kernel of the greatest of a list.
 fn greatest(m: u32, xs: SharedList<u32>) -> Kernel
     requires m { m < 200 }
@@ -146,7 +159,7 @@ fn sharing_kernels(alloc: Global) -> Result<Vec<Kernel>, AllocError>
     ensures { IfOk result (λ kernels. All (IsKernel 200) kernels.items) }
 {
     let one = SharedList::with_mark(variables(alloc, 10, 70)?, 1)?;
-    let other = SharedList::with_mark(variables(alloc, 60, 80)?, 1)?;
+    let other = SharedList::with_mark(variables_and_first(alloc, 60, 80)?, 1)?;
     let mut kernels = Vec::new(alloc);
     for k in 0..24 {
         kernels.push(sharing_kernel(alloc, k, &one, &other)?)?;
@@ -196,8 +209,28 @@ fn kernels_of_shared_lists_are_found(rt: HostRuntime) -> Result<(), Fail> {
         moved.clear();
         moved.mark(v);
         assert!(rt; are_found(kernels.as_slice(), &masks, &moved));
+        moved.mark((v * 7 + 3) % 200);
+        assert!(rt; are_found(kernels.as_slice(), &masks, &moved));
     }
     moved.mark_all();
     assert!(rt; are_found(kernels.as_slice(), &masks, &moved));
+    Ok(())
+}
+
+#[test]
+fn kernels_of_one_list_share_it(rt: HostRuntime) -> Result<(), Fail> {
+    let kernels = sharing_kernels(rt.alloc())?;
+    let parts = parts_of(rt.alloc(), kernels.as_slice(), 200)?;
+    assert_eq!(rt; parts.lists.len(), 2);
+    let mut shared: usize = 0;
+    for part in parts.of_kernels.as_slice() {
+        if part.list == 1 {
+            assert!(rt; part.own <= 2);
+            shared = shared.saturating_add(1);
+        } else {
+            assert_eq!(rt; part.list, 0);
+        }
+    }
+    assert_eq!(rt; shared, 12);
     Ok(())
 }

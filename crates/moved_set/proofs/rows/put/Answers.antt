@@ -17,11 +17,11 @@ loop-key-preserved c =
     let same = c.loop-key.invariant.same_length in
     let below = c.requires i 0 c.loop-key-test.true in
     record {
-      same_length = length-set rows key c.push.new.self ∙ same;
+      same_length = length-set rows key c.put_once.new.row ∙ same;
       put = λ keys count are.
-          rows_put keys c.args.j (take i all) (take (i + 1) all) key count rows c.index_mut.result.now c.push.new.self (omega arith)
+          rows_put keys c.args.j (take i all) (take (i + 1) all) key count rows c.index_mut.result.now c.put_once.new.row (omega arith)
           (take_more all i 0 c.loop-key-test.true)
-          c.index_mut.ensures.value c.in_ok-push.ensures.items (c.loop-key.invariant.put keys count are);
+          c.index_mut.ensures.value c.in_ok-put_once.ensures (c.loop-key.invariant.put keys count are);
     }
 
 pub returns : goal.returns

@@ -13,6 +13,7 @@ use crew::NoGate;
 use fzn_print::Mark;
 use interval::NoMemory;
 use list_of::ListOf;
+use shared_list::SharedList;
 use std::alloc::{AllocError, Global};
 use std::test::Fail;
 use std::thread::Threads;
@@ -33,11 +34,8 @@ fn declared(alloc: Global, high: i64) -> VarDecl
 fn two(alloc: Global) -> Result<Phase, AllocError>
     ensures { IfOk result (λ phase. phase ≡ last_phase 2) }
 {
-    let mut vars = ListOf::new(alloc);
-    vars.push(0)?;
-    vars.push(1)?;
     Ok(Phase {
-        vars,
+        vars: SharedList::from_vec(vec![in alloc; 0, 1]?)?,
         var_sel: VarSel::InputOrder,
         val_sel: ValSel::Min,
     })
@@ -47,9 +45,11 @@ fn two(alloc: Global) -> Result<Phase, AllocError>
 fn three(alloc: Global) -> Result<Phase, AllocError>
     ensures { IfOk result (λ phase. phase ≡ last_phase 3) }
 {
-    let mut phase = two(alloc)?;
-    phase.vars.push(2)?;
-    Ok(phase)
+    Ok(Phase {
+        vars: SharedList::from_vec(vec![in alloc; 0, 1, 2]?)?,
+        var_sel: VarSel::InputOrder,
+        val_sel: ValSel::Min,
+    })
 }
 
 /// x of 1 to `high` and y of 1 to 2.

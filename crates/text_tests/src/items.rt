@@ -1,45 +1,30 @@
-//! Small texts whose words stand apart by blanks, so that a token is a word. What is expected was worked out by hand
+//! Small texts whose words stand apart by blanks, so that places can be counted. What is expected was worked out by hand
 //! from the grammar.
 
-use crate::tree::{Aim, Elem, Expr, Item, SetLit, What};
-use crate::{ParseError, parse};
-use fzn_lexer::{Kind, Token};
+use fzn_lexer::{Token, lex};
+use fzn_parser::tree::{Aim, Elem, Expr, Item, SetLit, What};
+use fzn_parser::{ParseError, parse};
 use std::alloc::{AllocError, Global};
 use std::test::Fail;
 
-fn kind_of(first: u8, second: u8) -> Kind {
-    match first {
-        b'a'..=b'z' => Kind::Word,
-        b'0'..=b'9' if second == b'.' => Kind::Float,
-        b'0'..=b'9' => Kind::Int,
-        b'"' => Kind::Text,
-        _ => Kind::Mark,
-    }
+/// The tokens of a text that has some.
+fn tokens_of(alloc: Global, text: &str) -> Result<Vec<Token>, AllocError> {
+    lex(alloc, text.as_bytes()).or(Err(AllocError))
 }
 
-fn tokens_of(alloc: Global, text: &[u8]) -> Result<Vec<Token>, AllocError> {
-    let mut tokens = Vec::new(alloc);
-    let mut from = 0;
-    for (at, byte) in text.iter().enumerate() {
-        if *byte == b' ' {
-            if from < at {
-                let kind = kind_of(text[from], text[from + 1]);
-                tokens.push(Token { kind, from, to: at })?;
-            }
-            from = at + 1;
-        }
-    }
-    Ok(tokens)
-}
-
-// How many items the text has, or the place of its fault.
-fn outcome(alloc: Global, text: &str) -> Result<(usize, Option<usize>), AllocError> {
-    let tokens = tokens_of(alloc, text.as_bytes())?;
+/// The items of a text that has some, or the place of its fault.
+fn items_of(alloc: Global, text: &str) -> Result<Result<Vec<Item>, usize>, AllocError> {
+    let tokens = tokens_of(alloc, text)?;
     match parse(alloc, text.as_bytes(), tokens.as_slice()) {
-        Ok(items) => Ok((items.len(), None)),
-        Err(ParseError::Syntax { at }) => Ok((0, Some(at))),
+        Ok(items) => Ok(Ok(items)),
+        Err(ParseError::Syntax { at }) => Ok(Err(at)),
         Err(ParseError::NoMemory) => Err(AllocError),
     }
+}
+
+/// How many items the text has, or the place of its fault.
+fn outcome(alloc: Global, text: &str) -> Result<Result<usize, usize>, AllocError> {
+    Ok(items_of(alloc, text)?.map(|items| items.len()))
 }
 
 #[test]
@@ -112,7 +97,7 @@ fn each_production_is_taken(rt: HostRuntime) -> Result<(), Fail> {
         ),
     ];
     for (text, items) in taken {
-        assert_eq!(rt; outcome(rt.alloc(), text)?, (items, None));
+        assert_eq!(rt; outcome(rt.alloc(), text)?, Ok(items), "at {text}");
     }
     Ok(())
 }
@@ -167,95 +152,120 @@ fn what_the_grammar_does_not_write_is_refused_at_its_stretch(rt: HostRuntime) ->
         ("constraint c ( ) :: \"t\" ; ", 0),
     ];
     for (text, at) in refused {
-        assert_eq!(rt; outcome(rt.alloc(), text)?, (0, Some(at)));
+        assert_eq!(rt; outcome(rt.alloc(), text)?, Err(at), "at {text}");
     }
     Ok(())
 }
 
-// The words around and inside some pairs of brackets.
-#[derive(Clone, Copy)]
-struct Frame {
+/// The words around and inside some pairs of brackets, with how many pairs there are, and whether the text is an item.
+struct Nest {
     before: &'static str,
     opening: &'static str,
     middle: &'static str,
     closing: &'static str,
     after: &'static str,
-}
-
-fn nested(alloc: Global, frame: &Frame, depth: usize) -> Result<String, AllocError> {
-    let mut text = String::new(alloc);
-    text.push_str(frame.before)?;
-    for _ in 0..depth {
-        text.push_str(frame.opening)?;
-    }
-    text.push_str(frame.middle)?;
-    for _ in 0..depth {
-        text.push_str(frame.closing)?;
-    }
-    text.push_str(frame.after)?;
-    Ok(text)
-}
-
-fn nested_outcome(
-    alloc: Global,
-    frame: &Frame,
     depth: usize,
-) -> Result<(usize, Option<usize>), AllocError> {
-    let text = nested(alloc, frame, depth)?;
-    outcome(alloc, text.as_str())
+    answer: Result<usize, usize>,
+}
+
+const PARENS: Nest = Nest {
+    before: "solve :: a ",
+    opening: "( a ",
+    middle: "",
+    closing: ") ",
+    after: "satisfy ; ",
+    depth: 64,
+    answer: Ok(1),
+};
+
+/// One more bracket stands around these, and the innermost hold braces, which don't count.
+const BRACES: Nest = Nest {
+    before: "solve :: a ( ",
+    opening: "[ ",
+    middle: "{ 1 } ",
+    closing: "] ",
+    after: ") satisfy ; ",
+    depth: 63,
+    answer: Ok(1),
+};
+
+/// Here the innermost hold nothing.
+const EMPTY: Nest = Nest {
+    middle: "",
+    ..BRACES
+};
+
+/// Brackets side by side are free.
+const SIDE_BY_SIDE: Nest = Nest {
+    before: "solve ",
+    opening: ":: a ( ) ",
+    middle: "",
+    closing: "",
+    after: "satisfy ; ",
+    depth: 70,
+    answer: Ok(1),
+};
+
+/// And so are those of a predicate.
+const PREDICATE: Nest = Nest {
+    before: "predicate p ",
+    opening: "( [ ",
+    middle: "",
+    closing: "] ) ",
+    after: "; ",
+    depth: 70,
+    answer: Ok(1),
+};
+
+/// Adds a word so many times.
+fn push_times(text: &mut String, word: &str, times: usize) -> Result<(), AllocError> {
+    for _ in 0..times {
+        text.push_str(word)?;
+    }
+    Ok(())
+}
+
+/// The text with its brackets.
+fn nested(alloc: Global, nest: &Nest) -> Result<String, AllocError> {
+    let mut text = String::from_str(alloc, nest.before)?;
+    push_times(&mut text, nest.opening, nest.depth)?;
+    text.push_str(nest.middle)?;
+    push_times(&mut text, nest.closing, nest.depth)?;
+    text.push_str(nest.after)?;
+    Ok(text)
 }
 
 #[test]
 fn sixty_four_brackets_are_taken_and_one_more_is_not(rt: HostRuntime) -> Result<(), Fail> {
-    let parens = Frame {
-        before: "solve :: a ",
-        opening: "( a ",
-        middle: "",
-        closing: ") ",
-        after: "satisfy ; ",
-    };
-    assert_eq!(rt; nested_outcome(rt.alloc(), &parens, 64)?, (1, None));
-    assert_eq!(rt; nested_outcome(rt.alloc(), &parens, 65)?, (0, Some(0)));
-    // one more bracket stands around these, and the innermost hold braces, which don't count, or nothing
-    let braces = Frame {
-        before: "solve :: a ( ",
-        opening: "[ ",
-        middle: "{ 1 } ",
-        closing: "] ",
-        after: ") satisfy ; ",
-    };
-    assert_eq!(rt; nested_outcome(rt.alloc(), &braces, 63)?, (1, None));
-    let empty = Frame {
-        middle: "",
-        ..braces
-    };
-    assert_eq!(rt; nested_outcome(rt.alloc(), &empty, 63)?, (1, None));
-    assert_eq!(rt; nested_outcome(rt.alloc(), &empty, 64)?, (0, Some(0)));
+    let nests = [
+        PARENS,
+        Nest {
+            depth: 65,
+            answer: Err(0),
+            ..PARENS
+        },
+        BRACES,
+        EMPTY,
+        Nest {
+            depth: 64,
+            answer: Err(0),
+            ..EMPTY
+        },
+        SIDE_BY_SIDE,
+        PREDICATE,
+    ];
+    for nest in &nests {
+        let text = nested(rt.alloc(), nest)?;
+        assert_eq!(rt;
+            outcome(rt.alloc(), text.as_str())?,
+            nest.answer,
+            "at {text}"
+        );
+    }
     Ok(())
 }
 
-#[test]
-fn brackets_side_by_side_and_in_a_predicate_are_free(rt: HostRuntime) -> Result<(), Fail> {
-    let side_by_side = Frame {
-        before: "solve ",
-        opening: ":: a ( ) ",
-        middle: "",
-        closing: "",
-        after: "satisfy ; ",
-    };
-    assert_eq!(rt; nested_outcome(rt.alloc(), &side_by_side, 70)?, (1, None));
-    let predicate = Frame {
-        before: "predicate p ",
-        opening: "( [ ",
-        middle: "",
-        closing: "] ) ",
-        after: "; ",
-    };
-    assert_eq!(rt; nested_outcome(rt.alloc(), &predicate, 70)?, (1, None));
-    Ok(())
-}
-
-// The first bytes of what an expression keeps, entry by entry.
+/// The first bytes of what an expression keeps, entry by entry.
 fn places(alloc: Global, expr: &Expr) -> Result<Vec<usize>, AllocError> {
     let entries = match expr {
         Expr::One(_) => &[],
@@ -276,7 +286,7 @@ fn places(alloc: Global, expr: &Expr) -> Result<Vec<usize>, AllocError> {
     Ok(places)
 }
 
-// The first bytes of an item and of what it keeps.
+/// The first bytes of an item and of what it keeps.
 fn item_places(alloc: Global, item: &Item) -> Result<Vec<usize>, AllocError> {
     let mut found = Vec::new(alloc);
     found.push(item.from)?;
@@ -302,8 +312,7 @@ fn item_places(alloc: Global, item: &Item) -> Result<Vec<usize>, AllocError> {
 #[test]
 fn what_an_item_keeps_stands_in_its_place(rt: HostRuntime) -> Result<(), Fail> {
     let text = "predicate p ; solve maximize [ x , 1 .. 3 , true , 2.5 ] ; ";
-    let tokens = tokens_of(rt.alloc(), text.as_bytes())?;
-    let Ok(items) = parse(rt.alloc(), text.as_bytes(), tokens.as_slice()) else {
+    let Ok(items) = items_of(rt.alloc(), text)? else {
         return Err(AllocError.into());
     };
     let expected = [[0, 10].as_slice(), [14, 31, 35, 40, 0, 51].as_slice()];

@@ -4,7 +4,10 @@ ghost use Rattle.std.specs.Prelude.{◌≡◌, ◌≢◌, ℕ, List, codes, IfOk
 ghost use Rattle.fzn_io.specs.Faults.{CountRose};
 ghost use Rattle.fzn_io.specs.Streams.{Adds, AddsFront, IsNextName, IsHeld, IsLonger};
 
-use super::*;
+use fzn_io::{
+    FileSource, HonestSink, HonestSource, MemSink, MemSource, Named, ReadError, Sink, Source,
+    StdSink, WriteFault, read_named, write_all,
+};
 use std::alloc::{AllocError, Global};
 use std::fs;
 use std::test::Fail;

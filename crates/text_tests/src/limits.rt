@@ -1,0 +1,182 @@
+//! Texts at each limit, and one past it.
+
+use crate::resolved::fault_of;
+use std::alloc::{AllocError, Global};
+use std::test::Fail;
+
+/// A text in which a word stands many times, between what stands before it in its item and what stands behind it. The
+/// item has a fault of this kind, or none.
+struct Case {
+    front: &'static str,
+    item: &'static str,
+    word: &'static str,
+    times: usize,
+    rest: &'static str,
+    kind: Option<u8>,
+}
+
+/// A list with one entry more than may be, that has a fault of this kind.
+const fn too_long(kind: u8, front: &'static str, item: &'static str, rest: &'static str) -> Case {
+    Case {
+        front,
+        item,
+        word: ",1",
+        times: 65_536,
+        rest,
+        kind: Some(kind),
+    }
+}
+
+/// A list with as many entries as may be.
+const fn longest(item: &'static str, rest: &'static str) -> Case {
+    Case {
+        front: "",
+        item,
+        word: ",1",
+        times: 65_535,
+        rest,
+        kind: None,
+    }
+}
+
+const CASES: &[Case] = &[
+    Case {
+        front: "",
+        item: "var 0..",
+        word: "9",
+        times: 100_000,
+        rest: ": x; solve satisfy;",
+        kind: Some(8),
+    },
+    longest("set of int: s = {1", "}; solve satisfy;"),
+    longest("var {1", "}: x; solve satisfy;"),
+    longest("array [1..65536] of int: a = [1", "]; solve satisfy;"),
+    too_long(
+        9,
+        "",
+        "array [1..65537] of int: a = [1",
+        "]; solve satisfy;",
+    ),
+    too_long(3, "int: s = 1; ", "set of int: s = {1", "}; solve satisfy;"),
+    too_long(4, "", "constraint int_le(q, {1", "}); solve satisfy;"),
+    too_long(5, "", "constraint int_pow(1, {1", "}); solve satisfy;"),
+    too_long(6, "", "constraint int_le(1, {1", "}); solve satisfy;"),
+    too_long(7, "", "var set of {1", "}: s; solve satisfy;"),
+    too_long(
+        8,
+        "",
+        "set of int: s = {140737488355328",
+        "}; solve satisfy;",
+    ),
+    too_long(9, "solve satisfy; ", "set of int: s = {1", "};"),
+    too_long(9, "", "var {1", "}: x; solve satisfy;"),
+    too_long(9, "", "array [1..0] of var {1", "}: a = []; solve satisfy;"),
+];
+
+/// The item of a case, with what stands behind it.
+fn item_of(alloc: Global, case: &Case) -> Result<String, AllocError> {
+    let mut text = String::from_str(alloc, case.item)?;
+    for _ in 0..case.times {
+        text.push_str(case.word)?;
+    }
+    text.push_str(case.rest)?;
+    Ok(text)
+}
+
+#[test]
+fn lists_have_65536_entries_and_no_more(rt: HostRuntime) -> Result<(), Fail> {
+    for case in CASES {
+        let item = item_of(rt.alloc(), case)?;
+        let fault = fault_of(rt.alloc(), case.front, item.as_str())?;
+        let expected = case.kind.map(|kind| (kind, case.front.len()));
+        assert_eq!(rt; fault, expected, "at {}{}", case.front, case.item);
+    }
+    Ok(())
+}
+
+/// 65536 declarations, a line each.
+fn declarations(alloc: Global) -> Result<String, AllocError> {
+    let mut text = String::new(alloc);
+    for number in 0..65_536u32 {
+        write!(text, "var 1..1: b{number};\n")?;
+    }
+    Ok(text)
+}
+
+/// Two lines with element constraints that name the numbers from 2 to 131073.
+fn element_lines(alloc: Global) -> Result<String, AllocError> {
+    let mut text = String::new(alloc);
+    for (first, last) in [(2u32, 65_537u32), (65_538, 131_073)] {
+        text.push_str("constraint array_int_element(1,[")?;
+        for number in first..last {
+            write!(text, "{number},")?;
+        }
+        write!(text, "{last}],{last});\n")?;
+    }
+    Ok(text)
+}
+
+/// An array of 65535 booleans, and 16 lines each of which is run as 65536 propagators.
+fn conjunctions(alloc: Global) -> Result<String, AllocError> {
+    let mut text = String::from_str(alloc, "var bool: b;\narray [1..65535] of var bool: a = [b")?;
+    for _ in 1..65_535 {
+        text.push_str(",b")?;
+    }
+    text.push_str("];\n")?;
+    for _ in 0..16 {
+        text.push_str("constraint array_bool_and(a,b);\n")?;
+    }
+    Ok(text)
+}
+
+/// What a text has as much of as it may have.
+#[derive(Clone, Copy, Debug)]
+enum Full {
+    /// 65536 variables.
+    Variables,
+    /// 131072 constants.
+    Constants,
+    /// 1048576 propagators.
+    Propagators,
+}
+
+/// A text of this kind, without its end.
+fn full(alloc: Global, kind: Full) -> Result<String, AllocError> {
+    match kind {
+        Full::Variables => declarations(alloc),
+        Full::Constants => element_lines(alloc),
+        Full::Propagators => conjunctions(alloc),
+    }
+}
+
+/// The faults of a full text: with no more, and with one item more.
+fn faults_of(
+    alloc: Global,
+    front: &str,
+    more: &str,
+) -> Result<[Option<(u8, usize)>; 2], AllocError> {
+    Ok([
+        fault_of(alloc, front, "solve satisfy;")?,
+        fault_of(alloc, front, more)?,
+    ])
+}
+
+#[test]
+fn with_one_item_more_a_limit_is_passed(rt: HostRuntime) -> Result<(), Fail> {
+    for (kind, more) in [
+        (Full::Variables, "var 1..1: b; solve satisfy;"),
+        (
+            Full::Constants,
+            "constraint int_le(1,131074); solve satisfy;",
+        ),
+        (
+            Full::Propagators,
+            "constraint array_bool_and(a,b); solve satisfy;",
+        ),
+    ] {
+        let front = full(rt.alloc(), kind)?;
+        let faults = faults_of(rt.alloc(), front.as_str(), more)?;
+        assert_eq!(rt; faults, [None, Some((9, front.len()))], "at {kind:?}");
+    }
+    Ok(())
+}

@@ -9,67 +9,69 @@ use shared_list::SharedList;
 use std::alloc::{AllocError, Global};
 use std::test::Fail;
 
-/// Every name with its spelling.
-const NAMES: &[(ConstraintName, &str)] = &[
-    (ConstraintName::IntEq, "int_eq"),
-    (ConstraintName::IntNe, "int_ne"),
-    (ConstraintName::IntLe, "int_le"),
-    (ConstraintName::IntLt, "int_lt"),
-    (ConstraintName::IntLinEq, "int_lin_eq"),
-    (ConstraintName::IntLinNe, "int_lin_ne"),
-    (ConstraintName::IntLinLe, "int_lin_le"),
-    (ConstraintName::IntEqReif, "int_eq_reif"),
-    (ConstraintName::IntNeReif, "int_ne_reif"),
-    (ConstraintName::IntLeReif, "int_le_reif"),
-    (ConstraintName::IntLtReif, "int_lt_reif"),
-    (ConstraintName::IntLinEqReif, "int_lin_eq_reif"),
-    (ConstraintName::IntLinNeReif, "int_lin_ne_reif"),
-    (ConstraintName::IntLinLeReif, "int_lin_le_reif"),
-    (ConstraintName::IntPlus, "int_plus"),
-    (ConstraintName::IntTimes, "int_times"),
-    (ConstraintName::IntDiv, "int_div"),
-    (ConstraintName::IntMod, "int_mod"),
-    (ConstraintName::IntAbs, "int_abs"),
-    (ConstraintName::IntMax, "int_max"),
-    (ConstraintName::IntMin, "int_min"),
-    (ConstraintName::ArrayIntMaximum, "array_int_maximum"),
-    (ConstraintName::ArrayIntMinimum, "array_int_minimum"),
-    (ConstraintName::ArrayIntElement, "array_int_element"),
-    (ConstraintName::ArrayVarIntElement, "array_var_int_element"),
-    (ConstraintName::ArrayBoolElement, "array_bool_element"),
+/// Every name with its spelling, and words that are none.
+const NAMES: &[(Option<ConstraintName>, &str)] = &[
+    (Some(ConstraintName::IntEq), "int_eq"),
+    (Some(ConstraintName::IntNe), "int_ne"),
+    (Some(ConstraintName::IntLe), "int_le"),
+    (Some(ConstraintName::IntLt), "int_lt"),
+    (Some(ConstraintName::IntLinEq), "int_lin_eq"),
+    (Some(ConstraintName::IntLinNe), "int_lin_ne"),
+    (Some(ConstraintName::IntLinLe), "int_lin_le"),
+    (Some(ConstraintName::IntEqReif), "int_eq_reif"),
+    (Some(ConstraintName::IntNeReif), "int_ne_reif"),
+    (Some(ConstraintName::IntLeReif), "int_le_reif"),
+    (Some(ConstraintName::IntLtReif), "int_lt_reif"),
+    (Some(ConstraintName::IntLinEqReif), "int_lin_eq_reif"),
+    (Some(ConstraintName::IntLinNeReif), "int_lin_ne_reif"),
+    (Some(ConstraintName::IntLinLeReif), "int_lin_le_reif"),
+    (Some(ConstraintName::IntPlus), "int_plus"),
+    (Some(ConstraintName::IntTimes), "int_times"),
+    (Some(ConstraintName::IntDiv), "int_div"),
+    (Some(ConstraintName::IntMod), "int_mod"),
+    (Some(ConstraintName::IntAbs), "int_abs"),
+    (Some(ConstraintName::IntMax), "int_max"),
+    (Some(ConstraintName::IntMin), "int_min"),
+    (Some(ConstraintName::ArrayIntMaximum), "array_int_maximum"),
+    (Some(ConstraintName::ArrayIntMinimum), "array_int_minimum"),
+    (Some(ConstraintName::ArrayIntElement), "array_int_element"),
     (
-        ConstraintName::ArrayVarBoolElement,
+        Some(ConstraintName::ArrayVarIntElement),
+        "array_var_int_element",
+    ),
+    (Some(ConstraintName::ArrayBoolElement), "array_bool_element"),
+    (
+        Some(ConstraintName::ArrayVarBoolElement),
         "array_var_bool_element",
     ),
-    (ConstraintName::SetIn, "set_in"),
-    (ConstraintName::SetInReif, "set_in_reif"),
-    (ConstraintName::BoolToInt, "bool2int"),
-    (ConstraintName::BoolEq, "bool_eq"),
-    (ConstraintName::BoolLe, "bool_le"),
-    (ConstraintName::BoolLt, "bool_lt"),
-    (ConstraintName::BoolEqReif, "bool_eq_reif"),
-    (ConstraintName::BoolLeReif, "bool_le_reif"),
-    (ConstraintName::BoolLtReif, "bool_lt_reif"),
-    (ConstraintName::BoolNot, "bool_not"),
-    (ConstraintName::BoolXor, "bool_xor"),
-    (ConstraintName::BoolAnd, "bool_and"),
-    (ConstraintName::BoolOr, "bool_or"),
-    (ConstraintName::ArrayBoolAnd, "array_bool_and"),
-    (ConstraintName::ArrayBoolOr, "array_bool_or"),
-    (ConstraintName::BoolClause, "bool_clause"),
-    (ConstraintName::BoolClauseReif, "bool_clause_reif"),
-    (ConstraintName::BoolLinLe, "bool_lin_le"),
-    (ConstraintName::BoolLinEq, "bool_lin_eq"),
+    (Some(ConstraintName::SetIn), "set_in"),
+    (Some(ConstraintName::SetInReif), "set_in_reif"),
+    (Some(ConstraintName::BoolToInt), "bool2int"),
+    (Some(ConstraintName::BoolEq), "bool_eq"),
+    (Some(ConstraintName::BoolLe), "bool_le"),
+    (Some(ConstraintName::BoolLt), "bool_lt"),
+    (Some(ConstraintName::BoolEqReif), "bool_eq_reif"),
+    (Some(ConstraintName::BoolLeReif), "bool_le_reif"),
+    (Some(ConstraintName::BoolLtReif), "bool_lt_reif"),
+    (Some(ConstraintName::BoolNot), "bool_not"),
+    (Some(ConstraintName::BoolXor), "bool_xor"),
+    (Some(ConstraintName::BoolAnd), "bool_and"),
+    (Some(ConstraintName::BoolOr), "bool_or"),
+    (Some(ConstraintName::ArrayBoolAnd), "array_bool_and"),
+    (Some(ConstraintName::ArrayBoolOr), "array_bool_or"),
+    (Some(ConstraintName::BoolClause), "bool_clause"),
+    (Some(ConstraintName::BoolClauseReif), "bool_clause_reif"),
+    (Some(ConstraintName::BoolLinLe), "bool_lin_le"),
+    (Some(ConstraintName::BoolLinEq), "bool_lin_eq"),
+    (None, "int_negate"),
+    (None, "int_e"),
+    (None, ""),
 ];
 
 #[test]
 fn each_name_is_found_by_its_spelling(rt: HostRuntime) -> Result<(), Fail> {
     for (name, spelling) in NAMES {
-        assert_eq!(rt; ConstraintName::named(spelling.as_bytes()), Some(*name));
-        assert_eq!(rt; name.text(), *spelling);
-    }
-    for other in ["int_negate", "int_e", ""] {
-        assert_eq!(rt; ConstraintName::named(other.as_bytes()), None);
+        assert_eq!(rt; ConstraintName::named(spelling.as_bytes()), *name);
     }
     Ok(())
 }
@@ -166,15 +168,16 @@ const CASES: &[Case] = &[
     },
 ];
 
+/// The entries of an array.
+fn array(alloc: Global, entries: &[Scalar]) -> Result<Entries, AllocError> {
+    Entries::new(alloc, Vec::from_slice(alloc, entries)?, 0)
+}
+
 /// What an argument stands for.
 fn meaning(alloc: Global, argument: &Argument) -> Result<Meaning, AllocError> {
     match argument {
         Argument::One(scalar) => Ok(Meaning::One(*scalar)),
-        Argument::Row(entries) => Ok(Meaning::Row(Entries::new(
-            alloc,
-            Vec::from_slice(alloc, entries)?,
-            0,
-        )?)),
+        Argument::Row(entries) => Ok(Meaning::Row(array(alloc, entries)?)),
     }
 }
 
@@ -187,40 +190,52 @@ fn meanings(alloc: Global, arguments: &[Argument]) -> Result<Vec<Meaning>, Alloc
     Ok(meanings)
 }
 
+/// Whether a name takes these arguments.
+fn takes(alloc: Global, name: ConstraintName, arguments: &[Argument]) -> Result<bool, AllocError> {
+    let meanings = meanings(alloc, arguments)?;
+    Ok(fits_some_row(name, meanings.as_slice()))
+}
+
 #[test]
 fn arguments_fit_or_do_not(rt: HostRuntime) -> Result<(), Fail> {
     for case in CASES {
-        let meanings = meanings(rt.alloc(), case.arguments)?;
-        let fits = fits_some_row(case.name, meanings.as_slice());
+        let fits = takes(rt.alloc(), case.name, case.arguments)?;
         assert_eq!(rt; fits, case.fits, "at {}", case.name.text());
     }
     Ok(())
 }
 
-/// A list of a row and a term.
-fn row_and_term(alloc: Global, row: &[Term], term: Term) -> Result<ListOf<Operand>, AllocError> {
-    let mut operands = ListOf::new(alloc);
-    let row = SharedList::from_vec(Vec::from_slice(alloc, row)?)?;
-    operands.push(Operand::Row(row))?;
-    operands.push(Operand::One(term))?;
-    Ok(operands)
+/// The entries of a row.
+fn row(alloc: Global, terms: &[Term]) -> Result<Operand, AllocError> {
+    let terms = SharedList::from_vec(Vec::from_slice(alloc, terms)?)?;
+    Ok(Operand::Row(terms))
 }
 
-#[test]
-fn constraints_count_for_kernels_and_constants(rt: HostRuntime) -> Result<(), Fail> {
-    let alloc = rt.alloc();
+/// A list of a row and a term.
+fn row_and_term(alloc: Global, terms: &[Term], term: Term) -> Result<ListOf<Operand>, AllocError> {
+    let row = row(alloc, terms)?;
+    Ok(ListOf::from_vec(vec![in alloc; row, Operand::One(term)]?))
+}
+
+/// The disjunction of a row of 0, a variable, 1 and 0, that is as 5 says.
+fn disjunction(alloc: Global) -> Result<Constraint, AllocError> {
     let row = [
         Term::Number(0),
         Term::Var(3),
         Term::Number(1),
         Term::Number(0),
     ];
-    let constraint = Constraint {
+    Ok(Constraint {
         name: ConstraintName::ArrayBoolOr,
         operands: row_and_term(alloc, &row, Term::Number(5))?,
-    };
+    })
+}
+
+#[test]
+fn constraints_count_for_kernels_and_constants(rt: HostRuntime) -> Result<(), Fail> {
+    let constraint = disjunction(rt.alloc())?;
     assert_eq!(rt; kernel_count(&constraint), 5);
-    let mut found = Constants::new(alloc);
+    let mut found = Constants::new(rt.alloc());
     add_constants(&mut found, &constraint)?;
     assert_eq!(rt; found.as_slice(), [0, 5].as_slice());
     Ok(())

@@ -7,15 +7,12 @@ use fzn_parser::{ParseError, parse};
 use std::alloc::{AllocError, Global};
 use std::test::Fail;
 
-/// The tokens of a text that has some.
-fn tokens_of(alloc: Global, text: &str) -> Result<Vec<Token>, AllocError> {
-    lex(alloc, text.as_bytes()).or(Err(AllocError))
-}
-
-/// The items of a text that has some, or the place of its fault.
-fn items_of(alloc: Global, text: &str) -> Result<Result<Vec<Item>, usize>, AllocError> {
-    let tokens = tokens_of(alloc, text)?;
-    match parse(alloc, text.as_bytes(), tokens.as_slice()) {
+/// The items of a text that has tokens, or the place of its fault.
+fn items_of(alloc: Global, text: &[u8]) -> Result<Result<Vec<Item>, usize>, AllocError> {
+    let Ok(tokens) = lex(alloc, text) else {
+        return Err(AllocError);
+    };
+    match parse(alloc, text, tokens.as_slice()) {
         Ok(items) => Ok(Ok(items)),
         Err(ParseError::Syntax { at }) => Ok(Err(at)),
         Err(ParseError::NoMemory) => Err(AllocError),
@@ -24,140 +21,148 @@ fn items_of(alloc: Global, text: &str) -> Result<Result<Vec<Item>, usize>, Alloc
 
 /// How many items the text has, or the place of its fault.
 fn outcome(alloc: Global, text: &str) -> Result<Result<usize, usize>, AllocError> {
-    Ok(items_of(alloc, text)?.map(|items| items.len()))
+    match items_of(alloc, text.as_bytes())? {
+        Ok(items) => Ok(Ok(items.len())),
+        Err(at) => Ok(Err(at)),
+    }
 }
+
+/// Texts that the grammar writes, with how many items each has.
+const TAKEN: &[(&str, usize)] = &[
+    ("", 0),
+    // predicate
+    ("predicate ; ", 1),
+    (
+        "predicate p ( var int : x , ] } ) : : satisfy = 1.5 \"t\" ; ",
+        1,
+    ),
+    // a parameter of each type, with an expression of each kind
+    ("bool : b = true ; bool : c = false ; ", 2),
+    ("int : i = 3 ; int : j = i ; ", 2),
+    ("float : f = 1.5 ; float : g = f ; ", 2),
+    (
+        "set of int : s = { } ; set of int : t = 1 .. 3 ; set of int : u = { 3 , 1 , 3 } ; ",
+        3,
+    ),
+    ("int : i = [ ] ; ", 1),
+    // a variable of each type, without a value and with one
+    ("var bool : b ; var bool : c = b ; ", 2),
+    ("var int : i ; var int : j :: is_defined_var = 3 ; ", 2),
+    ("var float : f ; var float : g = 1.5 ; ", 2),
+    ("var 1 .. 9 : i ; var { } : j ; var { 1 , 3 } : k = 3 ; ", 3),
+    ("var 1.5 .. 2.5 : f ; ", 1),
+    (
+        "var set of int : s ; var set of 1 .. 3 : t ; var set of { 1 , 3 } : u = { 1 } ; ",
+        3,
+    ),
+    // arrays
+    ("array [ 1 .. 0 ] of int : a = [ ] ; ", 1),
+    (
+        "array [ 1 .. 2 ] of var int : a :: x ( [ 1 .. 2 ] ) :: y = [ x , 2 ] ; ",
+        1,
+    ),
+    (
+        "array [ 1 .. 2 ] of var set of 1 .. 3 : a = [ { } , s ] ; array [ 1 .. 1 ] of bool : b = c ; ",
+        2,
+    ),
+    // constraints
+    ("constraint c ( ) ; ", 1),
+    (
+        "constraint c ( [ ] , { } , 1 .. 2 , { 1 , 2 } , true , false , 1 , 1.5 , x ) ; ",
+        1,
+    ),
+    (
+        "constraint c ( [ true , 1 , 1.5 , x , 1 .. 2 , { } ] , [ y ] ) :: d :: e ; ",
+        1,
+    ),
+    // solve
+    ("solve satisfy ; ", 1),
+    (
+        "solve :: s ( a , b ) :: t minimize x ; solve maximize 3 ; solve minimize [ x ] ; ",
+        3,
+    ),
+    // annotations and their arguments, nested
+    (
+        "constraint c ( ) :: d ( ) :: e ( [ ] ) :: f ( g ( ) , h ) ; ",
+        1,
+    ),
+    (
+        "solve :: a ( true , false , 1 , 1.5 , \"t\" , 1 .. 2 , { } , { 3 , 1 } , n ) satisfy ; ",
+        1,
+    ),
+    (
+        "solve :: a ( [ b ( [ c ( d , [ ] ) , [ [ \"t\" ] ] ] ) , e ] , f ( g ) ) satisfy ; ",
+        1,
+    ),
+];
 
 #[test]
 fn each_production_is_taken(rt: HostRuntime) -> Result<(), Fail> {
-    let taken = [
-        ("", 0),
-        // predicate
-        ("predicate ; ", 1),
-        (
-            "predicate p ( var int : x , ] } ) : : satisfy = 1.5 \"t\" ; ",
-            1,
-        ),
-        // a parameter of each type, with an expression of each kind
-        ("bool : b = true ; bool : c = false ; ", 2),
-        ("int : i = 3 ; int : j = i ; ", 2),
-        ("float : f = 1.5 ; float : g = f ; ", 2),
-        (
-            "set of int : s = { } ; set of int : t = 1 .. 3 ; set of int : u = { 3 , 1 , 3 } ; ",
-            3,
-        ),
-        ("int : i = [ ] ; ", 1),
-        // a variable of each type, without a value and with one
-        ("var bool : b ; var bool : c = b ; ", 2),
-        ("var int : i ; var int : j :: is_defined_var = 3 ; ", 2),
-        ("var float : f ; var float : g = 1.5 ; ", 2),
-        ("var 1 .. 9 : i ; var { } : j ; var { 1 , 3 } : k = 3 ; ", 3),
-        ("var 1.5 .. 2.5 : f ; ", 1),
-        (
-            "var set of int : s ; var set of 1 .. 3 : t ; var set of { 1 , 3 } : u = { 1 } ; ",
-            3,
-        ),
-        // arrays
-        ("array [ 1 .. 0 ] of int : a = [ ] ; ", 1),
-        (
-            "array [ 1 .. 2 ] of var int : a :: x ( [ 1 .. 2 ] ) :: y = [ x , 2 ] ; ",
-            1,
-        ),
-        (
-            "array [ 1 .. 2 ] of var set of 1 .. 3 : a = [ { } , s ] ; array [ 1 .. 1 ] of bool : b = c ; ",
-            2,
-        ),
-        // constraints
-        ("constraint c ( ) ; ", 1),
-        (
-            "constraint c ( [ ] , { } , 1 .. 2 , { 1 , 2 } , true , false , 1 , 1.5 , x ) ; ",
-            1,
-        ),
-        (
-            "constraint c ( [ true , 1 , 1.5 , x , 1 .. 2 , { } ] , [ y ] ) :: d :: e ; ",
-            1,
-        ),
-        // solve
-        ("solve satisfy ; ", 1),
-        (
-            "solve :: s ( a , b ) :: t minimize x ; solve maximize 3 ; solve minimize [ x ] ; ",
-            3,
-        ),
-        // annotations and their arguments, nested
-        (
-            "constraint c ( ) :: d ( ) :: e ( [ ] ) :: f ( g ( ) , h ) ; ",
-            1,
-        ),
-        (
-            "solve :: a ( true , false , 1 , 1.5 , \"t\" , 1 .. 2 , { } , { 3 , 1 } , n ) satisfy ; ",
-            1,
-        ),
-        (
-            "solve :: a ( [ b ( [ c ( d , [ ] ) , [ [ \"t\" ] ] ] ) , e ] , f ( g ) ) satisfy ; ",
-            1,
-        ),
-    ];
-    for (text, items) in taken {
-        assert_eq!(rt; outcome(rt.alloc(), text)?, Ok(items), "at {text}");
+    for (text, items) in TAKEN {
+        assert_eq!(rt; outcome(rt.alloc(), text)?, Ok(*items), "at {text}");
     }
     Ok(())
 }
 
+/// Texts that it does not write, with the place of the stretch that is refused.
+const REFUSED: &[(&str, usize)] = &[
+    // stretches: the third of five, the end inside an item, no semicolon before `solve`
+    (
+        "var int : a ; var int : b ; var int ; var : d ; solve satisfy ; ",
+        28,
+    ),
+    ("solve satisfy ; var int : x = ", 16),
+    ("solve satisfy ; predicate p ( ", 16),
+    ("var int : y ; var int : x solve satisfy ; ", 14),
+    ("; ", 0),
+    ("solve satisfy ; ; ", 16),
+    // a parameter and an array have a value
+    ("int : x ; ", 0),
+    ("array [ 1 .. 2 ] of var int : a ; ", 0),
+    ("var int : x = ; ", 0),
+    // types
+    ("set of bool : s = { } ; ", 0),
+    ("1 .. 3 : i = 1 ; ", 0),
+    ("var 1.5 .. 2 : f ; ", 0),
+    ("var set of bool : s ; ", 0),
+    ("array [ x .. 2 ] of int : a = [ ] ; ", 0),
+    ("array [ int ] of int : a = [ ] ; ", 0),
+    // keywords are no names
+    ("var int : var ; ", 0),
+    ("constraint solve ( ) ; ", 0),
+    ("solve :: satisfy satisfy ; ", 0),
+    // expressions
+    ("constraint c ( [ [ 1 ] ] ) ; ", 0),
+    ("constraint c ( \"t\" ) ; ", 0),
+    ("constraint c ( { x } ) ; ", 0),
+    ("constraint c ( x .. 2 ) ; ", 0),
+    // lists
+    ("constraint c ( { 1 , } ) ; ", 0),
+    ("constraint c ( x , ) ; ", 0),
+    ("constraint c ( [ x , ] ) ; ", 0),
+    ("constraint c ( , x ) ; ", 0),
+    ("constraint c ( x y ) ; ", 0),
+    ("solve :: a ( b , ) satisfy ; ", 0),
+    // solve and annotations
+    ("solve ; ", 0),
+    ("solve minimize ; ", 0),
+    ("solve satisfy x ; ", 0),
+    ("constraint c ; ", 0),
+    ("constraint c ( ) : : d ; ", 0),
+    ("constraint c ( ) :: d ( ) ( ) ; ", 0),
+    ("constraint c ( ) :: \"t\" ; ", 0),
+];
+
 #[test]
 fn what_the_grammar_does_not_write_is_refused_at_its_stretch(rt: HostRuntime) -> Result<(), Fail> {
-    let refused = [
-        // stretches: the third of five, the end inside an item, no semicolon before `solve`
-        (
-            "var int : a ; var int : b ; var int ; var : d ; solve satisfy ; ",
-            28,
-        ),
-        ("solve satisfy ; var int : x = ", 16),
-        ("solve satisfy ; predicate p ( ", 16),
-        ("var int : y ; var int : x solve satisfy ; ", 14),
-        ("; ", 0),
-        ("solve satisfy ; ; ", 16),
-        // a parameter and an array have a value
-        ("int : x ; ", 0),
-        ("array [ 1 .. 2 ] of var int : a ; ", 0),
-        ("var int : x = ; ", 0),
-        // types
-        ("set of bool : s = { } ; ", 0),
-        ("1 .. 3 : i = 1 ; ", 0),
-        ("var 1.5 .. 2 : f ; ", 0),
-        ("var set of bool : s ; ", 0),
-        ("array [ x .. 2 ] of int : a = [ ] ; ", 0),
-        ("array [ int ] of int : a = [ ] ; ", 0),
-        // keywords are no names
-        ("var int : var ; ", 0),
-        ("constraint solve ( ) ; ", 0),
-        ("solve :: satisfy satisfy ; ", 0),
-        // expressions
-        ("constraint c ( [ [ 1 ] ] ) ; ", 0),
-        ("constraint c ( \"t\" ) ; ", 0),
-        ("constraint c ( { x } ) ; ", 0),
-        ("constraint c ( x .. 2 ) ; ", 0),
-        // lists
-        ("constraint c ( { 1 , } ) ; ", 0),
-        ("constraint c ( x , ) ; ", 0),
-        ("constraint c ( [ x , ] ) ; ", 0),
-        ("constraint c ( , x ) ; ", 0),
-        ("constraint c ( x y ) ; ", 0),
-        ("solve :: a ( b , ) satisfy ; ", 0),
-        // solve and annotations
-        ("solve ; ", 0),
-        ("solve minimize ; ", 0),
-        ("solve satisfy x ; ", 0),
-        ("constraint c ; ", 0),
-        ("constraint c ( ) : : d ; ", 0),
-        ("constraint c ( ) :: d ( ) ( ) ; ", 0),
-        ("constraint c ( ) :: \"t\" ; ", 0),
-    ];
-    for (text, at) in refused {
-        assert_eq!(rt; outcome(rt.alloc(), text)?, Err(at), "at {text}");
+    for (text, at) in REFUSED {
+        assert_eq!(rt; outcome(rt.alloc(), text)?, Err(*at), "at {text}");
     }
     Ok(())
 }
 
 /// The words around and inside some pairs of brackets, with how many pairs there are, and whether the text is an item.
+#[derive(Clone, Copy)]
 struct Nest {
     before: &'static str,
     opening: &'static str,
@@ -217,6 +222,24 @@ const PREDICATE: Nest = Nest {
     answer: Ok(1),
 };
 
+const NESTS: &[Nest] = &[
+    PARENS,
+    Nest {
+        depth: 65,
+        answer: Err(0),
+        ..PARENS
+    },
+    BRACES,
+    EMPTY,
+    Nest {
+        depth: 64,
+        answer: Err(0),
+        ..EMPTY
+    },
+    SIDE_BY_SIDE,
+    PREDICATE,
+];
+
 /// Adds a word so many times.
 fn push_times(text: &mut String, word: &str, times: usize) -> Result<(), AllocError> {
     for _ in 0..times {
@@ -235,76 +258,75 @@ fn nested(alloc: Global, nest: &Nest) -> Result<String, AllocError> {
     Ok(text)
 }
 
+/// How many items the text with its brackets has, or the place of its fault.
+fn nested_outcome(alloc: Global, nest: &Nest) -> Result<Result<usize, usize>, AllocError> {
+    let text = nested(alloc, nest)?;
+    outcome(alloc, text.as_str())
+}
+
 #[test]
 fn sixty_four_brackets_are_taken_and_one_more_is_not(rt: HostRuntime) -> Result<(), Fail> {
-    let nests = [
-        PARENS,
-        Nest {
-            depth: 65,
-            answer: Err(0),
-            ..PARENS
-        },
-        BRACES,
-        EMPTY,
-        Nest {
-            depth: 64,
-            answer: Err(0),
-            ..EMPTY
-        },
-        SIDE_BY_SIDE,
-        PREDICATE,
-    ];
-    for nest in &nests {
-        let text = nested(rt.alloc(), nest)?;
-        assert_eq!(rt;
-            outcome(rt.alloc(), text.as_str())?,
-            nest.answer,
-            "at {text}"
-        );
+    for nest in NESTS {
+        let outcome = nested_outcome(rt.alloc(), nest)?;
+        assert_eq!(rt; outcome, nest.answer, "at {} {}", nest.before, nest.depth);
     }
     Ok(())
 }
 
-/// The first bytes of what an expression keeps, entry by entry.
-fn places(alloc: Global, expr: &Expr) -> Result<Vec<usize>, AllocError> {
+/// Adds the first bytes of what an expression keeps, entry by entry.
+fn push_places(found: &mut Vec<usize>, expr: &Expr) -> Result<(), AllocError> {
     let entries = match expr {
         Expr::One(_) => &[],
         Expr::Row(entries) => entries.as_slice(),
     };
-    let mut places = Vec::new(alloc);
     for entry in entries {
-        match entry {
-            Elem::True | Elem::False => places.push(0)?,
-            Elem::Int(token) | Elem::Float(token) | Elem::Name(token) => places.push(token.from)?,
-            Elem::Set(SetLit::Range(low, high)) => {
-                places.push(low.from)?;
-                places.push(high.from)?;
-            }
-            Elem::Set(SetLit::Braces(_)) => places.push(1)?,
-        }
+        push_elem(found, entry)?;
     }
-    Ok(places)
+    Ok(())
 }
 
-/// The first bytes of an item and of what it keeps.
-fn item_places(alloc: Global, item: &Item) -> Result<Vec<usize>, AllocError> {
-    let mut found = Vec::new(alloc);
+/// Adds the first bytes of what an entry keeps.
+fn push_elem(found: &mut Vec<usize>, entry: &Elem) -> Result<(), AllocError> {
+    match entry {
+        Elem::True | Elem::False => found.push(0)?,
+        Elem::Int(token) | Elem::Float(token) | Elem::Name(token) => found.push(token.from)?,
+        Elem::Set(SetLit::Range(low, high)) => {
+            found.extend_from_slice(&[low.from, high.from])?;
+        }
+        Elem::Set(SetLit::Braces(_)) => found.push(1)?,
+    }
+    Ok(())
+}
+
+/// Adds the first bytes of tokens.
+fn push_tokens(found: &mut Vec<usize>, tokens: &[Token]) -> Result<(), AllocError> {
+    for token in tokens {
+        found.push(token.from)?;
+    }
+    Ok(())
+}
+
+/// Adds the first bytes of an item and of what it keeps.
+fn push_item(found: &mut Vec<usize>, item: &Item) -> Result<(), AllocError> {
     found.push(item.from)?;
     match &item.what {
-        What::Predicate(kept) => {
-            for token in kept.as_slice() {
-                found.push(token.from)?;
-            }
-        }
+        What::Predicate(kept) => push_tokens(found, kept.as_slice()),
         What::Solve {
             aim: Aim::Maximize(objective),
             ..
-        } => {
-            for place in &places(alloc, objective)? {
-                found.push(*place)?;
-            }
+        } => push_places(found, objective),
+        _ => Err(AllocError),
+    }
+}
+
+/// The first bytes of the items of a text and of what they keep, with 1000 behind each item.
+fn places_of(alloc: Global, text: &str) -> Result<Vec<usize>, AllocError> {
+    let mut found = Vec::new(alloc);
+    if let Ok(items) = items_of(alloc, text.as_bytes())? {
+        for item in &items {
+            push_item(&mut found, item)?;
+            found.push(1000)?;
         }
-        _ => found.push(1)?,
     }
     Ok(found)
 }
@@ -312,14 +334,8 @@ fn item_places(alloc: Global, item: &Item) -> Result<Vec<usize>, AllocError> {
 #[test]
 fn what_an_item_keeps_stands_in_its_place(rt: HostRuntime) -> Result<(), Fail> {
     let text = "predicate p ; solve maximize [ x , 1 .. 3 , true , 2.5 ] ; ";
-    let Ok(items) = items_of(rt.alloc(), text)? else {
-        return Err(AllocError.into());
-    };
-    let expected = [[0, 10].as_slice(), [14, 31, 35, 40, 0, 51].as_slice()];
-    assert_eq!(rt; items.len(), expected.len());
-    for (item, places) in items.iter().zip(expected) {
-        let found = item_places(rt.alloc(), item)?;
-        assert_eq!(rt; found.as_slice(), places);
-    }
+    let found = places_of(rt.alloc(), text)?;
+    let expected = [0, 10, 1000, 14, 31, 35, 40, 0, 51, 1000];
+    assert_eq!(rt; found.as_slice(), expected.as_slice());
     Ok(())
 }

@@ -6,90 +6,133 @@ use std::test::Fail;
 
 /// A text in which a word stands many times, between what stands before it in its item and what stands behind it. The
 /// item has a fault of this kind, or none.
-struct Case {
-    front: &'static str,
-    item: &'static str,
-    word: &'static str,
-    times: usize,
-    rest: &'static str,
-    kind: Option<u8>,
-}
+type Case = (
+    Option<u8>,
+    &'static str,
+    &'static str,
+    (&'static str, usize),
+    &'static str,
+);
 
-/// A list with one entry more than may be, that has a fault of this kind.
-const fn too_long(kind: u8, front: &'static str, item: &'static str, rest: &'static str) -> Case {
-    Case {
-        front,
-        item,
-        word: ",1",
-        times: 65_536,
-        rest,
-        kind: Some(kind),
-    }
-}
+/// So many further entries may a list have.
+const MOST: (&str, usize) = (",1", 65_535);
 
-/// A list with as many entries as may be.
-const fn longest(item: &'static str, rest: &'static str) -> Case {
-    Case {
-        front: "",
-        item,
-        word: ",1",
-        times: 65_535,
-        rest,
-        kind: None,
-    }
-}
+/// One more than that.
+const ONE_MORE: (&str, usize) = (",1", 65_536);
 
 const CASES: &[Case] = &[
-    Case {
-        front: "",
-        item: "var 0..",
-        word: "9",
-        times: 100_000,
-        rest: ": x; solve satisfy;",
-        kind: Some(8),
-    },
-    longest("set of int: s = {1", "}; solve satisfy;"),
-    longest("var {1", "}: x; solve satisfy;"),
-    longest("array [1..65536] of int: a = [1", "]; solve satisfy;"),
-    too_long(
-        9,
+    (
+        Some(8),
         "",
-        "array [1..65537] of int: a = [1",
+        "var 0..",
+        ("9", 100_000),
+        ": x; solve satisfy;",
+    ),
+    (None, "", "set of int: s = {1", MOST, "}; solve satisfy;"),
+    (None, "", "var {1", MOST, "}: x; solve satisfy;"),
+    (
+        None,
+        "",
+        "array [1..65536] of int: a = [1",
+        MOST,
         "]; solve satisfy;",
     ),
-    too_long(3, "int: s = 1; ", "set of int: s = {1", "}; solve satisfy;"),
-    too_long(4, "", "constraint int_le(q, {1", "}); solve satisfy;"),
-    too_long(5, "", "constraint int_pow(1, {1", "}); solve satisfy;"),
-    too_long(6, "", "constraint int_le(1, {1", "}); solve satisfy;"),
-    too_long(7, "", "var set of {1", "}: s; solve satisfy;"),
-    too_long(
-        8,
+    (
+        Some(9),
         "",
-        "set of int: s = {140737488355328",
+        "array [1..65537] of int: a = [1",
+        ONE_MORE,
+        "]; solve satisfy;",
+    ),
+    (
+        Some(3),
+        "int: s = 1; ",
+        "set of int: s = {1",
+        ONE_MORE,
         "}; solve satisfy;",
     ),
-    too_long(9, "solve satisfy; ", "set of int: s = {1", "};"),
-    too_long(9, "", "var {1", "}: x; solve satisfy;"),
-    too_long(9, "", "array [1..0] of var {1", "}: a = []; solve satisfy;"),
+    (
+        Some(4),
+        "",
+        "constraint int_le(q, {1",
+        ONE_MORE,
+        "}); solve satisfy;",
+    ),
+    (
+        Some(5),
+        "",
+        "constraint int_pow(1, {1",
+        ONE_MORE,
+        "}); solve satisfy;",
+    ),
+    (
+        Some(6),
+        "",
+        "constraint int_le(1, {1",
+        ONE_MORE,
+        "}); solve satisfy;",
+    ),
+    (
+        Some(7),
+        "",
+        "var set of {1",
+        ONE_MORE,
+        "}: s; solve satisfy;",
+    ),
+    (
+        Some(8),
+        "",
+        "set of int: s = {140737488355328",
+        ONE_MORE,
+        "}; solve satisfy;",
+    ),
+    (
+        Some(9),
+        "solve satisfy; ",
+        "set of int: s = {1",
+        ONE_MORE,
+        "};",
+    ),
+    (Some(9), "", "var {1", ONE_MORE, "}: x; solve satisfy;"),
+    (
+        Some(9),
+        "",
+        "array [1..0] of var {1",
+        ONE_MORE,
+        "}: a = []; solve satisfy;",
+    ),
 ];
 
-/// The item of a case, with what stands behind it.
-fn item_of(alloc: Global, case: &Case) -> Result<String, AllocError> {
-    let mut text = String::from_str(alloc, case.item)?;
-    for _ in 0..case.times {
-        text.push_str(case.word)?;
+/// The item in which a word stands so many times.
+fn item_of(
+    alloc: Global,
+    item: &str,
+    word: (&str, usize),
+    rest: &str,
+) -> Result<String, AllocError> {
+    let mut text = String::from_str(alloc, item)?;
+    for _ in 0..word.1 {
+        text.push_str(word.0)?;
     }
-    text.push_str(case.rest)?;
+    text.push_str(rest)?;
     Ok(text)
+}
+
+/// The kind of the fault of an item behind a front, where it stands at the item, or none.
+fn kind_of(alloc: Global, front: &str, item: &str) -> Result<Option<u8>, AllocError> {
+    match fault_of(alloc, front, item)? {
+        Some((kind, at)) if at == front.len() => Ok(Some(kind)),
+        Some(_) => Err(AllocError),
+        None => Ok(None),
+    }
 }
 
 #[test]
 fn lists_have_65536_entries_and_no_more(rt: HostRuntime) -> Result<(), Fail> {
-    for case in CASES {
-        let item = item_of(rt.alloc(), case)?;
-        let fault = fault_of(rt.alloc(), case.front, item.as_str())?;
-        let expected = case.kind.map(|kind| (kind, case.front.len()));
-        assert_eq!(rt; fault, expected, "at {}{}", case.front, case.item);
+    for (kind, front, item, word, rest) in CASES {
+        let text = item_of(rt.alloc(), item, *word, rest)?;
+        let found = kind_of(rt.alloc(), front, text.as_str())?;
+        assert_eq!(rt; found, *kind, "at {front}{item}");
     }
     Ok(())
 }

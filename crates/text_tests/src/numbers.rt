@@ -54,25 +54,68 @@ fn an_interval_is_one_range_or_none(rt: HostRuntime) -> Result<(), Fail> {
     Ok(())
 }
 
-/// The constants that are there once these were added in turn.
-fn constants_of(alloc: Global, numbers: &[i64]) -> Result<Constants, AllocError> {
-    let mut found = Constants::new(alloc);
+/// Numbers that are added in turn, how many constants are kept then, and what is added to these. What is there at the
+/// end, and the places of two numbers.
+struct Added {
+    first: &'static [i64],
+    kept: usize,
+    more: &'static [i64],
+    all: &'static [i64],
+    asked: (i64, i64),
+    places: (usize, usize),
+}
+
+const ADDED: &[Added] = &[
+    Added {
+        first: &[7, -3, 7, 0, -3],
+        kept: 3,
+        more: &[],
+        all: &[7, -3, 0],
+        asked: (0, 5),
+        places: (2, 3),
+    },
+    Added {
+        first: &[7, -3, 7, 0, -3],
+        kept: 1,
+        more: &[],
+        all: &[7],
+        asked: (7, 0),
+        places: (0, 1),
+    },
+    Added {
+        first: &[7, -3, 7, 0, -3],
+        kept: 1,
+        more: &[5, 0],
+        all: &[7, 5, 0],
+        asked: (5, 0),
+        places: (1, 2),
+    },
+];
+
+/// Adds numbers in turn.
+fn add_all(found: &mut Constants, numbers: &[i64]) -> Result<(), AllocError> {
     for number in numbers {
         found.add(*number)?;
     }
+    Ok(())
+}
+
+/// The constants that are there at the end.
+fn constants_of(alloc: Global, added: &Added) -> Result<Constants, AllocError> {
+    let mut found = Constants::new(alloc);
+    add_all(&mut found, added.first)?;
+    found.truncate(added.kept);
+    add_all(&mut found, added.more)?;
     Ok(found)
 }
 
 #[test]
 fn constants_are_found_by_their_value(rt: HostRuntime) -> Result<(), Fail> {
-    let mut found = constants_of(rt.alloc(), &[7, -3, 7, 0, -3])?;
-    assert_eq!(rt; found.as_slice(), [7, -3, 0].as_slice());
-    assert_eq!(rt; (found.place_of(0), found.place_of(5)), (2, 3));
-    found.truncate(1);
-    assert_eq!(rt; (found.place_of(7), found.place_of(0)), (0, 1));
-    for number in [5, 0] {
-        found.add(number)?;
+    for added in ADDED {
+        let found = constants_of(rt.alloc(), added)?;
+        assert_eq!(rt; found.as_slice(), added.all);
+        let places = (found.place_of(added.asked.0), found.place_of(added.asked.1));
+        assert_eq!(rt; places, added.places);
     }
-    assert_eq!(rt; (found.place_of(5), found.place_of(0)), (1, 2));
     Ok(())
 }

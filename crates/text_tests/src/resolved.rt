@@ -9,8 +9,13 @@ use std::alloc::{AllocError, Global};
 
 /// The items of a text that has some.
 fn items_of(alloc: Global, text: &[u8]) -> Result<Vec<Item>, AllocError> {
-    let tokens = lex(alloc, text).or(Err(AllocError))?;
-    parse(alloc, text, tokens.as_slice()).or(Err(AllocError))
+    let Ok(tokens) = lex(alloc, text) else {
+        return Err(AllocError);
+    };
+    match parse(alloc, text, tokens.as_slice()) {
+        Ok(items) => Ok(items),
+        Err(_) => Err(AllocError),
+    }
 }
 
 /// The model of a text, or the kind and the place of its first fault.

@@ -9,7 +9,11 @@ fn is_for_threads<T: Send + Sync>(_value: &T) {}
 
 /// The numbers below `count`.
 fn numbers(alloc: Global, count: u32) -> Result<Vec<u32>, AllocError> {
-    (0..count).collect(alloc)
+    let mut numbers = Vec::new(alloc);
+    for number in 0..count {
+        numbers.push(number)?;
+    }
+    Ok(numbers)
 }
 
 /// A list with the mark 7.

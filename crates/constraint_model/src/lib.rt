@@ -10,8 +10,6 @@ pub mod model;
 mod numbers;
 mod ranges;
 pub mod table;
-#[cfg(test)]
-mod tests;
 
 pub use constant_set::Constants;
 pub use entries::Entries;

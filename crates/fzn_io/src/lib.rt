@@ -12,8 +12,6 @@ mod named;
 mod sink;
 mod source;
 mod system;
-#[cfg(test)]
-mod tests;
 mod whole;
 
 pub use honest::{HonestSink, HonestSource};

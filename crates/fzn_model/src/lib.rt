@@ -9,25 +9,17 @@ mod effect;
 mod exprs;
 pub mod fault_kinds;
 mod limits;
-#[cfg(test)]
-mod literal_tests;
 mod literals;
-#[cfg(test)]
-mod model_tests;
 mod name_hash;
 mod names;
 mod numbers;
 mod outputs;
 mod reads;
-#[cfg(test)]
-mod resolve_tests;
 mod resolving;
 mod scalars;
 mod scope;
 mod searches;
 mod stop;
-#[cfg(test)]
-mod tests;
 mod types;
 
 pub use constraint_model::{

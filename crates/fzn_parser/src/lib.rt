@@ -5,8 +5,6 @@ mod cursor;
 mod items;
 pub mod laws;
 mod notes;
-#[cfg(test)]
-mod tests;
 mod texts;
 pub mod tree;
 mod values;

@@ -4,8 +4,6 @@
 mod arrays;
 mod marks;
 mod solutions;
-#[cfg(test)]
-mod tests;
 mod values;
 
 pub use marks::{Mark, mark_text};

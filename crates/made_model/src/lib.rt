@@ -3,8 +3,6 @@
 
 mod draws;
 mod summary;
-#[cfg(test)]
-mod tests;
 mod text;
 
 pub use summary::made_summary;

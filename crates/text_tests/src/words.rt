@@ -1,6 +1,6 @@
 //! The words that are taken, and what they ask for.
 
-use crate::{Config, Input, Options, WordsError, read_words};
+use command_line::{Config, Input, Options, WordsError, read_words};
 use std::alloc::{AllocError, Global};
 use std::test::Fail;
 

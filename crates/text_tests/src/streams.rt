@@ -2,9 +2,13 @@
 
 ghost use Rattle.std.specs.Prelude.{◌≡◌, ◌≢◌, ℕ, List, codes, IfOk};
 ghost use Rattle.fzn_io.specs.Faults.{CountRose};
+ghost use Rattle.fzn_io.specs.Memory.{name_of};
 ghost use Rattle.fzn_io.specs.Streams.{Adds, AddsFront, IsNextName, IsHeld, IsLonger};
 
-use super::*;
+use fzn_io::{
+    FileSource, HonestSink, HonestSource, MemSink, MemSource, Named, ReadError, Sink, Source,
+    StdSink, WriteFault, read_named, write_all,
+};
 use std::alloc::{AllocError, Global};
 use std::fs;
 use std::test::Fail;
@@ -54,6 +58,18 @@ fn pass_on<S: Source, K: Sink, E: Sink>(
     }
 }
 
+/// The name `m` with its bytes.
+fn named(alloc: Global, bytes: Option<&[u8]>) -> Result<Named, AllocError>
+    ensures { IfOk result (λ n. name_of n ≡ codes "m") }
+{
+    let bytes = match bytes {
+        Some(bytes) => Some(Vec::from_slice(alloc, bytes)?),
+        None => None,
+    };
+    let name = String::from_str(alloc, "m")?;
+    Ok(Named { name, bytes })
+}
+
 /// A source of one name, `m`, whose call number `failing` fails.
 fn source_of(
     alloc: Global,
@@ -63,14 +79,10 @@ fn source_of(
 ) -> Result<MemSource, AllocError>
     ensures { IfOk result (λ s. IsNextName (⟦<MemSource as Source>⟧.names s) (codes "m")) }
 {
-    let name = String::from_str(alloc, "m")?;
-    let bytes = match bytes {
-        Some(bytes) => Some(Vec::from_slice(alloc, bytes)?),
-        None => None,
-    };
+    let failing = Vec::from_slice(alloc, &[failing])?;
     let mut names = Vec::new(alloc);
-    names.push(Named { name, bytes })?;
-    Ok(MemSource::new(names, chunk, Vec::from_slice(alloc, &[failing])?))
+    names.push(named(alloc, bytes)?)?;
+    Ok(MemSource::new(names, chunk, failing))
 }
 
 /// The status of passing `m` on, and how many bytes came out.
@@ -114,38 +126,48 @@ fn a_text_is_read_in_pieces_or_refused(rt: HostRuntime) -> Result<(), Fail> {
     Ok(())
 }
 
+/// What was written to a sink whose call number `failing` fails: whether it is this front of the text, the sink's
+/// faults, and whether it was refused.
+fn written(
+    alloc: Global,
+    chunk: usize,
+    failing: u64,
+    front: &[u8],
+) -> Result<(bool, u64, bool), AllocError> {
+    let mut out = MemSink::new(alloc, chunk, Vec::from_slice(alloc, &[failing])?);
+    let refused = write_all(&mut out, TEXT).is_err();
+    Ok((out.bytes() == front, out.faults(), refused))
+}
+
 #[test]
 fn a_front_is_written_where_a_call_fails(rt: HostRuntime) -> Result<(), Fail> {
-    let alloc = rt.alloc();
-    let table = [
-        (4, 2, 4, 1),
-        (4, 0, 7, 0),
-        (1, 1, 0, 1),
-        (3, 3, 6, 1),
-        (0, 0, 0, 1),
-    ];
-    for (chunk, failing, count, faults) in table {
-        let mut out = MemSink::new(alloc, chunk, Vec::from_slice(alloc, &[failing])?);
-        let refused = write_all(&mut out, TEXT).is_err();
-        assert_eq!(rt; out.bytes(), &TEXT[..count]);
-        assert_eq!(rt; out.faults(), faults);
-        assert_eq!(rt; refused, faults == 1);
+    for (chunk, failing, front, faults) in [
+        (4, 2, "abcd", 1),
+        (4, 0, "abcdefg", 0),
+        (1, 1, "", 1),
+        (3, 3, "abcdef", 1),
+        (0, 0, "", 1),
+    ] {
+        let got = written(rt.alloc(), chunk, failing, front.as_bytes())?;
+        assert_eq!(rt; got, (true, faults, faults == 1), "chunk {chunk}");
     }
     Ok(())
 }
 
-#[test]
-fn honest_ones_pass_all_on(rt: HostRuntime) -> Result<(), Fail> {
-    let alloc = rt.alloc();
+/// Whether honest ones write the text where it is passed on, and the line where it is too long.
+fn pass_all_on(alloc: Global) -> Result<bool, AllocError> {
     let mut files = HonestSource::new(Vec::from_slice(alloc, TEXT)?);
     let mut out = HonestSink::new(alloc);
     let mut err = HonestSink::new(alloc);
     for limit in [7, 6] {
         let _ = pass_on(alloc, &mut files, "any", limit, &mut out, &mut err, b"long");
     }
-    assert!(rt; out.tells_all());
-    assert_eq!(rt; out.bytes(), Some(TEXT));
-    assert_eq!(rt; err.bytes(), Some(b"long".as_slice()));
+    Ok(out.tells_all() && out.bytes() == Some(TEXT) && err.bytes() == Some(b"long".as_slice()))
+}
+
+#[test]
+fn honest_ones_pass_all_on(rt: HostRuntime) -> Result<(), Fail> {
+    assert!(rt; pass_all_on(rt.alloc())?);
     Ok(())
 }
 

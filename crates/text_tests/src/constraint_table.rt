@@ -1,0 +1,242 @@
+//! The table of constraints: spellings, what each takes, and what it counts for.
+
+use constraint_model::{
+    Constants, Constraint, ConstraintName, Entries, Meaning, Operand, Scalar, Term, add_constants,
+    fits_some_row, kernel_count,
+};
+use list_of::ListOf;
+use shared_list::SharedList;
+use std::alloc::{AllocError, Global};
+use std::test::Fail;
+
+/// Every name with its spelling, and words that are none.
+const NAMES: &[(Option<ConstraintName>, &str)] = &[
+    (Some(ConstraintName::IntEq), "int_eq"),
+    (Some(ConstraintName::IntNe), "int_ne"),
+    (Some(ConstraintName::IntLe), "int_le"),
+    (Some(ConstraintName::IntLt), "int_lt"),
+    (Some(ConstraintName::IntLinEq), "int_lin_eq"),
+    (Some(ConstraintName::IntLinNe), "int_lin_ne"),
+    (Some(ConstraintName::IntLinLe), "int_lin_le"),
+    (Some(ConstraintName::IntEqReif), "int_eq_reif"),
+    (Some(ConstraintName::IntNeReif), "int_ne_reif"),
+    (Some(ConstraintName::IntLeReif), "int_le_reif"),
+    (Some(ConstraintName::IntLtReif), "int_lt_reif"),
+    (Some(ConstraintName::IntLinEqReif), "int_lin_eq_reif"),
+    (Some(ConstraintName::IntLinNeReif), "int_lin_ne_reif"),
+    (Some(ConstraintName::IntLinLeReif), "int_lin_le_reif"),
+    (Some(ConstraintName::IntPlus), "int_plus"),
+    (Some(ConstraintName::IntTimes), "int_times"),
+    (Some(ConstraintName::IntDiv), "int_div"),
+    (Some(ConstraintName::IntMod), "int_mod"),
+    (Some(ConstraintName::IntAbs), "int_abs"),
+    (Some(ConstraintName::IntMax), "int_max"),
+    (Some(ConstraintName::IntMin), "int_min"),
+    (Some(ConstraintName::ArrayIntMaximum), "array_int_maximum"),
+    (Some(ConstraintName::ArrayIntMinimum), "array_int_minimum"),
+    (Some(ConstraintName::ArrayIntElement), "array_int_element"),
+    (
+        Some(ConstraintName::ArrayVarIntElement),
+        "array_var_int_element",
+    ),
+    (Some(ConstraintName::ArrayBoolElement), "array_bool_element"),
+    (
+        Some(ConstraintName::ArrayVarBoolElement),
+        "array_var_bool_element",
+    ),
+    (Some(ConstraintName::SetIn), "set_in"),
+    (Some(ConstraintName::SetInReif), "set_in_reif"),
+    (Some(ConstraintName::BoolToInt), "bool2int"),
+    (Some(ConstraintName::BoolEq), "bool_eq"),
+    (Some(ConstraintName::BoolLe), "bool_le"),
+    (Some(ConstraintName::BoolLt), "bool_lt"),
+    (Some(ConstraintName::BoolEqReif), "bool_eq_reif"),
+    (Some(ConstraintName::BoolLeReif), "bool_le_reif"),
+    (Some(ConstraintName::BoolLtReif), "bool_lt_reif"),
+    (Some(ConstraintName::BoolNot), "bool_not"),
+    (Some(ConstraintName::BoolXor), "bool_xor"),
+    (Some(ConstraintName::BoolAnd), "bool_and"),
+    (Some(ConstraintName::BoolOr), "bool_or"),
+    (Some(ConstraintName::ArrayBoolAnd), "array_bool_and"),
+    (Some(ConstraintName::ArrayBoolOr), "array_bool_or"),
+    (Some(ConstraintName::BoolClause), "bool_clause"),
+    (Some(ConstraintName::BoolClauseReif), "bool_clause_reif"),
+    (Some(ConstraintName::BoolLinLe), "bool_lin_le"),
+    (Some(ConstraintName::BoolLinEq), "bool_lin_eq"),
+    (None, "int_negate"),
+    (None, "int_e"),
+    (None, ""),
+];
+
+#[test]
+fn each_name_is_found_by_its_spelling(rt: HostRuntime) -> Result<(), Fail> {
+    for (name, spelling) in NAMES {
+        assert_eq!(rt; ConstraintName::named(spelling.as_bytes()), *name);
+    }
+    Ok(())
+}
+
+/// A boolean variable.
+const FLAG: Scalar = Scalar {
+    is_bool: true,
+    term: Term::Var(0),
+};
+
+/// An integer variable.
+const NUMBER: Scalar = Scalar {
+    is_bool: false,
+    term: Term::Var(1),
+};
+
+/// A number.
+const TWO: Scalar = Scalar {
+    is_bool: false,
+    term: Term::Number(2),
+};
+
+/// An argument: a boolean or an integer, or an array of these.
+enum Argument {
+    One(Scalar),
+    Row(&'static [Scalar]),
+}
+
+/// A name with arguments, and whether it takes them.
+struct Case {
+    name: ConstraintName,
+    arguments: &'static [Argument],
+    fits: bool,
+}
+
+const CASES: &[Case] = &[
+    Case {
+        name: ConstraintName::BoolXor,
+        arguments: &[Argument::One(FLAG), Argument::One(FLAG)],
+        fits: true,
+    },
+    Case {
+        name: ConstraintName::BoolXor,
+        arguments: &[
+            Argument::One(FLAG),
+            Argument::One(FLAG),
+            Argument::One(FLAG),
+        ],
+        fits: true,
+    },
+    Case {
+        name: ConstraintName::BoolXor,
+        arguments: &[Argument::One(FLAG)],
+        fits: false,
+    },
+    Case {
+        name: ConstraintName::BoolXor,
+        arguments: &[Argument::One(FLAG), Argument::One(NUMBER)],
+        fits: false,
+    },
+    // lists of one length
+    Case {
+        name: ConstraintName::IntLinLe,
+        arguments: &[
+            Argument::Row(&[TWO, TWO]),
+            Argument::Row(&[NUMBER, TWO]),
+            Argument::One(TWO),
+        ],
+        fits: true,
+    },
+    Case {
+        name: ConstraintName::IntLinLe,
+        arguments: &[
+            Argument::Row(&[TWO, TWO]),
+            Argument::Row(&[NUMBER]),
+            Argument::One(TWO),
+        ],
+        fits: false,
+    },
+    // a coefficient is no variable
+    Case {
+        name: ConstraintName::IntLinLe,
+        arguments: &[
+            Argument::Row(&[NUMBER]),
+            Argument::Row(&[NUMBER]),
+            Argument::One(TWO),
+        ],
+        fits: false,
+    },
+    Case {
+        name: ConstraintName::IntLinLe,
+        arguments: &[Argument::Row(&[]), Argument::Row(&[]), Argument::One(TWO)],
+        fits: true,
+    },
+];
+
+/// The entries of an array.
+fn array(alloc: Global, entries: &[Scalar]) -> Result<Entries, AllocError> {
+    Entries::new(alloc, Vec::from_slice(alloc, entries)?, 0)
+}
+
+/// What an argument stands for.
+fn meaning(alloc: Global, argument: &Argument) -> Result<Meaning, AllocError> {
+    match argument {
+        Argument::One(scalar) => Ok(Meaning::One(*scalar)),
+        Argument::Row(entries) => Ok(Meaning::Row(array(alloc, entries)?)),
+    }
+}
+
+/// What arguments stand for.
+fn meanings(alloc: Global, arguments: &[Argument]) -> Result<Vec<Meaning>, AllocError> {
+    let mut meanings = Vec::new(alloc);
+    for argument in arguments {
+        meanings.push(meaning(alloc, argument)?)?;
+    }
+    Ok(meanings)
+}
+
+/// Whether a name takes these arguments.
+fn takes(alloc: Global, name: ConstraintName, arguments: &[Argument]) -> Result<bool, AllocError> {
+    let meanings = meanings(alloc, arguments)?;
+    Ok(fits_some_row(name, meanings.as_slice()))
+}
+
+#[test]
+fn arguments_fit_or_do_not(rt: HostRuntime) -> Result<(), Fail> {
+    for case in CASES {
+        let fits = takes(rt.alloc(), case.name, case.arguments)?;
+        assert_eq!(rt; fits, case.fits, "at {}", case.name.text());
+    }
+    Ok(())
+}
+
+/// The entries of a row.
+fn row(alloc: Global, terms: &[Term]) -> Result<Operand, AllocError> {
+    let terms = SharedList::from_vec(Vec::from_slice(alloc, terms)?)?;
+    Ok(Operand::Row(terms))
+}
+
+/// A list of a row and a term.
+fn row_and_term(alloc: Global, terms: &[Term], term: Term) -> Result<ListOf<Operand>, AllocError> {
+    let row = row(alloc, terms)?;
+    Ok(ListOf::from_vec(vec![in alloc; row, Operand::One(term)]?))
+}
+
+/// The disjunction of a row of 0, a variable, 1 and 0, that is as 5 says.
+fn disjunction(alloc: Global) -> Result<Constraint, AllocError> {
+    let row = [
+        Term::Number(0),
+        Term::Var(3),
+        Term::Number(1),
+        Term::Number(0),
+    ];
+    Ok(Constraint {
+        name: ConstraintName::ArrayBoolOr,
+        operands: row_and_term(alloc, &row, Term::Number(5))?,
+    })
+}
+
+#[test]
+fn constraints_count_for_kernels_and_constants(rt: HostRuntime) -> Result<(), Fail> {
+    let constraint = disjunction(rt.alloc())?;
+    assert_eq!(rt; kernel_count(&constraint), 5);
+    let mut found = Constants::new(rt.alloc());
+    add_constants(&mut found, &constraint)?;
+    assert_eq!(rt; found.as_slice(), [0, 5].as_slice());
+    Ok(())
+}

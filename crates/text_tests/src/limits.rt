@@ -1,0 +1,225 @@
+//! Texts at each limit, and one past it.
+
+use crate::resolved::fault_of;
+use std::alloc::{AllocError, Global};
+use std::test::Fail;
+
+/// A text in which a word stands many times, between what stands before it in its item and what stands behind it. The
+/// item has a fault of this kind, or none.
+type Case = (
+    Option<u8>,
+    &'static str,
+    &'static str,
+    (&'static str, usize),
+    &'static str,
+);
+
+/// So many further entries may a list have.
+const MOST: (&str, usize) = (",1", 65_535);
+
+/// One more than that.
+const ONE_MORE: (&str, usize) = (",1", 65_536);
+
+const CASES: &[Case] = &[
+    (
+        Some(8),
+        "",
+        "var 0..",
+        ("9", 100_000),
+        ": x; solve satisfy;",
+    ),
+    (None, "", "set of int: s = {1", MOST, "}; solve satisfy;"),
+    (None, "", "var {1", MOST, "}: x; solve satisfy;"),
+    (
+        None,
+        "",
+        "array [1..65536] of int: a = [1",
+        MOST,
+        "]; solve satisfy;",
+    ),
+    (
+        Some(9),
+        "",
+        "array [1..65537] of int: a = [1",
+        ONE_MORE,
+        "]; solve satisfy;",
+    ),
+    (
+        Some(3),
+        "int: s = 1; ",
+        "set of int: s = {1",
+        ONE_MORE,
+        "}; solve satisfy;",
+    ),
+    (
+        Some(4),
+        "",
+        "constraint int_le(q, {1",
+        ONE_MORE,
+        "}); solve satisfy;",
+    ),
+    (
+        Some(5),
+        "",
+        "constraint int_pow(1, {1",
+        ONE_MORE,
+        "}); solve satisfy;",
+    ),
+    (
+        Some(6),
+        "",
+        "constraint int_le(1, {1",
+        ONE_MORE,
+        "}); solve satisfy;",
+    ),
+    (
+        Some(7),
+        "",
+        "var set of {1",
+        ONE_MORE,
+        "}: s; solve satisfy;",
+    ),
+    (
+        Some(8),
+        "",
+        "set of int: s = {140737488355328",
+        ONE_MORE,
+        "}; solve satisfy;",
+    ),
+    (
+        Some(9),
+        "solve satisfy; ",
+        "set of int: s = {1",
+        ONE_MORE,
+        "};",
+    ),
+    (Some(9), "", "var {1", ONE_MORE, "}: x; solve satisfy;"),
+    (
+        Some(9),
+        "",
+        "array [1..0] of var {1",
+        ONE_MORE,
+        "}: a = []; solve satisfy;",
+    ),
+];
+
+/// The item in which a word stands so many times.
+fn item_of(
+    alloc: Global,
+    item: &str,
+    word: (&str, usize),
+    rest: &str,
+) -> Result<String, AllocError> {
+    let mut text = String::from_str(alloc, item)?;
+    for _ in 0..word.1 {
+        text.push_str(word.0)?;
+    }
+    text.push_str(rest)?;
+    Ok(text)
+}
+
+/// The kind of the fault of an item behind a front, where it stands at the item, or none.
+fn kind_of(alloc: Global, front: &str, item: &str) -> Result<Option<u8>, AllocError> {
+    match fault_of(alloc, front, item)? {
+        Some((kind, at)) if at == front.len() => Ok(Some(kind)),
+        Some(_) => Err(AllocError),
+        None => Ok(None),
+    }
+}
+
+#[test]
+fn lists_have_65536_entries_and_no_more(rt: HostRuntime) -> Result<(), Fail> {
+    for (kind, front, item, word, rest) in CASES {
+        let text = item_of(rt.alloc(), item, *word, rest)?;
+        let found = kind_of(rt.alloc(), front, text.as_str())?;
+        assert_eq!(rt; found, *kind, "at {front}{item}");
+    }
+    Ok(())
+}
+
+/// 65536 declarations, a line each.
+fn declarations(alloc: Global) -> Result<String, AllocError> {
+    let mut text = String::new(alloc);
+    for number in 0..65_536u32 {
+        write!(text, "var 1..1: b{number};\n")?;
+    }
+    Ok(text)
+}
+
+/// Two lines with element constraints that name the numbers from 2 to 131073.
+fn element_lines(alloc: Global) -> Result<String, AllocError> {
+    let mut text = String::new(alloc);
+    for (first, last) in [(2u32, 65_537u32), (65_538, 131_073)] {
+        text.push_str("constraint array_int_element(1,[")?;
+        for number in first..last {
+            write!(text, "{number},")?;
+        }
+        write!(text, "{last}],{last});\n")?;
+    }
+    Ok(text)
+}
+
+/// An array of 65535 booleans, and 16 lines each of which is run as 65536 propagators.
+fn conjunctions(alloc: Global) -> Result<String, AllocError> {
+    let mut text = String::from_str(alloc, "var bool: b;\narray [1..65535] of var bool: a = [b")?;
+    for _ in 1..65_535 {
+        text.push_str(",b")?;
+    }
+    text.push_str("];\n")?;
+    for _ in 0..16 {
+        text.push_str("constraint array_bool_and(a,b);\n")?;
+    }
+    Ok(text)
+}
+
+/// What a text has as much of as it may have.
+#[derive(Clone, Copy, Debug)]
+enum Full {
+    /// 65536 variables.
+    Variables,
+    /// 131072 constants.
+    Constants,
+    /// 1048576 propagators.
+    Propagators,
+}
+
+/// A text of this kind, without its end.
+fn full(alloc: Global, kind: Full) -> Result<String, AllocError> {
+    match kind {
+        Full::Variables => declarations(alloc),
+        Full::Constants => element_lines(alloc),
+        Full::Propagators => conjunctions(alloc),
+    }
+}
+
+/// The faults of a full text: with no more, and with one item more.
+fn faults_of(
+    alloc: Global,
+    front: &str,
+    more: &str,
+) -> Result<[Option<(u8, usize)>; 2], AllocError> {
+    Ok([
+        fault_of(alloc, front, "solve satisfy;")?,
+        fault_of(alloc, front, more)?,
+    ])
+}
+
+#[test]
+fn with_one_item_more_a_limit_is_passed(rt: HostRuntime) -> Result<(), Fail> {
+    for (kind, more) in [
+        (Full::Variables, "var 1..1: b; solve satisfy;"),
+        (
+            Full::Constants,
+            "constraint int_le(1,131074); solve satisfy;",
+        ),
+        (
+            Full::Propagators,
+            "constraint array_bool_and(a,b); solve satisfy;",
+        ),
+    ] {
+        let front = full(rt.alloc(), kind)?;
+        let faults = faults_of(rt.alloc(), front.as_str(), more)?;
+        assert_eq!(rt; faults, [None, Some((9, front.len()))], "at {kind:?}");
+    }
+    Ok(())
+}

@@ -3,12 +3,9 @@
 ghost use Rattle.std.specs.Prelude.{◌<◌};
 ghost use Rattle.guarded_tell.specs.Kernels.{IsKernel};
 
-use crate::four_variables::{PAST, Pairs, Told, bounds_after, expect_bounds, expect_tells};
+use crate::four_variables::{PAST, Pairs, Told, expect_bounds, expect_tells, narrows_nothing};
 use guarded_tell::Kernel;
 use guarded_tell::Side::{High, Low};
-use interval::NoMemory;
-use std::alloc::Global;
-use std::process::Abort;
 use std::test::Fail;
 
 /// Variable 2 is the product of variables 0 and 1.
@@ -51,7 +48,7 @@ static PRODUCT_TELLS: [(Pairs, &[Told]); 3] = [
 
 #[test]
 fn the_product_gives_its_tells_in_order(rt: HostRuntime) -> Result<(), Fail> {
-    expect_tells(&rt, rt.alloc(), &product(), &PRODUCT_TELLS)?;
+    expect_tells(&rt, rt.alloc(), product(), &PRODUCT_TELLS)?;
     Ok(())
 }
 
@@ -85,7 +82,7 @@ static PRODUCT_BOUNDS: [(&Pairs, &Pairs); 6] = [
 
 #[test]
 fn the_product_tells_what_is_worked_out_by_hand(rt: HostRuntime) -> Result<(), Fail> {
-    expect_bounds(&rt, rt.alloc(), &product(), &PRODUCT_BOUNDS)?;
+    expect_bounds(&rt, rt.alloc(), product(), &PRODUCT_BOUNDS)?;
     Ok(())
 }
 
@@ -131,16 +128,11 @@ fn box_at(number: usize) -> Pairs
     [x, y, z, (0, 0)]
 }
 
-/// Whether no tell of the product narrows the box of these bounds.
-fn is_product_quiet(rt: &impl Abort, alloc: Global, pairs: &Pairs) -> Result<bool, NoMemory> {
-    Ok(bounds_after(rt, alloc, &product(), pairs)? == *pairs)
-}
-
 #[test]
 fn the_product_narrows_nothing_on_some_of_all_small_boxes(rt: HostRuntime) -> Result<(), Fail> {
     let mut quiet = 0u32;
     for number in 0..1573 {
-        if is_product_quiet(&rt, rt.alloc(), &box_at(number))? {
+        if narrows_nothing(&rt, rt.alloc(), product(), &box_at(number))? {
             quiet = quiet.saturating_add(1);
         }
     }
@@ -168,7 +160,10 @@ static QUIET_AT_ENDS: [(&Pairs, bool); 9] = [
 #[test]
 fn the_product_narrows_nothing_on_some_boxes_at_both_ends(rt: HostRuntime) -> Result<(), Fail> {
     for (pairs, is_quiet) in &QUIET_AT_ENDS {
-        assert_eq!(rt; is_product_quiet(&rt, rt.alloc(), pairs)?, *is_quiet);
+        assert_eq!(rt;
+            narrows_nothing(&rt, rt.alloc(), product(), pairs)?,
+            *is_quiet
+        );
     }
     Ok(())
 }
@@ -200,7 +195,7 @@ static ABSOLUTE_TELLS: [(Pairs, &[Told]); 2] = [
 
 #[test]
 fn the_absolute_value_gives_its_tells_in_order(rt: HostRuntime) -> Result<(), Fail> {
-    expect_tells(&rt, rt.alloc(), &absolute_value(), &ABSOLUTE_TELLS)?;
+    expect_tells(&rt, rt.alloc(), absolute_value(), &ABSOLUTE_TELLS)?;
     Ok(())
 }
 
@@ -234,6 +229,6 @@ static ABSOLUTE_BOUNDS: [(&Pairs, &Pairs); 6] = [
 
 #[test]
 fn the_absolute_value_tells_what_is_worked_out_by_hand(rt: HostRuntime) -> Result<(), Fail> {
-    expect_bounds(&rt, rt.alloc(), &absolute_value(), &ABSOLUTE_BOUNDS)?;
+    expect_bounds(&rt, rt.alloc(), absolute_value(), &ABSOLUTE_BOUNDS)?;
     Ok(())
 }

@@ -141,7 +141,7 @@ static QUOTIENT_TELLS: [(Pairs, &[Told]); 11] = [
 
 #[test]
 fn the_division_gives_its_tells_in_order(rt: HostRuntime) -> Result<(), Fail> {
-    expect_tells(&rt, rt.alloc(), &quotient(0, 1, 2), &QUOTIENT_TELLS)?;
+    expect_tells(&rt, rt.alloc(), quotient(0, 1, 2), &QUOTIENT_TELLS)?;
     Ok(())
 }
 
@@ -202,7 +202,7 @@ static REMAINDER_TELLS: [(Pairs, &[Told]); 11] = [
 
 #[test]
 fn the_remainder_gives_its_tells_in_order(rt: HostRuntime) -> Result<(), Fail> {
-    expect_tells(&rt, rt.alloc(), &remainder(0, 1, 2), &REMAINDER_TELLS)?;
+    expect_tells(&rt, rt.alloc(), remainder(0, 1, 2), &REMAINDER_TELLS)?;
     Ok(())
 }
 
@@ -224,7 +224,7 @@ static REMAINDER_BY_ITSELF: [(Pairs, &[Told]); 3] = [
 
 #[test]
 fn a_variable_may_be_all_of_a_remainder(rt: HostRuntime) -> Result<(), Fail> {
-    expect_tells(&rt, rt.alloc(), &remainder(0, 0, 0), &REMAINDER_BY_ITSELF)?;
+    expect_tells(&rt, rt.alloc(), remainder(0, 0, 0), &REMAINDER_BY_ITSELF)?;
     Ok(())
 }
 
@@ -243,6 +243,6 @@ static QUOTIENT_BY_ITSELF: [(Pairs, &[Told]); 1] = [(
 
 #[test]
 fn a_variable_may_be_divided_by_itself(rt: HostRuntime) -> Result<(), Fail> {
-    expect_tells(&rt, rt.alloc(), &quotient(0, 0, 1), &QUOTIENT_BY_ITSELF)?;
+    expect_tells(&rt, rt.alloc(), quotient(0, 0, 1), &QUOTIENT_BY_ITSELF)?;
     Ok(())
 }

@@ -129,12 +129,7 @@ fn narrowing_on(kernel: &Kernel, b: &BoxOf, hint: &mut Hint) -> Heard
 
 /// The tells of the kernel on the box of these bounds, in order. Those that narrow it are given alone too, whatever is
 /// remembered of the visit before.
-pub fn told(
-    rt: &impl Abort,
-    alloc: Global,
-    kernel: &Kernel,
-    pairs: &Pairs,
-) -> Result<Heard, NoMemory>
+fn told(rt: &impl Abort, alloc: Global, kernel: &Kernel, pairs: &Pairs) -> Result<Heard, NoMemory>
     requires { IsKernel 4 kernel.now }
 {
     let b = box_of(rt, alloc, pairs)?;
@@ -149,6 +144,19 @@ pub fn told(
 
 /// The tells of the kernel that narrow the box of these bounds, in order.
 pub fn narrowing_told(
+    rt: &impl Abort,
+    alloc: Global,
+    kernel: Kernel,
+    pairs: &Pairs,
+    hint: &mut Hint,
+) -> Result<Heard, NoMemory>
+    requires { IsKernel 4 kernel }
+{
+    narrowing_by(rt, alloc, &kernel, pairs, hint)
+}
+
+/// The same of a kernel that is lent.
+fn narrowing_by(
     rt: &impl Abort,
     alloc: Global,
     kernel: &Kernel,
@@ -179,8 +187,48 @@ fn narrows(pairs: &Pairs, (var, side, bound): Told) -> bool {
         }
 }
 
-/// Asserts that on each box the kernel gives just these tells, in this order.
+/// Visits the kernel on each box, where what narrows is compared with the tells.
+pub fn tell_on_each(
+    rt: &impl Abort,
+    alloc: Global,
+    kernel: Kernel,
+    boxes: &[Pairs],
+) -> Result<(), NoMemory>
+    requires { IsKernel 4 kernel }
+{
+    visit_each(rt, alloc, &kernel, boxes)
+}
+
+/// Visits the same with a kernel that is lent.
+fn visit_each(
+    rt: &impl Abort,
+    alloc: Global,
+    kernel: &Kernel,
+    boxes: &[Pairs],
+) -> Result<(), NoMemory>
+    requires { IsKernel 4 kernel.now }
+{
+    for pairs in boxes {
+        let _heard = told(rt, alloc, kernel, pairs)?;
+    }
+    Ok(())
+}
+
+/// Asserts that on each box the kernel gives just these tells, in this order. It takes the kernel, so that no test has to
+/// drop one.
 pub fn expect_tells(
+    rt: &impl Abort,
+    alloc: Global,
+    kernel: Kernel,
+    cases: &[(Pairs, &[Told])],
+) -> Result<(), NoMemory>
+    requires { IsKernel 4 kernel }
+{
+    compare_tells(rt, alloc, &kernel, cases)
+}
+
+/// Asserts the same of a kernel that is lent.
+fn compare_tells(
     rt: &impl Abort,
     alloc: Global,
     kernel: &Kernel,
@@ -199,6 +247,18 @@ pub fn expect_tells(
 pub fn expect_bounds(
     rt: &impl Abort,
     alloc: Global,
+    kernel: Kernel,
+    cases: &[(&Pairs, &Pairs)],
+) -> Result<(), NoMemory>
+    requires { IsKernel 4 kernel }
+{
+    compare_bounds(rt, alloc, &kernel, cases)
+}
+
+/// Asserts the same of a kernel that is lent.
+fn compare_bounds(
+    rt: &impl Abort,
+    alloc: Global,
     kernel: &Kernel,
     cases: &[(&Pairs, &Pairs)],
 ) -> Result<(), NoMemory>
@@ -210,8 +270,32 @@ pub fn expect_bounds(
     Ok(())
 }
 
+/// Whether no tell of the kernel narrows the box of these bounds.
+pub fn narrows_nothing(
+    rt: &impl Abort,
+    alloc: Global,
+    kernel: Kernel,
+    pairs: &Pairs,
+) -> Result<bool, NoMemory>
+    requires { IsKernel 4 kernel }
+{
+    keeps_bounds(rt, alloc, &kernel, pairs)
+}
+
+/// The same of a kernel that is lent.
+fn keeps_bounds(
+    rt: &impl Abort,
+    alloc: Global,
+    kernel: &Kernel,
+    pairs: &Pairs,
+) -> Result<bool, NoMemory>
+    requires { IsKernel 4 kernel.now }
+{
+    Ok(bounds_after(rt, alloc, kernel, pairs)? == *pairs)
+}
+
 /// The bounds once the kernel has told.
-pub fn bounds_after(
+fn bounds_after(
     rt: &impl Abort,
     alloc: Global,
     kernel: &Kernel,

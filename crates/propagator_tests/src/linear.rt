@@ -8,7 +8,7 @@ ghost use Rattle.guarded_tell.specs.Linear.{IsLinear};
 ghost use Rattle.guarded_tell.specs.Kernels.{IsKernel};
 
 use crate::four_variables::{
-    LARGEST, PAST, Pairs, Told, expect_bounds, expect_tells, narrowing_told, number, told,
+    LARGEST, PAST, Pairs, Told, expect_bounds, expect_tells, narrowing_told, number, tell_on_each,
 };
 use guarded_tell::Side::{High, Low};
 use guarded_tell::{Hint, Kernel, Lit};
@@ -81,21 +81,6 @@ fn linear(rt: &impl Abort, alloc: Global, sum: &Sum) -> Result<Kernel, AllocErro
     })
 }
 
-/// Visits the kernel on each box, where what narrows is compared with the tells.
-fn told_on_each(
-    rt: &impl Abort,
-    alloc: Global,
-    kernel: &Kernel,
-    boxes: &[Pairs],
-) -> Result<(), NoMemory>
-    requires { IsKernel 4 kernel.now }
-{
-    for pairs in boxes {
-        let _heard = told(rt, alloc, kernel, pairs)?;
-    }
-    Ok(())
-}
-
 /// Boxes round the limits 0 and 1 of a difference, with the literal false, true and open.
 static NEAR: [Pairs; 18] = [
     [(0, 0), (0, 2), (0, 2), (0, 2)],
@@ -139,7 +124,7 @@ static SUMS: [(&[i64], i64); 13] = [
 fn told_of_sums(rt: &impl Abort, alloc: Global, relation: Relation) -> Result<(), NoMemory> {
     for (coeffs, limit) in &SUMS {
         let kernel = linear(rt, alloc, &(relation, true, coeffs, *limit))?;
-        told_on_each(rt, alloc, &kernel, &NEAR)?;
+        tell_on_each(rt, alloc, kernel, &NEAR)?;
     }
     Ok(())
 }
@@ -164,7 +149,7 @@ fn expect_linear_tells(
 ) -> Result<(), NoMemory> {
     for (sum, pairs, tells) in cases {
         let kernel = linear(rt, alloc, sum)?;
-        expect_tells(rt, alloc, &kernel, &[(*pairs, *tells)])?;
+        expect_tells(rt, alloc, kernel, &[(*pairs, *tells)])?;
     }
     Ok(())
 }
@@ -177,7 +162,7 @@ fn expect_linear_bounds(
 ) -> Result<(), NoMemory> {
     for (sum, pairs, after) in cases {
         let kernel = linear(rt, alloc, sum)?;
-        expect_bounds(rt, alloc, &kernel, &[(pairs, after)])?;
+        expect_bounds(rt, alloc, kernel, &[(pairs, after)])?;
     }
     Ok(())
 }
@@ -437,7 +422,7 @@ fn only_what_narrows_the_box_is_given(rt: HostRuntime) -> Result<(), Fail> {
     let mut hint = Hint::new();
     for (sum, pairs, tells) in &NARROWING {
         let kernel = linear(&rt, alloc, sum)?;
-        let narrowing = narrowing_told(&rt, alloc, &kernel, pairs, &mut hint)?;
+        let narrowing = narrowing_told(&rt, alloc, kernel, pairs, &mut hint)?;
         assert_eq!(rt; narrowing.as_slice(&rt), *tells);
     }
     Ok(())

@@ -46,7 +46,7 @@ static GREATEST_TELLS: [(Pairs, &[Told]); 2] = [
 
 #[test]
 fn the_greatest_gives_its_tells_in_order(rt: HostRuntime) -> Result<(), Fail> {
-    expect_tells(&rt, rt.alloc(), &greatest(rt.alloc())?, &GREATEST_TELLS)?;
+    expect_tells(&rt, rt.alloc(), greatest(rt.alloc())?, &GREATEST_TELLS)?;
     Ok(())
 }
 
@@ -64,7 +64,7 @@ static GREATEST_BOUNDS: [(&Pairs, &Pairs); 2] = [
 
 #[test]
 fn the_greatest_tells_what_is_worked_out_by_hand(rt: HostRuntime) -> Result<(), Fail> {
-    expect_bounds(&rt, rt.alloc(), &greatest(rt.alloc())?, &GREATEST_BOUNDS)?;
+    expect_bounds(&rt, rt.alloc(), greatest(rt.alloc())?, &GREATEST_BOUNDS)?;
     Ok(())
 }
 
@@ -102,7 +102,7 @@ static LEAST_TELLS: [(Pairs, &[Told]); 2] = [
 
 #[test]
 fn the_least_gives_its_tells_in_order(rt: HostRuntime) -> Result<(), Fail> {
-    expect_tells(&rt, rt.alloc(), &least(rt.alloc())?, &LEAST_TELLS)?;
+    expect_tells(&rt, rt.alloc(), least(rt.alloc())?, &LEAST_TELLS)?;
     Ok(())
 }
 
@@ -114,7 +114,7 @@ static LEAST_BOUNDS: [(&Pairs, &Pairs); 1] = [(
 
 #[test]
 fn the_least_tells_what_is_worked_out_by_hand(rt: HostRuntime) -> Result<(), Fail> {
-    expect_bounds(&rt, rt.alloc(), &least(rt.alloc())?, &LEAST_BOUNDS)?;
+    expect_bounds(&rt, rt.alloc(), least(rt.alloc())?, &LEAST_BOUNDS)?;
     Ok(())
 }
 
@@ -150,7 +150,7 @@ static CLAUSE_TELLS: [(Pairs, &[Told]); 4] = [
 
 #[test]
 fn the_clause_gives_its_tells_in_order(rt: HostRuntime) -> Result<(), Fail> {
-    expect_tells(&rt, rt.alloc(), &clause(rt.alloc())?, &CLAUSE_TELLS)?;
+    expect_tells(&rt, rt.alloc(), clause(rt.alloc())?, &CLAUSE_TELLS)?;
     Ok(())
 }
 
@@ -172,7 +172,7 @@ static CLAUSE_BOUNDS: [(&Pairs, &Pairs); 3] = [
 
 #[test]
 fn the_clause_tells_what_is_worked_out_by_hand(rt: HostRuntime) -> Result<(), Fail> {
-    expect_bounds(&rt, rt.alloc(), &clause(rt.alloc())?, &CLAUSE_BOUNDS)?;
+    expect_bounds(&rt, rt.alloc(), clause(rt.alloc())?, &CLAUSE_BOUNDS)?;
     Ok(())
 }
 
@@ -193,12 +193,7 @@ static NO_LITERALS_TELLS: [(Pairs, &[Told]); 1] = [(
 
 #[test]
 fn the_clause_of_no_literals_tells_what_none_meets(rt: HostRuntime) -> Result<(), Fail> {
-    expect_tells(
-        &rt,
-        rt.alloc(),
-        &no_literals(rt.alloc()),
-        &NO_LITERALS_TELLS,
-    )?;
+    expect_tells(&rt, rt.alloc(), no_literals(rt.alloc()), &NO_LITERALS_TELLS)?;
     Ok(())
 }
 
@@ -263,7 +258,7 @@ static ELEMENT_TELLS: [(Pairs, &[Told]); 3] = [
 
 #[test]
 fn the_element_gives_its_tells_in_order(rt: HostRuntime) -> Result<(), Fail> {
-    expect_tells(&rt, rt.alloc(), &element(rt.alloc())?, &ELEMENT_TELLS)?;
+    expect_tells(&rt, rt.alloc(), element(rt.alloc())?, &ELEMENT_TELLS)?;
     Ok(())
 }
 
@@ -281,7 +276,7 @@ static ELEMENT_BOUNDS: [(&Pairs, &Pairs); 2] = [
 
 #[test]
 fn the_element_tells_what_is_worked_out_by_hand(rt: HostRuntime) -> Result<(), Fail> {
-    expect_bounds(&rt, rt.alloc(), &element(rt.alloc())?, &ELEMENT_BOUNDS)?;
+    expect_bounds(&rt, rt.alloc(), element(rt.alloc())?, &ELEMENT_BOUNDS)?;
     Ok(())
 }
 
@@ -367,7 +362,7 @@ fn the_set_gives_its_tells_in_order(rt: HostRuntime) -> Result<(), Fail> {
     let alloc = rt.alloc();
     for (ends, pairs, tells) in &SET_TELLS {
         let kernel = in_set_of(&rt, alloc, ends)?;
-        expect_tells(&rt, alloc, &kernel, &[(*pairs, *tells)])?;
+        expect_tells(&rt, alloc, kernel, &[(*pairs, *tells)])?;
     }
     Ok(())
 }

@@ -22,7 +22,6 @@ pub mod TruncationLaws
 pub mod DivisorLaws
 pub mod DivisionLaws
 pub mod RemainderLaws
-pub mod Examples
 pub mod CommonLaws
 pub mod ExtremeLaws
 pub mod MaximumLaws

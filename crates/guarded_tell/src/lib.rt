@@ -2,12 +2,8 @@
 #![tactic(auto)]
 
 mod absolute;
-#[cfg(test)]
-mod arithmetic_tests;
 mod clause;
 mod division;
-#[cfg(test)]
-mod division_tests;
 mod element;
 mod equality;
 mod hear;
@@ -15,10 +11,6 @@ mod in_set;
 mod kernel;
 mod laws;
 mod linear;
-#[cfg(test)]
-mod linear_tests;
-#[cfg(test)]
-mod list_tests;
 mod literals;
 mod maximum;
 mod minimum;
@@ -30,8 +22,6 @@ mod remainder;
 mod short;
 mod tell;
 mod terms;
-#[cfg(test)]
-mod test_support;
 mod times;
 mod visit;
 

@@ -10,6 +10,3 @@ pub use bounds::{BOUND_LIMIT, clamp_bound, law_clamp_order};
 pub use boxes::{BoxOf, NoMemory, is_crossed, is_point, law_inside_order, width_sum};
 pub use corners::{corner_products, corner_quotients, law_corner_order};
 pub use quotients::{ceil_div, floor_div, law_quotient_order};
-
-#[cfg(test)]
-mod tests;

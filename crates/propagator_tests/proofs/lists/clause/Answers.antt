@@ -1,0 +1,6 @@
+use Rattle.std.proofs.Common.{◌∙◌}
+use Rattle.propagator_tests.proofs.Examples.{clause_made}
+use Rattle.propagator_tests.proofs.lists.clause.Goals as goal
+
+pub returns : goal.returns
+returns c = clause_made c.in_ok-lits.lits (c.in_ok-lits.ensures ∙ c.in_ok-vec.ensures.items)

@@ -1,0 +1,18 @@
+//! Exact quotients, boxes of bounds, and the bounds that propagators tell, tried from outside.
+
+#![tactic(auto)]
+
+#[cfg(test)]
+mod arithmetic;
+#[cfg(test)]
+mod boxes;
+#[cfg(test)]
+mod division;
+#[cfg(test)]
+mod four_variables;
+#[cfg(test)]
+mod linear;
+#[cfg(test)]
+mod lists;
+#[cfg(test)]
+mod quotients;

@@ -50,10 +50,7 @@ fn no_kernels_take_one_round_or_none(rt: HostRuntime) -> Result<(), Fail> {
     for (y, end) in [
         (
             (0, 3),
-            (
-                Settled::Fixed { rounds: 1 },
-                Some([1, 1, 0, 3, 0, 3, 0, 0]),
-            ),
+            (Settled::Fixed { rounds: 1 }, Some([1, 1, 0, 3, 0, 3, 0, 0])),
         ),
         ((2, 1), (Settled::Failed { rounds: 0 }, None)),
     ] {

@@ -1,6 +1,7 @@
 //! Propagation that asks what moved, with rounds counted by hand.
 
-ghost use Rattle.std.specs.Prelude.{◌≡◌, length};
+ghost use Rattle.std.specs.List.{All};
+ghost use Rattle.guarded_tell.specs.Kernels.{IsKernel};
 
 use crate::boxes::four;
 use fixpoint_laws::Limited;
@@ -12,15 +13,22 @@ use std::alloc::Global;
 use std::test::Fail;
 use trailed_box::TrailedBox;
 
-/// How a box ends in which variable 1 is the absolute value of variable 0 and all may have moved, and the upper bounds that
-/// these two then have where it isn't crossed. The kernel has no place for its hint.
+/// The kernel by which variable 1 is the absolute value of variable 0.
+fn absolute() -> [Kernel; 1]
+    ensures { All (IsKernel 4) result }
+{
+    [Kernel::Abs { x: 0, y: 1 }]
+}
+
+/// How a box ends under that kernel where all may have moved, and the upper bounds that the two variables then have where
+/// it isn't crossed. The kernel has no place for its hint.
 fn settled(
     alloc: Global,
     start: [(i8, i8); 4],
     round_limit: u64,
 ) -> Result<(Limited, Option<[i64; 2]>), NoMemory> {
     law_quiet_unless_moved();
-    let kernels = [Kernel::Abs { x: 0, y: 1 }];
+    let kernels = absolute();
     let first = four(alloc, start)?;
     let masks = Masks::new(alloc, &kernels, 4)?;
     let mut sets = MovedSets::new(alloc, 4, 0)?;

@@ -102,21 +102,21 @@ fn sum(alloc: Global, draws: &mut Draws, is_equation: bool) -> Result<Kernel, Al
     let limit = draws.number();
     let coeffs = three_numbers(alloc, draws)?;
     let vars = three_vars(alloc, draws)?;
-    Ok(if is_equation {
-        Kernel::Eq {
+    if is_equation {
+        Ok(Kernel::Eq {
             lit,
             coeffs,
             vars,
             limit,
-        }
+        })
     } else {
-        Kernel::Le {
+        Ok(Kernel::Le {
             lit,
             coeffs,
             vars,
             limit,
-        }
-    })
+        })
+    }
 }
 
 /// A product, a quotient or a remainder.

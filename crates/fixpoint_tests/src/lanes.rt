@@ -53,7 +53,10 @@ fn give<R: Threads + Sync + Abort>(
         let cut = even_cut(alloc, kernels, lanes)?;
         let (found, rounds) = outcome(rt, alloc, &start, kernels, &cut, &NoGate)?;
         assert_eq!(rt; found, bounds, "by {lanes} lanes");
-        assert!(rt; fewest <= rounds && rounds <= most, "{rounds} rounds by {lanes} lanes");
+        assert!(rt;
+            fewest <= rounds && rounds <= most,
+            "{rounds} rounds by {lanes} lanes"
+        );
     }
     Ok(())
 }
@@ -69,6 +72,7 @@ fn sums(alloc: Global) -> Result<[Kernel; 2], AllocError>
 
 /// The box in which propagation of the two sums begins, and the bounds that it ends with.
 const SUMS_START: [(i8, i8); 4] = [(1, 1), (0, 10), (0, 10), (0, 14)];
+
 const SUMS_END: [i64; 8] = [1, 1, 0, 7, 0, 7, 0, 14];
 
 /// A cut of two kernels with an empty share, and with a kernel that stands in two.

@@ -5,6 +5,7 @@ ghost use Rattle.guarded_tell.specs.Kernels.{IsKernel};
 ghost use Rattle.moved_set.specs.Sets.{IsNaming};
 
 use guarded_tell::Kernel;
+use interval::NoMemory;
 use moved_set::{Masks, MovedSet};
 use shared_list::SharedList;
 use std::alloc::{AllocError, Global};
@@ -31,18 +32,33 @@ fn seventy_kernels(alloc: Global) -> Result<Vec<Kernel>, AllocError>
     Ok(kernels)
 }
 
+/// The next kernel from a place on and the place behind the last one before a place, where variable 65 moved or all did.
+fn found(
+    alloc: Global,
+    masks: &Masks,
+    all: bool,
+    from: usize,
+    to: usize,
+) -> Result<(usize, usize), NoMemory>
+    requires count { masks.now.count ≡ 130 }
+    requires from { from ≤ length masks.now.sets }
+    requires to { to ≤ length masks.now.sets }
+{
+    let mut moved = MovedSet::new(alloc, 130)?;
+    moved.mark(65);
+    if all {
+        moved.mark_all();
+    }
+    Ok((masks.next(from, &moved), masks.next_back(to, &moved)))
+}
+
 #[test]
 fn kernels_are_found_one_after_the_other(rt: HostRuntime) -> Result<(), Fail> {
     let kernels = seventy_kernels(rt.alloc())?;
     let masks = Masks::new(rt.alloc(), kernels.as_slice(), 130)?;
-    let mut moved = MovedSet::new(rt.alloc(), 130)?;
     for (all, from, next, to, last) in [(false, 6, 65, 65, 6), (true, 9, 9, 9, 9)] {
-        moved.mark(65);
-        if all {
-            moved.mark_all();
-        }
-        let found = (masks.next(from, &moved), masks.next_back(to, &moved));
-        assert_eq!(rt; found, (next, last));
+        let places = found(rt.alloc(), &masks, all, from, to)?;
+        assert_eq!(rt; places, (next, last));
     }
     Ok(())
 }

@@ -1,5 +1,5 @@
 use Rattle.std.proofs.Common.{◌≡◌, length}
 use Rattle.fixpoint_tests.proofs.naming.kernels_of_shared_lists_are_found.Given as goal
 
-abbrev pub invariant-loop-v : goal.invariant-loop-v
-invariant-loop-v g l = length l.moved ≡ 200
+abbrev pub invariant-loop-k : goal.invariant-loop-k
+invariant-loop-k g l = length l.moved ≡ 200

@@ -10,4 +10,3 @@ pub mod Widths
 pub mod Settling
 pub mod Leading
 pub mod WorkedRound
-pub mod Examples

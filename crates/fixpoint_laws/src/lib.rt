@@ -4,8 +4,6 @@
 mod laws;
 mod limited;
 mod settle;
-#[cfg(test)]
-mod tests;
 
 pub use laws::{law_greatest_is_computed, law_one_fixpoint, law_rounds_lead, law_tightens_one};
 pub use limited::Limited;

@@ -14,8 +14,6 @@ mod seen;
 mod steps;
 mod store;
 mod table;
-#[cfg(test)]
-mod tests;
 mod words;
 
 pub use seat::Seat;

@@ -8,5 +8,3 @@ pub mod Settling
 pub mod Widths
 pub mod QuietLaws
 pub mod Asking
-pub mod Examples
-pub mod SmallKernels

@@ -13,6 +13,3 @@ mod set;
 
 pub use masks::Masks;
 pub use set::MovedSet;
-
-#[cfg(test)]
-mod tests;

@@ -9,4 +9,3 @@ pub mod Rounding
 pub mod Widths
 pub mod Ending
 pub mod Dealing
-pub mod Examples

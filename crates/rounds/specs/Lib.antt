@@ -6,4 +6,3 @@ pub mod Flat
 pub mod Engines
 pub mod Propagations
 pub mod Even
-pub mod Small

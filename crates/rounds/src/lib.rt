@@ -9,8 +9,6 @@ mod lanes;
 mod once;
 mod settling;
 mod share;
-#[cfg(test)]
-mod tests;
 mod work;
 
 pub use cuts::even_cut;

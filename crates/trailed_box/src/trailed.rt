@@ -141,6 +141,3 @@ impl TrailedBox {
         Some(mark.part)
     }
 }
-
-#[cfg(test)]
-mod tests;

@@ -1,0 +1,4 @@
+pub mod Zeros
+pub mod SmallSums
+pub mod SmallKernels
+pub mod Marking

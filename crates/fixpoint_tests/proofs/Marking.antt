@@ -1,0 +1,52 @@
+-- What a set that names what moved has to meet: one of all variables, and one after a variable got other bounds.
+use Rattle.std.proofs.Common.{◌≡◌, ℕ, zero, suc, ℤ, Bool, true, false, not, ◌<◌, ◌≤◌, List, [], ◌∷◌, ◌∙◌, length, replicate, arith, ap, subst, sym, refl}
+use Rattle.std.specs.Prelude.{slice_index, slice_set, unsigned_abs}
+use Rattle.std.specs.List.{All}
+use Rattle.std.proofs.lemmas.List.{get_or-replicate, length-replicate}
+use Rattle.std.proofs.lemmas.List.Elements.{All-nil, All-cons}
+use Rattle.interval.specs.Limits.{IsBound, bound_limit, largest_number, box_limit}
+use Rattle.interval.specs.Boxes.{Bounds, IsInRange, low_of, high_of, put_of}
+use Rattle.guarded_tell.specs.declared.kernel.Kernel.{Kernel}
+use Rattle.guarded_tell.specs.declared.kernel.Kernel.TheVariants.{Abs}
+use Rattle.guarded_tell.specs.Kernels.{vars_of, HasNumbers, IsKernel}
+use Rattle.moved_set.specs.Sets.{IsIn}
+use Rattle.moved_fixpoint.specs.Moved.{Set, count_of, AreMovedOrQuiet, QuietUnlessMoved}
+use Rattle.moved_fixpoint.specs.Runs.{Fit}
+
+two_variables : (i : ℕ) → i < 2 → slice_index (0 ∷ 1 ∷ []) i < 4
+two_variables zero h = omega arith
+two_variables (suc zero) h = omega arith
+two_variables (suc (suc i)) h = absurd (omega arith)
+
+absolute : IsKernel 4 (Abs 0 1)
+unfolding vars_of HasNumbers
+absolute = record { variables = record { each = λ i h. two_variables i (omega arith) }; numbers = tt }
+
+pub absolutes : All (IsKernel 4) (Abs 0 1 ∷ [])
+absolutes = All-cons (IsKernel 4) (Abs 0 1) [] absolute (All-nil (IsKernel 4))
+
+-- where all variables are marked, each kernel is quiet unless one of its variables moved
+pub all_marked : QuietUnlessMoved → (count : ℕ) (b : Bounds) (kernels : List Kernel) (set : Set) (n : ℕ) → set ≡ replicate n true → n ≡ count → length b ≡ count →
+    All (IsKernel count) kernels → AreMovedOrQuiet set b kernels
+all_marked law count b kernels set n e same h all = law.all b kernels set (subst (λ (m : ℕ). All (IsKernel m) kernels) (sym h) all)
+    (λ v l. subst (λ (s : Set). IsIn s v) (sym e) (get_or-replicate n v true false (omega arith)))
+
+-- sets of as many variables as a box has, one of them of all
+pub marked_fit : (count : ℕ) (b : Bounds) (moved noted : Set) (n : ℕ) → moved ≡ replicate n true → n ≡ count → count_of noted ≡ count → length b ≡ count → Fit b moved noted
+marked_fit count b moved noted n e same other h = record {
+  moved_count = ap (λ (s : Set). length s) e ∙ length-replicate n true ∙ same ∙ sym h;
+  noted_count = other ∙ sym h;
+}
+
+-- where a variable got other bounds and was marked, each kernel is quiet unless one of its variables moved
+pub put_quiet : QuietUnlessMoved → (count : ℕ) (b next : Bounds) (kernels : List Kernel) (set marked : Set) (v : ℕ) (low high : ℤ) → length b ≡ count →
+    All (IsKernel count) kernels → marked ≡ slice_set set v true → next ≡ put_of b v low high → v < count → count_of set ≡ length b →
+    AreMovedOrQuiet set b kernels → AreMovedOrQuiet marked next kernels
+put_quiet law count b next kernels set marked v low high n all e f h same quiet =
+    subst (λ (s : Set). AreMovedOrQuiet s next kernels) (sym e)
+    (subst (λ (c : Bounds). AreMovedOrQuiet (slice_set set v true) c kernels) (sym f)
+    (law.put b kernels set v low high (subst (λ (m : ℕ). All (IsKernel m) kernels) (sym n) all) (omega arith) quiet))
+
+pub is_true : (b : Bool) → not b ≡ false → b ≡ true
+is_true true e = refl
+is_true false e = sym e

@@ -1,0 +1,22 @@
+use Rattle.std.proofs.Common.{ap, length, ◌∙◌}
+use Rattle.interval.specs.Boxes.{Bounds}
+use Rattle.fixpoint_tests.proofs.Marking.{all_marked, marked_fit, is_true}
+use Rattle.fixpoint_tests.proofs.walks.walk.Goals as goal
+
+pub loop-init : goal.loop-init
+loop-init c =
+    let pairs = ap (λ (b : Bounds). length b) c.in_ok-b.ensures.current ∙ c.in_ok-first.ensures in
+    record {
+      pairs = pairs;
+      sets = marked_fit 40 _ _ _ _ c.mark_all.ensures c.in_ok-sets.ensures.moved.1 c.in_ok-sets.ensures.noted.1 pairs;
+      quiet = all_marked c.law_quiet_unless_moved.ensures 40 _ _ _ _ c.mark_all.ensures c.in_ok-sets.ensures.moved.1 pairs c.requires;
+    }
+
+pub loop-preserved : goal.loop-preserved
+loop-preserved c = record {
+  pairs = c.in_ok-put_one.ensures.length;
+  sets = c.in_ok-put_one.ensures.sets;
+  quiet = c.in_ok-put_one.ensures.quiet c.args.kernels.now c.requires
+      (c.law_quiet_unless_moved.ensures.closed c.settle_both.new.b.current c.args.kernels.now c.settle_both.new.sets.moved
+      (c.in_ok-ended.ensures.closed (is_true c.in_ok-ended.ended.fixed c.if-not-ended.false)));
+}

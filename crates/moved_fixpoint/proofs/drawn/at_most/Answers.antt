@@ -1,6 +1,0 @@
-use Rattle.moved_fixpoint.proofs.SmallKernels.{at_most_made, read_back}
-use Rattle.moved_fixpoint.proofs.drawn.at_most.Goals as goal
-
-pub returns : goal.returns
-returns c = at_most_made c.lit-lit.result c.in_ok-coeffs.coeffs c.in_ok-vars.vars c.number-limit.result _ (read_back c.number-limit.result c.number-limit.ensures)
-    c.lit-lit.ensures c.in_ok-coeffs.ensures.small c.in_ok-coeffs.ensures.three c.in_ok-vars.ensures.below c.in_ok-vars.ensures.three c.number-limit.ensures

@@ -1,6 +1,0 @@
-use Rattle.std.specs.List.{All}
-use Rattle.guarded_tell.specs.Kernels.{IsKernel}
-use Rattle.moved_fixpoint.proofs.drawn.program.Given as goal
-
-abbrev pub invariant-loop : goal.invariant-loop
-invariant-loop l = All (IsKernel 40) l.kernels.items

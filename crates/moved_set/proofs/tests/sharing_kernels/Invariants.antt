@@ -1,6 +1,0 @@
-use Rattle.std.specs.Prelude.{All}
-use Rattle.guarded_tell.specs.Kernels.{IsKernel}
-use Rattle.moved_set.proofs.tests.sharing_kernels.Given as goal
-
-abbrev pub invariant-loop-k : goal.invariant-loop-k
-invariant-loop-k l = All (IsKernel 200) l.kernels.items

@@ -1,9 +1,0 @@
-use Rattle.std.proofs.Common.{◌≡◌, ◌<◌, length}
-use Rattle.std.specs.Prelude.{All}
-use Rattle.moved_set.proofs.tests.variables.Given as goal
-
-abbrev pub invariant-loop-k : goal.invariant-loop-k
-invariant-loop-k l = record {
-  variables : All (λ v. v < 200) l.list.items;
-  count : length l.list.items ≡ l.k;
-}

@@ -1,5 +1,0 @@
-use Rattle.rounds.proofs.Examples.{overlapping}
-use Rattle.rounds.proofs.tests.overlapping.Goals as goal
-
-pub returns : goal.returns
-returns c = overlapping c.in_ok-vec.field-0.items c.new.result c.in_ok-one.one c.in_ok-two.two c.in_ok-vec.ensures.items c.new.ensures.items c.in_ok-one.ensures.items c.in_ok-two.ensures.items

@@ -9,6 +9,6 @@ use Rattle.decompose.specs.Program.{IsProgramOf}
 
 -- the model is well-formed, the program is the model's, and the masks are the program's
 pub record IsCompiled (model : FznModel) (program : Program) (masks : Naming) : Type 0 where
-  pub model : IsWellFormed model
-  pub program : IsProgramOf model program
-  pub masks : AreMasksOf program.kernels (length program.start) masks
+  pub well_formed : IsWellFormed model
+  pub is_program : IsProgramOf model program
+  pub are_masks : AreMasksOf program.kernels (length program.start) masks

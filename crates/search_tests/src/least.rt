@@ -7,7 +7,7 @@ ghost use Rattle.best_bound.specs.Seats.{IsBestSeatOf};
 ghost use Rattle.search.specs.LeastEnds.{IsCost};
 ghost use Rattle.search_tests.specs.Models.{IsCompiled};
 
-use crate::models::{Compiled, compiled};
+use crate::models::{Compiled, compile_text};
 use best_bound::{Best, BestSeat, Costs};
 use constraint_model::Goal;
 use gate::NoGate;
@@ -129,7 +129,7 @@ fn has_objective(goal: Goal) -> bool
 
 #[test]
 fn the_least_value_is_found_and_posted(rt: HostRuntime) -> Result<(), Fail> {
-    let searched = compiled(rt.alloc(), "var 1..3: x; solve minimize x;")?;
+    let searched = compile_text(rt.alloc(), "var 1..3: x; solve minimize x;")?;
     assert!(rt; has_objective(searched.model.goal));
     let table = [
         (1, Expected::Spent(1), None),

@@ -40,7 +40,7 @@ pub(crate) fn model_of(alloc: Global, text: &str) -> Result<FznModel, NoMemory>
 }
 
 /// The same with its program.
-pub(crate) fn compiled(alloc: Global, text: &str) -> Result<Compiled, NoMemory>
+pub(crate) fn compile_text(alloc: Global, text: &str) -> Result<Compiled, NoMemory>
     ensures { IfOk result (λ c. IsCompiled c.model c.program c.masks) }
 {
     let model = model_of(alloc, text)?;

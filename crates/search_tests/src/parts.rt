@@ -1,13 +1,13 @@
 //! Boxes of three variables, parted by hand.
 
-ghost use Rattle.std.specs.Prelude.{◌≡◌, ◌<◌, length, IfOk};
+ghost use Rattle.std.specs.Prelude.{◌≡◌, length, IfOk};
 ghost use Rattle.std.specs.Bool.{OnTrue};
 ghost use Rattle.interval.specs.Boxes.{IsProper};
 ghost use Rattle.constraint_model.specs.Searches.{IsSearchOf};
 ghost use Rattle.branching.specs.Fronts.{FitsBox, left_by};
 ghost use Rattle.search_tests.specs.Models.{IsCompiled};
 
-use crate::models::{Compiled, compiled};
+use crate::models::{Compiled, compile_text};
 use branching::{Branching, Front, are_fixed, branch_from, choose, law_fronts};
 use constraint_model::FznModel;
 use interval::{BoxOf, NoMemory, is_crossed};
@@ -23,7 +23,7 @@ fn searched_by(alloc: Global, variables: &str, phase: &str) -> Result<Compiled, 
     text.push_str(" solve :: int_search(")?;
     text.push_str(phase)?;
     text.push_str(") satisfy;")?;
-    compiled(alloc, text.as_str())
+    compile_text(alloc, text.as_str())
 }
 
 /// Whether there are three variables and no other pairs but that of the constant 1.

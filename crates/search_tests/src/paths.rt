@@ -4,7 +4,7 @@ ghost use Rattle.std.specs.Prelude.{◌≡◌, ◌<◌, ◌≤◌, ◌^◌};
 ghost use Rattle.subproblem_walk.specs.Walks.{IsWalkFrom};
 ghost use Rattle.search_tests.specs.Models.{IsCompiled};
 
-use crate::models::{Compiled, compiled};
+use crate::models::{Compiled, compile_text};
 use interval::{BoxOf, NoMemory};
 use std::alloc::{AllocError, Global};
 use std::process::Abort;
@@ -58,7 +58,7 @@ fn it_is_cut_into_its_subproblems(rt: HostRuntime) -> Result<(), Fail> {
             &[Some((0, 0)), Some((1, 1)), Some((2, 2)), Some((3, 3))],
         ),
     ];
-    let cut = compiled(rt.alloc(), FOUR)?;
+    let cut = compile_text(rt.alloc(), FOUR)?;
     for (depth, expected) in table {
         assert!(rt; *depth <= 16);
         let found = expanded(rt.alloc(), &cut, *depth)?;
@@ -154,7 +154,7 @@ fn numbers_lead_to_the_subproblems(rt: HostRuntime) -> Result<(), Fail> {
         (0, 0, Some((0, 3))),
         (3, 4, Some((1, 1))),
     ];
-    let cut = compiled(rt.alloc(), FOUR)?;
+    let cut = compile_text(rt.alloc(), FOUR)?;
     for steps in [IN_ORDER, DEEP, BACK_AND_FORTH, TO_OTHER_DEPTHS] {
         assert_walk(&rt, rt.alloc(), &cut, steps)?;
     }

@@ -1,6 +1,6 @@
 //! The least cost and the least number that seats have posted, by one thread and by two.
 
-ghost use Rattle.std.specs.Prelude.{◌≡◌, IfOk};
+ghost use Rattle.std.specs.Prelude.{IfOk};
 ghost use Rattle.best_bound.specs.Seats.{IsBestSeatOf, IsFoundSeatOf, IsCostInRange};
 
 use best_bound::{Best, BestSeat, Costs, Found, FoundSeat, Numbers};

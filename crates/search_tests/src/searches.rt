@@ -4,7 +4,7 @@ ghost use Rattle.std.specs.Prelude.{◌≤◌};
 ghost use Rattle.best_bound.specs.Seats.{IsFoundSeatOf};
 ghost use Rattle.search_tests.specs.Models.{IsCompiled};
 
-use crate::models::{Compiled, compiled};
+use crate::models::{Compiled, compile_text};
 use best_bound::{Found, FoundSeat, Numbers};
 use gate::{Gate, NoGate};
 use interval::{NoMemory, law_inside_order};
@@ -88,7 +88,7 @@ fn first<R: Threads + Sync>(
     text: &str,
     limits: Limits,
 ) -> Result<(FirstEnd, Option<u32>), NoMemory> {
-    let searched = compiled(alloc, text)?;
+    let searched = compile_text(alloc, text)?;
     let (found, mut seat) = Found::<AnyNumber>::new(alloc)?;
     let end = first_of(rt, alloc, &searched, limits, 0, &found, &mut seat)?;
     Ok((end, found.seen(&mut seat)))
@@ -107,7 +107,7 @@ fn all<R: Threads + Sync, L: Gate + Sync>(
     requires most_lanes { lanes ≤ 64 }
 {
     law_inside_order();
-    let searched = compiled(alloc, text)?;
+    let searched = compile_text(alloc, text)?;
     let run = Run {
         model: &searched.model,
         program: &searched.program,
@@ -131,7 +131,7 @@ fn is_solution(values: &Option<ListOf<i64>>, expected: Option<[i64; 2]>) -> bool
 
 /// How a search for the first solution is expected to end.
 #[derive(Clone, Copy)]
-enum First {
+enum Expected {
     /// With this solution, or with none.
     Done(Option<[i64; 2]>),
     /// By a limit.
@@ -141,11 +141,11 @@ enum First {
 }
 
 /// Whether a search ended so.
-fn is_end(end: &FirstEnd, expected: First) -> bool {
+fn is_end(end: &FirstEnd, expected: Expected) -> bool {
     match (end, expected) {
-        (FirstEnd::Done(values), First::Done(solution)) => is_solution(values, solution),
-        (FirstEnd::Spent { nodes, why }, First::Spent(stop)) => (*nodes, *why) == stop,
-        (FirstEnd::Cut(number), First::Cut(other)) => *number == other,
+        (FirstEnd::Done(values), Expected::Done(solution)) => is_solution(values, solution),
+        (FirstEnd::Spent { nodes, why }, Expected::Spent(stop)) => (*nodes, *why) == stop,
+        (FirstEnd::Cut(number), Expected::Cut(other)) => *number == other,
         _ => false,
     }
 }
@@ -205,22 +205,22 @@ fn all_solutions_are_found_as_far_as_the_limits_go(rt: HostRuntime) -> Result<()
 
 #[test]
 fn the_first_solution_is_found_as_far_as_the_limits_go(rt: HostRuntime) -> Result<(), Fail> {
-    let table: &[(&str, Limits, First)] = &[
-        (FREE, (0, 0), First::Done(Some([1, 0]))),
-        (FREE, (1, 0), First::Spent((1, Why::Nodes))),
-        (FREE, (2, 0), First::Done(Some([1, 0]))),
-        (BELOW, (3, 0), First::Done(Some([0, 1]))),
-        (BELOW, (2, 0), First::Spent((2, Why::Nodes))),
-        (CYCLE, (1, 0), First::Done(None)),
-        (CROSSED, (0, 0), First::Done(None)),
-        (BELOW, (0, 1), First::Spent((1, Why::Rounds))),
-        (NARROW, (0, 1), First::Done(Some([0, 1]))),
+    let table: &[(&str, Limits, Expected)] = &[
+        (FREE, (0, 0), Expected::Done(Some([1, 0]))),
+        (FREE, (1, 0), Expected::Spent((1, Why::Nodes))),
+        (FREE, (2, 0), Expected::Done(Some([1, 0]))),
+        (BELOW, (3, 0), Expected::Done(Some([0, 1]))),
+        (BELOW, (2, 0), Expected::Spent((2, Why::Nodes))),
+        (CYCLE, (1, 0), Expected::Done(None)),
+        (CROSSED, (0, 0), Expected::Done(None)),
+        (BELOW, (0, 1), Expected::Spent((1, Why::Rounds))),
+        (NARROW, (0, 1), Expected::Done(Some([0, 1]))),
     ];
     for (text, limits, expected) in table {
         let (end, posted) = first(&rt, rt.alloc(), text, *limits)?;
         assert!(rt; is_end(&end, *expected), "at {limits:?} of {text}");
         // what has no solution posts nothing
-        let is_posted = matches!(expected, First::Done(Some(_)));
+        let is_posted = matches!(expected, Expected::Done(Some(_)));
         assert_eq!(rt; posted.is_some(), is_posted, "at {limits:?} of {text}");
     }
     Ok(())
@@ -277,15 +277,15 @@ fn two_lanes_find_what_one_finds(rt: HostRuntime) -> Result<(), Fail> {
 
 #[test]
 fn a_lesser_number_cuts_a_search(rt: HostRuntime) -> Result<(), Fail> {
-    let searched = compiled(rt.alloc(), FREE)?;
+    let searched = compile_text(rt.alloc(), FREE)?;
     let (found, mut seat) = Found::<AnyNumber>::new(rt.alloc())?;
     let mut other = found.split(&mut seat);
     found.post(&mut other, 3);
     // the number itself and greater ones cut nothing; a lesser one does, before the first node
     for (limits, number, expected) in [
-        ((0, 0), 2, First::Done(Some([1, 0]))),
-        ((1, 0), 2, First::Spent((1, Why::Nodes))),
-        ((0, 0), 3, First::Cut(2)),
+        ((0, 0), 2, Expected::Done(Some([1, 0]))),
+        ((1, 0), 2, Expected::Spent((1, Why::Nodes))),
+        ((0, 0), 3, Expected::Cut(2)),
     ] {
         let end = first_of(
             &rt,

@@ -13,5 +13,4 @@ pub mod JobLaws
 pub mod LeastJobLaws
 pub mod GivenLaws
 pub mod NumberLaws
-pub mod Examples
 pub mod AnswerLaws

@@ -11,4 +11,3 @@ pub mod Plans
 pub mod Runs
 pub mod Jobs
 pub mod Laws
-pub mod Examples

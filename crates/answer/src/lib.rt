@@ -10,8 +10,6 @@ mod least_job;
 mod objective;
 mod options;
 mod plan;
-#[cfg(test)]
-mod tests;
 
 pub use answering::{Gates, answer};
 pub use laws::{law_gives_one, law_gives_smallest, law_one_finished, law_unfinished_marks};

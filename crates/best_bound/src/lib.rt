@@ -7,8 +7,6 @@ mod found;
 mod object;
 mod seat;
 mod table;
-#[cfg(test)]
-mod tests;
 mod word;
 
 pub use object::{Best, Costs, Found, Numbers};

@@ -1,7 +1,6 @@
 pub mod PickLaws
 pub mod FrontLaws
 pub mod PartLaws
-pub mod Examples
 pub mod TreeLaws
 pub mod ListLaws
 pub mod PointCounting

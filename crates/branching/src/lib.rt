@@ -5,8 +5,6 @@ mod branch;
 mod fronts;
 mod laws;
 mod select;
-#[cfg(test)]
-mod tests;
 
 pub use branch::{Branching, branch_from, choose};
 pub use fronts::{Front, law_fronts};

@@ -6,8 +6,6 @@ mod ends;
 mod hiring;
 mod job;
 mod numbers;
-#[cfg(test)]
-mod tests;
 mod worker;
 mod workers;
 

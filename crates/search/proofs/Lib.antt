@@ -2,7 +2,6 @@ pub mod BoxLaws
 pub mod CutLaws
 pub mod PremiseLaws
 pub mod EndLaws
-pub mod Examples
 pub mod NodeLaws
 pub mod ValueLaws
 pub mod StackLaws
@@ -13,6 +12,4 @@ pub mod LimitLaws
 pub mod PostedLaws
 pub mod CostLaws
 pub mod LeastRunLaws
-pub mod LeastExamples
 pub mod SearcherLaws
-pub mod RunExamples

@@ -8,4 +8,3 @@ pub mod Premises
 pub mod Stacks
 pub mod Cuts
 pub mod Laws
-pub mod Examples

@@ -9,13 +9,9 @@ mod first;
 mod kind;
 mod laws;
 mod least;
-#[cfg(test)]
-mod least_tests;
 mod node;
 mod run;
 mod searcher;
-#[cfg(test)]
-mod tests;
 
 pub use all::run_all;
 pub use ends::{AllEnd, FirstEnd, LeastEnd, Why};

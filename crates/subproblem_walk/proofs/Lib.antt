@@ -1,4 +1,3 @@
 pub mod CutterLemmas
 pub mod StartLemmas
 pub mod WalkLemmas
-pub mod Examples

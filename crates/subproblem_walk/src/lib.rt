@@ -2,8 +2,6 @@
 #![tactic(auto)]
 
 mod cutter;
-#[cfg(test)]
-mod tests;
 mod walk;
 
 pub use walk::Walk;

@@ -2,4 +2,3 @@ pub mod CutLemmas
 pub mod SubproblemLemmas
 pub mod PathLemmas
 pub mod StepLemmas
-pub mod Examples

@@ -2,4 +2,3 @@ pub mod Cuts
 pub mod Subproblems
 pub mod Paths
 pub mod Growth
-pub mod Examples

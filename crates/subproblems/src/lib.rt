@@ -5,8 +5,6 @@ mod cutting;
 mod expansion;
 mod laws;
 mod path;
-#[cfg(test)]
-mod tests;
 
 pub use cutting::{Cut, cut_box};
 pub use expansion::expand;

@@ -1,4 +1,3 @@
 pub mod Counting
 pub mod Rule
 pub mod Seats
-pub mod Alike

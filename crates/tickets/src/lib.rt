@@ -6,8 +6,6 @@ mod laws;
 mod seat;
 mod steps;
 mod table;
-#[cfg(test)]
-mod tests;
 mod tickets;
 
 pub use laws::law_counting;

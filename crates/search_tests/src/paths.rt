@@ -1,0 +1,162 @@
+//! A model of one variable, cut by hand: all subproblems at once, each by its number alone, and one after another.
+
+ghost use Rattle.std.specs.Prelude.{◌≡◌, ◌<◌, ◌≤◌, ◌^◌};
+ghost use Rattle.subproblem_walk.specs.Walks.{IsWalkFrom};
+ghost use Rattle.search_tests.specs.Models.{IsCompiled};
+
+use crate::models::{Compiled, compile_text};
+use interval::{BoxOf, NoMemory};
+use std::alloc::{AllocError, Global};
+use std::process::Abort;
+use std::test::Fail;
+use subproblem_walk::Walk;
+use subproblems::{expand, path_box};
+
+const FOUR: &str = "var 0..3: x; solve satisfy;";
+
+/// The bounds of the variable, which has pair 1.
+fn bounds(b: &BoxOf) -> Option<(i64, i64)> {
+    if b.len() != 2 {
+        return None;
+    }
+    Some((b.low(1), b.high(1)))
+}
+
+/// The same where there is a box.
+fn bounds_in(found: &Option<BoxOf>) -> Option<(i64, i64)> {
+    match found {
+        Some(b) => bounds(b),
+        None => None,
+    }
+}
+
+/// The bounds of the variable in each box.
+fn bounds_of(alloc: Global, subs: &[BoxOf]) -> Result<Vec<Option<(i64, i64)>>, AllocError> {
+    let mut all = Vec::new(alloc);
+    for sub in subs {
+        all.push(bounds(sub))?;
+    }
+    Ok(all)
+}
+
+/// The bounds of the variable in each subproblem.
+fn expanded(alloc: Global, cut: &Compiled, depth: u32) -> Result<Vec<Option<(i64, i64)>>, NoMemory>
+    requires compiled { IsCompiled cut.now.model cut.now.program cut.now.masks }
+    requires depth { depth ≤ 16 }
+{
+    let subs = expand(alloc, &cut.model, &cut.program, &cut.program.start, depth)?;
+    Ok(bounds_of(alloc, &subs)?)
+}
+
+#[test]
+fn it_is_cut_into_its_subproblems(rt: HostRuntime) -> Result<(), Fail> {
+    let table: &[(u32, &[Option<(i64, i64)>])] = &[
+        (0, &[Some((0, 3))]),
+        (2, &[Some((0, 0)), Some((1, 1)), Some((2, 3))]),
+        (
+            16,
+            &[Some((0, 0)), Some((1, 1)), Some((2, 2)), Some((3, 3))],
+        ),
+    ];
+    let cut = compile_text(rt.alloc(), FOUR)?;
+    for (depth, expected) in table {
+        assert!(rt; *depth <= 16);
+        let found = expanded(rt.alloc(), &cut, *depth)?;
+        assert_eq!(rt; found.as_slice(), *expected, "to depth {depth}");
+    }
+    Ok(())
+}
+
+/// What a walk gives for the number, and what the path alone gives.
+fn asked(
+    alloc: Global,
+    cut: &Compiled,
+    walk: &mut Walk,
+    depth: u32,
+    number: u32,
+) -> Result<[Option<(i64, i64)>; 2], NoMemory>
+    requires compiled { IsCompiled cut.now.model cut.now.program cut.now.masks }
+    requires depth { depth ≤ 16 }
+    requires number { number < 2 ^ depth }
+    requires walk { IsWalkFrom cut.now.model cut.now.program.kernels cut.now.program.start walk.old }
+    ensures { IsWalkFrom cut.now.model cut.now.program.kernels cut.now.program.start walk.new }
+{
+    let Compiled {
+        model,
+        program,
+        masks,
+    } = cut;
+    let walked = walk.path_box(alloc, model, program, masks, &program.start, depth, number)?;
+    let alone = path_box(alloc, model, program, &program.start, depth, number)?;
+    Ok([bounds_in(&walked), bounds_in(&alone)])
+}
+
+/// How many numbers there are to a depth.
+fn numbers_to(depth: u32) -> u32
+    requires { depth ≤ 16 }
+    ensures { result ≡ 2 ^ depth }
+{
+    1 << depth
+}
+
+/// A depth, a number, and the bounds where it leads to.
+type Step = (u32, u32, Option<(i64, i64)>);
+
+/// A walk goes from number to number, and each leads to the same as alone.
+fn assert_walk(
+    rt: &impl Abort,
+    alloc: Global,
+    cut: &Compiled,
+    steps: &[Step],
+) -> Result<(), NoMemory>
+    requires { IsCompiled cut.now.model cut.now.program cut.now.masks }
+{
+    let mut walk = Walk::new(alloc);
+    for (depth, number, expected) in steps {
+        assert!(rt; *depth <= 16);
+        assert!(rt; *number < numbers_to(*depth));
+        let found = asked(alloc, cut, &mut walk, *depth, *number)?;
+        assert_eq!(rt;
+            found,
+            [*expected, *expected],
+            "at {number} to depth {depth}"
+        );
+    }
+    Ok(())
+}
+
+#[test]
+fn numbers_lead_to_the_subproblems(rt: HostRuntime) -> Result<(), Fail> {
+    const IN_ORDER: &[Step] = &[
+        (2, 0, Some((0, 0))),
+        (2, 1, None),
+        (2, 2, Some((1, 1))),
+        (2, 3, Some((2, 3))),
+    ];
+    const DEEP: &[Step] = &[
+        (16, 0, Some((0, 0))),
+        (16, 1, None),
+        (16, 32768, Some((1, 1))),
+        (16, 49152, Some((2, 2))),
+        (16, 57344, Some((3, 3))),
+        (16, 65535, None),
+    ];
+    const BACK_AND_FORTH: &[Step] = &[
+        (3, 5, None),
+        (3, 2, None),
+        (3, 7, Some((3, 3))),
+        (3, 7, Some((3, 3))),
+        (3, 0, Some((0, 0))),
+    ];
+    const TO_OTHER_DEPTHS: &[Step] = &[
+        (3, 6, Some((2, 2))),
+        (2, 3, Some((2, 3))),
+        (0, 0, Some((0, 3))),
+        (3, 4, Some((1, 1))),
+    ];
+    let cut = compile_text(rt.alloc(), FOUR)?;
+    for steps in [IN_ORDER, DEEP, BACK_AND_FORTH, TO_OTHER_DEPTHS] {
+        assert_walk(&rt, rt.alloc(), &cut, steps)?;
+    }
+    Ok(())
+}

@@ -3,7 +3,6 @@ pub mod ClauseLaws
 pub mod ClauseRows
 pub mod ConstantLaws
 pub mod ElementRows
-pub mod ExampleLaws
 pub mod ExtremeRows
 pub mod KernelLaws
 pub mod Means

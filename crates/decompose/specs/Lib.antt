@@ -1,4 +1,3 @@
-pub mod Examples
 pub mod Kernels
 pub mod Mapped
 pub mod Places

@@ -5,8 +5,6 @@ mod booleans;
 mod coefficients;
 mod comparisons;
 mod constants;
-#[cfg(test)]
-mod kernel_tests;
 mod kernels;
 mod mapped_lists;
 mod places;
@@ -14,7 +12,5 @@ mod program;
 mod start;
 mod sums;
 mod terms;
-#[cfg(test)]
-mod tests;
 
 pub use program::{Program, compile, law_one_program};

@@ -1,8 +1,7 @@
 //! That lanes and workers run beside each other: each of two is held up until the other has come so far.
 
-use crate::tests::{Outcome, run_gated};
-use crate::{Gate, Gates, NoGate, Status};
-use std::process::Abort;
+use crate::calls::{SOUND, assert_ended, run_gated};
+use solver_top::{Gate, Gates, NoGate, Status};
 use std::sync::atomic::{AtomicBool, Ordering};
 use std::test::Fail;
 
@@ -62,12 +61,6 @@ impl Gate for Meet {
     }
 }
 
-/// The call wrote this answer.
-fn assert_answered(rt: &impl Abort, outcome: &Outcome, answer: &str) {
-    assert_eq!(rt; outcome.status, Status::Answered);
-    assert_eq!(rt; outcome.out.as_slice(), answer.as_bytes());
-}
-
 #[test]
 fn two_lanes_meet(rt: HostRuntime) -> Result<(), Fail> {
     let text = "var 0..3: x :: output_var; var 0..3: y; \
@@ -79,8 +72,9 @@ fn two_lanes_meet(rt: HostRuntime) -> Result<(), Fail> {
         lanes: &gate,
     };
     let words = "turbofzn --lanes 2 m.fzn";
-    let outcome = run_gated(&rt, rt.alloc(), words, text.as_bytes(), &gates)?;
-    assert_answered(&rt, &outcome, "x = 0;\n----------\n");
+    let outcome = run_gated(&rt, rt.alloc(), words, text, (SOUND, SOUND), &gates)?;
+    let ended = (Status::Answered, "x = 0;\n----------\n", "");
+    assert_ended(&rt, &outcome, &ended, words, text);
     assert!(rt; gate.was_passed());
     Ok(())
 }
@@ -95,12 +89,9 @@ fn two_workers_meet(rt: HostRuntime) -> Result<(), Fail> {
         lanes: &NoGate,
     };
     let words = "turbofzn -p 2 --depth 2 m.fzn";
-    let outcome = run_gated(&rt, rt.alloc(), words, text.as_bytes(), &gates)?;
-    assert_answered(
-        &rt,
-        &outcome,
-        "x = 0;\ny = 1;\no = 4;\n----------\n==========\n",
-    );
+    let outcome = run_gated(&rt, rt.alloc(), words, text, (SOUND, SOUND), &gates)?;
+    let answer = "x = 0;\ny = 1;\no = 4;\n----------\n==========\n";
+    assert_ended(&rt, &outcome, &(Status::Answered, answer, ""), words, text);
     assert!(rt; gate.was_passed());
     Ok(())
 }

@@ -1,6 +1,6 @@
 //! Constraints at their corners and at the ends of the range.
 
-use crate::tests::assert_answers;
+use crate::calls::assert_answers;
 use std::test::Fail;
 
 /// Empty lists and sets, one variable at several places, constants alone; names and values of declarations.

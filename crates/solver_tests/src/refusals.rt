@@ -1,7 +1,7 @@
 //! Refused texts: the kind of the first fault, and its line.
 
-use crate::Status;
-use crate::tests::{BOUNDS, assert_refusals, run_text};
+use crate::calls::{BOUNDS, assert_refusals, assert_text};
+use solver_top::Status;
 use std::test::Fail;
 
 /// Each kind but the limits, on one line.
@@ -227,12 +227,14 @@ fn each_front_of_a_text_is_refused(rt: HostRuntime) -> Result<(), Fail> {
     let text = BOUNDS.as_bytes();
     assert_eq!(rt; text.len(), 65);
     for count in 0..text.len() {
-        let outcome = run_text(&rt, rt.alloc(), &text[..count])?;
+        let front = std::str::from_utf8(&text[..count])?;
         let (kind, told) = fault_of_front(count);
-        let status = Status::Refused { kind, line: 1 };
-        assert_eq!(rt; outcome.status, status, "at {count} bytes");
-        assert!(rt; outcome.out.is_empty(), "at {count} bytes");
-        assert_eq!(rt; outcome.err.as_slice(), told.as_bytes(), "at {count} bytes");
+        assert_text(
+            &rt,
+            rt.alloc(),
+            front,
+            &(Status::Refused { kind, line: 1 }, "", told),
+        )?;
     }
     Ok(())
 }

@@ -1,6 +1,6 @@
 //! Whole texts with objectives, with all solutions, under limits and cut into parts.
 
-use crate::tests::assert_calls;
+use crate::calls::assert_calls;
 use std::test::Fail;
 
 /// Two numbers whose product is given.

@@ -1,7 +1,7 @@
 //! Whole texts and their answers: declarations, annotations, comments and small constraints.
 
-use crate::Status;
-use crate::tests::{assert_answers, run_text};
+use crate::calls::{assert_answers, assert_text};
+use solver_top::Status;
 use std::alloc::{AllocError, Global};
 use std::test::Fail;
 
@@ -152,17 +152,13 @@ fn nested(alloc: Global, pairs: usize) -> Result<String, AllocError> {
 
 #[test]
 fn sixty_four_pairs_of_brackets_are_taken_and_one_more_is_not(rt: HostRuntime) -> Result<(), Fail> {
-    let text = nested(rt.alloc(), 64)?;
-    let outcome = run_text(&rt, rt.alloc(), text.as_bytes())?;
-    assert_eq!(rt; outcome.status, Status::Answered);
-    assert_eq!(rt; outcome.out.as_slice(), b"----------\n".as_slice());
-    let text = nested(rt.alloc(), 65)?;
-    let outcome = run_text(&rt, rt.alloc(), text.as_bytes())?;
-    assert_eq!(rt; outcome.status, Status::Refused { kind: 2, line: 1 });
-    assert!(rt; outcome.out.is_empty());
-    assert_eq!(rt;
-        outcome.err.as_slice(),
-        b"refused 2 Syntax line 1\n".as_slice()
-    );
+    let refused = Status::Refused { kind: 2, line: 1 };
+    for (pairs, ended) in [
+        (64, (Status::Answered, "----------\n", "")),
+        (65, (refused, "", "refused 2 Syntax line 1\n")),
+    ] {
+        let text = nested(rt.alloc(), pairs)?;
+        assert_text(&rt, rt.alloc(), &text, &ended)?;
+    }
     Ok(())
 }

@@ -1,6 +1,6 @@
 //! Each constraint on integers: a text with its least solution, and one with none.
 
-use crate::tests::assert_answers;
+use crate::calls::assert_answers;
 use std::test::Fail;
 
 /// Comparisons of two integers: a text with its least solution, then one with none, for each name.

@@ -1,6 +1,6 @@
 //! Each constraint on booleans: a text with its least solution, and one with none.
 
-use crate::tests::assert_answers;
+use crate::calls::assert_answers;
 use std::test::Fail;
 
 /// Booleans: a text with its least solution, then one with none, for each name.

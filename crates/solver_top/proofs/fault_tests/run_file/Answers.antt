@@ -1,6 +1,0 @@
-use Rattle.std.proofs.Common.{rules}
-use Rattle.solver_top.proofs.NamedFile.{can_open_file}
-use Rattle.solver_top.proofs.fault_tests.run_file.Goals as goal
-
-pub solve_main-status-requires : goal.solve_main-status-requires
-solve_main-status-requires g c = (search rules, (search rules, (search rules, can_open_file _ _ (search rules) (search rules))))

@@ -118,6 +118,7 @@ impl Constants {
     }
 
     /// Keeps the first `count` numbers, and no row, since the constants of those that were kept may be among the others.
+    #[tactic(auto, using(crate::proofs::FoundLaws::finds_front, crate::proofs::CountedLaws::none_counted))]
     pub fn truncate(&mut self, count: usize)
         ensures { self.new ≡ take count self.old }
     {

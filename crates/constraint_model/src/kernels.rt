@@ -81,7 +81,6 @@ fn add_terms(found: &mut Constants, terms: &[Term]) -> Result<(), AllocError>
 }
 
 /// Adds those of the entries of an array. One that was counted before is passed over, since its constants are all there.
-#[tactic(auto, using(crate::proofs::ConstantLaws::front_laws))]
 fn add_row(found: &mut Constants, row: &SharedList<Term>) -> Result<(), AllocError>
     ensures kept { OnErr result (IsFront found.old found.new) }
     ensures added { OnOk result (found.new ≡ fold add_once found.old (flat_map constant_of row.now)) }

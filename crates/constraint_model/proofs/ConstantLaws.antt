@@ -59,7 +59,7 @@ once_front xs n = by (list_any (int_eq n) xs)
     by true = front_same xs xs refl
     by false = take_at xs (n ∷ []) (length xs) refl
 
-fold_front : (xs ns : List ℤ) → IsFront xs (fold add_once xs ns)
+pub fold_front : (xs ns : List ℤ) → IsFront xs (fold add_once xs ns)
 fold_front xs [] = front_same xs xs refl
 fold_front xs (n ∷ ns) = front_through xs (add_once xs n) (fold add_once (add_once xs n) ns) (once_front xs n) (fold_front (add_once xs n) ns)
 

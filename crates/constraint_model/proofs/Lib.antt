@@ -1,4 +1,5 @@
 pub mod ConstantLaws
+pub mod CountedLaws
 pub mod Finds
 pub mod FitLaws
 pub mod FoundLaws

@@ -4,7 +4,11 @@ ghost use Rattle.std.specs.Prelude.{◌≡◌, ◌≤◌, [], take, length, IsTr
 ghost use Rattle.std.specs.List.{position_or_len};
 ghost use Rattle.std.specs.Ordering.{int_eq};
 ghost use Rattle.constraint_model.specs.Fits.{add_once};
+ghost use Rattle.constraint_model.specs.Found.{HasConstants};
 
+use crate::counted_rows::CountedRows;
+use crate::model::Term;
+use shared_list::SharedList;
 use std::alloc::{AllocError, Global};
 use std::collections::BTreeMap;
 use std::marker::Model;
@@ -17,17 +21,19 @@ pub struct Constants {
     numbers: Vec<i64>,
     /// The place of each. A number that was taken out again may still stand here.
     places: BTreeMap<i64, usize>,
+    /// Long rows of terms whose constants are all there, so that they needn't be looked up again.
+    counted: CountedRows,
 }
 
 impl Model for Constants {
     ghost use Rattle.std.specs.Prelude.{List, ℤ};
-    ghost use Rattle.constraint_model.specs.Found.{Finds};
+    ghost use Rattle.constraint_model.specs.Found.{AreConstants};
 
     ghost Value = { List ℤ };
 
     ghost view = { λ c. c.numbers.items };
 
-    ghost invariant = { λ c. Finds c.places c.numbers.items };
+    ghost invariant = { λ c. AreConstants c.places c.numbers.items c.counted };
 }
 
 /// Whether a number stands at a place.
@@ -45,6 +51,7 @@ impl Constants {
         Constants {
             numbers: Vec::new(alloc),
             places: BTreeMap::new(alloc),
+            counted: CountedRows::new(alloc),
         }
     }
 
@@ -91,10 +98,31 @@ impl Constants {
         Ok(())
     }
 
-    /// Keeps the first `count` numbers.
+    /// Whether this is a row that was kept.
+    pub(crate) fn has_counted(&self, row: &SharedList<Term>) -> bool
+        ensures { IsTrue result → HasConstants self.now row.now }
+    {
+        self.counted.has(row)
+    }
+
+    /// Keeps a row whose constants are all there, where it is long, has another owner and no row of its mark is kept.
+    /// Contracts see the same numbers.
+    pub(crate) fn keep_row(&mut self, row: &SharedList<Term>) -> Result<(), AllocError>
+        requires { HasConstants self.old row.now }
+        ensures { self.new ≡ self.old }
+    {
+        match row.mark_if_shared() {
+            Some(mark) if !self.counted.has_mark(mark) => self.counted.add(mark, row),
+            _ => Ok(()),
+        }
+    }
+
+    /// Keeps the first `count` numbers, and no row, since the constants of those that were kept may be among the others.
+    #[tactic(auto, using(crate::proofs::FoundLaws::finds_front, crate::proofs::CountedLaws::none_counted))]
     pub fn truncate(&mut self, count: usize)
         ensures { self.new ≡ take count self.old }
     {
+        self.counted.clear();
         self.numbers.truncate(count);
     }
 }

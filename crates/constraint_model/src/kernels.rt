@@ -6,6 +6,7 @@ ghost use Rattle.constraint_model.specs.Fits.{IsFront, add_once, constants_in, c
 use crate::constant_set::Constants;
 use crate::model::{Constraint, Operand, Term};
 use crate::table::{ConstraintName, Letter};
+use shared_list::SharedList;
 use std::alloc::AllocError;
 
 /// How many propagators a constraint is run as.
@@ -69,7 +70,7 @@ pub fn add_constant(found: &mut Constants, term: Term) -> Result<(), AllocError>
 
 /// Adds those of these terms.
 #[tactic(auto, using(crate::proofs::ConstantLaws::front_laws))]
-fn add_row(found: &mut Constants, terms: &[Term]) -> Result<(), AllocError>
+fn add_terms(found: &mut Constants, terms: &[Term]) -> Result<(), AllocError>
     ensures kept { OnErr result (IsFront found.old found.new) }
     ensures added { OnOk result (found.new ≡ fold add_once found.old (flat_map constant_of terms.now)) }
 {
@@ -77,6 +78,18 @@ fn add_row(found: &mut Constants, terms: &[Term]) -> Result<(), AllocError>
         add_constant(found, *term)?;
     }
     Ok(())
+}
+
+/// Adds those of the entries of an array. One that was counted before is passed over, since its constants are all there.
+fn add_row(found: &mut Constants, row: &SharedList<Term>) -> Result<(), AllocError>
+    ensures kept { OnErr result (IsFront found.old found.new) }
+    ensures added { OnOk result (found.new ≡ fold add_once found.old (flat_map constant_of row.now)) }
+{
+    if found.has_counted(row) {
+        return Ok(());
+    }
+    add_terms(found, row.as_slice())?;
+    found.keep_row(row)
 }
 
 /// Adds those of an argument, where variables may stand there.
@@ -90,7 +103,7 @@ fn add_argument(found: &mut Constants, letter: Letter, operand: &Operand) -> Res
     }
     match operand {
         Operand::One(term) => add_constant(found, *term),
-        Operand::Row(terms) => add_row(found, terms.as_slice()),
+        Operand::Row(terms) => add_row(found, terms),
         Operand::Set(_) => Ok(()),
     }
 }

@@ -3,6 +3,7 @@
 #![tactic(auto)]
 
 mod constant_set;
+mod counted_rows;
 mod entries;
 mod kernels;
 pub mod meanings;

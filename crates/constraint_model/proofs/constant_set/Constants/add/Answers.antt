@@ -1,6 +1,7 @@
 use Rattle.std.proofs.Common.{◌≤◌, length, ap, sym, ◌∙◌, w64, arith}
 use Rattle.std.proofs.lemmas.Int.{to_z-of_z}
 use Rattle.constraint_model.proofs.FoundLaws.{finds_stale, finds_more, lacks_it, kept_once, put_last}
+use Rattle.constraint_model.proofs.CountedLaws.{rows_more}
 use Rattle.constraint_model.proofs.constant_set.Constants.add.Goals as goal
 
 pub returns-then-place_of-count-clause-added : goal.returns-then-place_of-count-clause-added
@@ -11,18 +12,24 @@ pub invariant_of-self-in_err-push : goal.invariant_of-self-in_err-push
 invariant_of-self-in_err-push c =
     let items = c.self.inside.numbers.items in
     let past : c.len-count.result ≤ c.place_of.result = omega (arith, c.if-place_of-count.false) in
-    rw c.in_err-push.ensures.items (finds_stale c.self.inside.places c.insert.new.self items _ _ c.self.invariant
-    (lacks_it items c.args.self.now _ c.place_of.result c.len-count.result c.self.view_is c.place_of.ensures.place c.len-count.ensures past)
-    c.in_ok-insert.ensures.updates)
+    rw c.in_err-push.ensures.items (record {
+      found = finds_stale c.self.inside.places c.insert.new.self items _ _ c.self.invariant.found
+          (lacks_it items c.args.self.now _ c.place_of.result c.len-count.result c.self.view_is c.place_of.ensures.place c.len-count.ensures past)
+          c.in_ok-insert.ensures.updates;
+      counted = c.self.invariant.counted;
+    })
 
 pub invariant_of-self-2 : goal.invariant_of-self-2
 invariant_of-self-2 c =
     let items = c.self.inside.numbers.items in
     let past : c.len-count.result ≤ c.place_of.result = omega (arith, c.if-place_of-count.false) in
-    rw c.in_ok-push.ensures.items (finds_more c.self.inside.places c.insert.new.self items _ c.len-count.result
-    (c.len-count.ensures ∙ ap length (sym c.self.view_is)) c.self.invariant
-    (lacks_it items c.args.self.now _ c.place_of.result c.len-count.result c.self.view_is c.place_of.ensures.place c.len-count.ensures past)
-    c.in_ok-insert.ensures.updates)
+    rw c.in_ok-push.ensures.items (record {
+      found = finds_more c.self.inside.places c.insert.new.self items _ c.len-count.result
+          (c.len-count.ensures ∙ ap length (sym c.self.view_is)) c.self.invariant.found
+          (lacks_it items c.args.self.now _ c.place_of.result c.len-count.result c.self.view_is c.place_of.ensures.place c.len-count.ensures past)
+          c.in_ok-insert.ensures.updates;
+      counted = rows_more items _ c.self.inside.counted c.self.invariant.counted;
+    })
 
 pub returns-clause-added : goal.returns-clause-added
 returns-clause-added c =

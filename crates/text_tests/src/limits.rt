@@ -172,54 +172,33 @@ fn conjunctions(alloc: Global) -> Result<String, AllocError> {
     Ok(text)
 }
 
-/// What a text has as much of as it may have.
-#[derive(Clone, Copy, Debug)]
-enum Full {
-    /// 65536 variables.
-    Variables,
-    /// 131072 constants.
-    Constants,
-    /// 1048576 propagators.
-    Propagators,
-}
-
-/// A text of this kind, without its end.
-fn full(alloc: Global, kind: Full) -> Result<String, AllocError> {
-    match kind {
-        Full::Variables => declarations(alloc),
-        Full::Constants => element_lines(alloc),
-        Full::Propagators => conjunctions(alloc),
-    }
-}
-
-/// The faults of a full text: with no more, and with one item more.
-fn faults_of(
-    alloc: Global,
-    front: &str,
-    more: &str,
-) -> Result<[Option<(u8, usize)>; 2], AllocError> {
-    Ok([
-        fault_of(alloc, front, "solve satisfy;")?,
-        fault_of(alloc, front, more)?,
-    ])
+/// Whether a text has no fault, and with one item more too many of something.
+fn is_full(alloc: Global, front: &str, more: &str) -> Result<bool, AllocError> {
+    let fault = fault_of(alloc, front, "solve satisfy;")?;
+    let passed = fault_of(alloc, front, more)?;
+    Ok(fault == None && passed == Some((9, front.len())))
 }
 
 #[test]
-fn with_one_item_more_a_limit_is_passed(rt: HostRuntime) -> Result<(), Fail> {
-    for (kind, more) in [
-        (Full::Variables, "var 1..1: b; solve satisfy;"),
-        (
-            Full::Constants,
-            "constraint int_le(1,131074); solve satisfy;",
-        ),
-        (
-            Full::Propagators,
-            "constraint array_bool_and(a,b); solve satisfy;",
-        ),
-    ] {
-        let front = full(rt.alloc(), kind)?;
-        let faults = faults_of(rt.alloc(), front.as_str(), more)?;
-        assert_eq!(rt; faults, [None, Some((9, front.len()))], "at {kind:?}");
-    }
+fn a_text_declares_65536_variables_and_no_more(rt: HostRuntime) -> Result<(), Fail> {
+    let front = declarations(rt.alloc())?;
+    let more = "var 1..1: b; solve satisfy;";
+    assert!(rt; is_full(rt.alloc(), front.as_str(), more)?);
+    Ok(())
+}
+
+#[test]
+fn a_text_has_131072_constants_and_no_more(rt: HostRuntime) -> Result<(), Fail> {
+    let front = element_lines(rt.alloc())?;
+    let more = "constraint int_le(1,131074); solve satisfy;";
+    assert!(rt; is_full(rt.alloc(), front.as_str(), more)?);
+    Ok(())
+}
+
+#[test]
+fn constraints_are_run_as_1048576_propagators_and_no_more(rt: HostRuntime) -> Result<(), Fail> {
+    let front = conjunctions(rt.alloc())?;
+    let more = "constraint array_bool_and(a,b); solve satisfy;";
+    assert!(rt; is_full(rt.alloc(), front.as_str(), more)?);
     Ok(())
 }

@@ -225,7 +225,7 @@ fn kernels_of_one_list_share_it(rt: HostRuntime) -> Result<(), Fail> {
     let mut shared: usize = 0;
     for part in parts.of_kernels.as_slice() {
         if part.list == 1 {
-            assert!(rt; part.own <= 2);
+            assert!(rt; part.before <= 2);
             shared = shared.saturating_add(1);
         } else {
             assert_eq!(rt; part.list, 0);

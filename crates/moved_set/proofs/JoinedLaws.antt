@@ -1,9 +1,9 @@
 -- Masks of kernels in two parts.
-use Rattle.std.proofs.Common.{◌≡◌, ℕ, ◌+◌, ◌-◌, ◌*◌, ◌/◌, ◌<◌, ◌≤◌, ◌==◌, Bool, ◌||◌, List, [], ◌∷◌, ◌++◌, length, get_or, take, refl, sym, ◌∙◌, ap, subst, ⊎_elim, arith}
+use Rattle.std.proofs.Common.{◌≡◌, ℕ, ◌+◌, ◌-◌, ◌*◌, ◌/◌, ◌<◌, ◌≤◌, ◌==◌, Bool, ◌||◌, List, [], ◌∷◌, ◌++◌, length, get_or, refl, sym, ◌∙◌, ap, subst, ⊎_elim, arith}
 use Rattle.std.specs.List.{list_any}
 use Rattle.std.specs.Prelude.{All, Contains, IsTrue, ◌↔◌}
 use Rattle.std.proofs.lemmas.Bool.{cases_lt}
-use Rattle.std.proofs.lemmas.List.{length_push, length-append, get_or-take, get_or_default, get_or_append_left, get_or-append_right, length-take-le, get_or_push}
+use Rattle.std.proofs.lemmas.List.{length_push, length-append, get_or_default, get_or_append_left, get_or-append_right, get_or_push}
 use Rattle.std.proofs.lemmas.List.FromFn.{length-map-range_with_len, get_or-map-range_with_len}
 use Rattle.std.proofs.lemmas.List.Folds.{list_any-append}
 use Rattle.std.proofs.lemmas.List.Elements.{All-append, Contains-get_or}
@@ -15,10 +15,10 @@ use Rattle.moved_set.specs.declared.parts.Part.{Part}
 use Rattle.moved_set.specs.Words.{hits, names}
 use Rattle.moved_set.specs.Building.{AreGroupsOf, AreNamed, AreWithin}
 use Rattle.moved_set.specs.Joined.{AreJoined, joined}
-use Rattle.moved_set.specs.Parts.{AreLists, AreParts, list_at, own_at, part_at}
+use Rattle.moved_set.specs.Parts.{AreLists, AreParts, list_at, own_at, part_at, vars_at}
 use Rattle.moved_set.specs.Questions.{AreBelow, NamesOne}
 use Rattle.moved_set.proofs.GroupLaws.{or_assoc, or_cases, or_left, or_right}
-use Rattle.moved_set.proofs.PartLaws.{vars_are}
+use Rattle.moved_set.proofs.PartLaws.{any_in_part, own_below, vars_are}
 
 pub masks_push : (keys : ℕ → List ℕ) (i : ℕ) (vars : List ℕ) (groups : List (List Mask)) (group : List Mask) → keys i ≡ vars
     → ((v : ℕ) → names group v ≡ list_any (λ w. v == w) vars) → AreGroupsOf keys i groups → AreGroupsOf keys (i + 1) (groups ++ group ∷ [])
@@ -45,7 +45,7 @@ joined_at own lists parts j h = get_or-map-range_with_len (λ i. get_or own i []
 
 -- the joined masks are those of the kernels' variables
 pub joined_named : (kernels : List Kernel) (lists : List (List ℕ)) (parts : List Part) (own listed : List (List Mask)) → AreParts kernels (length kernels) lists parts
-    → AreGroupsOf (own_at kernels parts) (length kernels) own → AreGroupsOf (list_at lists) (length lists) listed → AreNamed kernels (joined own listed parts)
+    → AreGroupsOf (own_at kernels lists parts) (length kernels) own → AreGroupsOf (list_at lists) (length lists) listed → AreNamed kernels (joined own listed parts)
 joined_named kernels lists parts own listed are own_are listed_are =
     let len = own_are.same_length in
     record {
@@ -54,12 +54,11 @@ joined_named kernels lists parts own listed are own_are listed_are =
           let part = are.each j h in
           let l : ℕ = (part_at parts j).list in
           let here : get_or (joined own listed parts) j [] ≡ get_or own j [] ++ get_or listed l [] = joined_at own listed parts j (omega arith) in
-          let vars : own_at kernels parts j ++ list_at lists l ≡ vars_of (get_or kernels j d) = sym part.ends.parted ∙ vars_are kernels j d h in
           ap (λ (g : List Mask). names g v) here ∙ list_any-append (hits v) (get_or own j []) (get_or listed l [])
           ∙ ap (λ (b : Bool). b || names (get_or listed l []) v) (own_are.each j v h)
-          ∙ ap (λ (b : Bool). list_any (λ w. v == w) (own_at kernels parts j) || b) (listed_are.each l v part.there)
-          ∙ sym (list_any-append (λ w. v == w) (own_at kernels parts j) (list_at lists l))
-          ∙ ap (λ (vs : List ℕ). list_any (λ w. v == w) vs) vars;
+          ∙ ap (λ (b : Bool). list_any (λ w. v == w) (own_at kernels lists parts j) || b) (listed_are.each l v part.there)
+          ∙ any_in_part (λ w. v == w) (vars_at kernels j) lists (part_at parts j) part
+          ∙ ap (λ (vs : List ℕ). list_any (λ w. v == w) vs) (vars_are kernels j d h);
     }
 
 pub joined_within : (words : ℕ) (own listed : List (List Mask)) (parts : List Part) → AreJoined own listed parts → All (AreWithin words) own → All (AreWithin words) listed
@@ -72,7 +71,7 @@ joined_within words own listed parts are of_own of_lists j d h =
     subst (AreWithin words) (sym here) (All-append (λ (m : Mask). m.place < words) (get_or own j []) (get_or listed l []) (of_own j [] inside) (of_lists l [] (are.there j inside)))
 
 pub are_joined : (kernels : List Kernel) (lists : List (List ℕ)) (parts : List Part) (own listed : List (List Mask)) → AreParts kernels (length kernels) lists parts
-    → AreGroupsOf (own_at kernels parts) (length kernels) own → AreGroupsOf (list_at lists) (length lists) listed → AreJoined own listed parts
+    → AreGroupsOf (own_at kernels lists parts) (length kernels) own → AreGroupsOf (list_at lists) (length lists) listed → AreJoined own listed parts
 are_joined kernels lists parts own listed are own_are listed_are =
     let len = own_are.same_length in
     let listed_len = listed_are.same_length in
@@ -82,12 +81,11 @@ are_joined kernels lists parts own listed are own_are listed_are =
     }
 
 -- the own variables of a kernel have words
-pub own_below : (vars : List ℕ) (own limit : ℕ) → AreVariables limit vars → own ≤ length vars → All (λ v. v < limit) (take own vars)
-own_below vars own limit are within k d h =
-    let len : length (take own vars) ≡ own = length-take-le own vars within in
-    let is : get_or (take own vars) k d ≡ get_or vars k 0 = get_or-take own vars k d (omega arith) ∙ get_or_default vars k d 0 (omega arith) in
-    let below = are.each k (omega arith) in
-    omega arith
+pub owns_below : (limit j : ℕ) (kernels : List Kernel) (lists : List (List ℕ)) (parts : List Part) → j < length kernels
+    → ((k : Kernel) → AreVariables limit (vars_of (get_or kernels j k))) → AreParts kernels (length kernels) lists parts → All (λ v. v < limit) (own_at kernels lists parts j)
+owns_below limit j [] lists parts h below are = absurd (omega arith)
+owns_below limit j (k ∷ ks) lists parts h below are =
+    own_below limit (vars_at (k ∷ ks) j) lists (part_at parts j) (subst (AreVariables limit) (sym (vars_are (k ∷ ks) j k h)) (below k)) (are.each j h)
 
 -- the lists' variables have words
 pub lists_below : (count words : ℕ) (lists : List (List ℕ)) → words ≡ (count + 63) / 64 → AreLists count lists → All (All (λ v. v < 64 * words)) lists

@@ -40,7 +40,7 @@ users_lent lent parts to lent_count count rows is len count_is are =
 
 -- the rows of the kernels are those of the sets of their variables
 pub rows_named : (kernels : List Kernel) (lists : List (List ℕ)) (parts : List Part) (naming : Naming) (rows : Rows) → IsNaming kernels naming → AreParts kernels (length kernels) lists parts
-    → AreRowsTo (own_at kernels parts) (length kernels) naming.count rows.own.items
+    → AreRowsTo (own_at kernels lists parts) (length kernels) naming.count rows.own.items
     → AreRowsTo (list_at lists) (length lists) naming.count rows.lists_of.items
     → AreRowsTo (λ j. (part_at parts j).list ∷ []) (length kernels) (length lists) rows.users.items
     → AreRows naming rows

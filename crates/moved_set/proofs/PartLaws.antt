@@ -1,14 +1,16 @@
 -- Kernels' variables in two parts.
-use Rattle.std.proofs.Common.{◌≡◌, ◌≢◌, ℕ, zero, suc, ◌+◌, ◌<◌, ◌≤◌, List, [], ◌∷◌, ◌++◌, length, get_or, take, refl, sym, ◌∙◌, ap, subst, ⊎_elim, arith, inl, inr, ◌⊎◌}
-use Rattle.std.specs.Prelude.{Contains}
+use Rattle.std.proofs.Common.{◌≡◌, ◌≢◌, ℕ, zero, suc, ◌+◌, ◌-◌, ◌<◌, ◌≤◌, List, [], ◌∷◌, ◌++◌, Bool, true, false, ◌||◌, length, get_or, take, drop, slice_range, refl, sym, ◌∙◌, ap, subst, ⊎_elim, arith, inl, inr, ◌⊎◌}
+use Rattle.std.specs.List.{list_any}
+use Rattle.std.specs.Prelude.{All, Contains}
 use Rattle.std.proofs.lemmas.Bool.{cases_eq, cases_lt}
-use Rattle.std.proofs.lemmas.List.{length_push, get_or-map, get_or_append_left, get_or_push, get_or_past, get_or_default, take_all, append-nil}
-use Rattle.std.proofs.lemmas.List.Elements.{Contains-append_left, Contains-append_right, Contains-append_cases}
+use Rattle.std.proofs.lemmas.List.{length_push, length-drop, get_or-map, get_or-drop, get_or_append_left, get_or_push, get_or_past, get_or_default, take_more}
+use Rattle.std.proofs.lemmas.List.Elements.{Contains-get_or, Contains-append_left, Contains-append_right, Contains-append_cases}
+use Rattle.std.proofs.lemmas.List.Folds.{list_any-append}
 use Rattle.guarded_tell.specs.declared.kernel.Kernel.{Kernel}
 use Rattle.guarded_tell.specs.Words.{AreVariables}
 use Rattle.guarded_tell.specs.Kernels.{vars_of}
 use Rattle.moved_set.specs.declared.parts.Part.{Part}
-use Rattle.moved_set.specs.Parts.{vars_at, list_at, part_at, EndsWith, IsPart, AreLists, AreParts, Grows, GrowsBy}
+use Rattle.moved_set.specs.Parts.{vars_at, list_at, part_at, HasList, IsPart, own_of, AreLists, AreParts, GrowsBy}
 
 -- the variables of the kernel at a place, as the code lends it
 pub vars_lent : (kernels : List Kernel) (j : ℕ) (k : Kernel) → j < length kernels → k ≡ get_or kernels j k → vars_at kernels j ≡ vars_of k
@@ -23,18 +25,51 @@ below_all count vars v are some =
     let is : get_or vars some.0 0 ≡ v = get_or_default vars some.0 0 v some.1 ∙ some.2 in
     omega arith
 
+-- ---- some of the variables
+
+pub range_more : (vars : List ℕ) (from place : ℕ) → from ≤ place → place < length vars → slice_range vars from (place + 1) ≡ slice_range vars from place ++ get_or vars place 0 ∷ []
+range_more vars from place le h =
+    let rest : List ℕ = drop from vars in
+    let len : length rest ≡ length vars - from = length-drop from vars in
+    let count : place + 1 - from ≡ place - from + 1 = omega arith in
+    let here : from + (place - from) ≡ place = omega arith in
+    let one : get_or rest (place - from) 0 ≡ get_or vars place 0 = get_or-drop from vars (place - from) 0 ∙ ap (λ (n : ℕ). get_or vars n 0) here in
+    ap (λ (n : ℕ). take n rest) count ∙ take_more rest (place - from) 0 (omega arith) ∙ ap (λ (v : ℕ). take (place - from) rest ++ v ∷ []) one
+
+-- ---- a list among variables
+
+-- a variable of the list is one of the variables
+in_list : (vars : List ℕ) (before : ℕ) (list : List ℕ) (v : ℕ) → HasList vars before list → Contains list v → Contains vars v
+in_list vars before list v has c =
+    let front : List ℕ = take before vars in
+    subst (λ (xs : List ℕ). Contains xs v) (sym has.parted)
+    (Contains-append_left (front ++ list) (drop (before + length list) vars) v (Contains-append_right front list v c))
+
+-- the list of a part lies among the kernel's variables, as the code lends the three
+pub part_within : (kernels : List Kernel) (j : ℕ) (k : Kernel) (lists : List (List ℕ)) (parts : List Part) (part : Part) (list : List ℕ) → j < length kernels → AreParts kernels (length kernels) lists parts
+    → k ≡ get_or kernels j k → part ≡ get_or parts j part → list ≡ get_or lists part.list list → part.before + length list ≤ length (vars_of k)
+part_within kernels j k lists parts part list h are kernel_is part_is list_is =
+    let none : Part = record { before = 0; list = 0 } in
+    let len = are.same_length in
+    let at : part ≡ part_at parts j = part_is ∙ get_or_default parts j part none (omega arith) in
+    let is : IsPart (vars_of k) lists part =
+    subst (λ (vs : List ℕ). IsPart vs lists part) (vars_lent kernels j k h kernel_is) (subst (IsPart (vars_at kernels j) lists) (sym at) (are.each j h)) in
+    let same = ap length (list_is ∙ get_or_default lists part.list list [] is.there) in
+    let within = is.has.within in
+    omega arith
+
 -- ---- lists that grow
 
 lists_kept : (vars : List ℕ) (old new : List (List ℕ)) (l : ℕ) → GrowsBy vars old new → l < length old → (l < length new) × (list_at new l ≡ list_at old l)
 lists_kept vars old new l (inl same) h = (subst (λ (xs : List (List ℕ)). l < length xs) (sym same) h, ap (λ (xs : List (List ℕ)). list_at xs l) same)
-lists_kept vars old new l (inr (own, list, ends, is)) h =
+lists_kept vars old new l (inr (before, list, has, is)) h =
     let len = length_push old list in
     let more : length new ≡ length old + 1 = ap length is ∙ len in
     (omega arith, ap (λ (xs : List (List ℕ)). list_at xs l) is ∙ get_or_append_left old (list ∷ []) [] l h)
 
 pub lists_grown : (count : ℕ) (vars : List ℕ) (old new : List (List ℕ)) → AreVariables count vars → AreLists count old → GrowsBy vars old new → AreLists count new
 lists_grown count vars old new below are (inl same) = subst (AreLists count) (sym same) are
-lists_grown count vars old new below are (inr (own, list, ends, is)) =
+lists_grown count vars old new below are (inr (front, list, has, is)) =
     subst (AreLists count) (sym is) (record {
       some = let len = length_push old list in omega arith;
       empty = get_or_append_left old (list ∷ []) [] 0 are.some ∙ are.empty;
@@ -48,7 +83,7 @@ lists_grown count vars old new below are (inr (own, list, ends, is)) =
           λ e.
           let at : list_at (old ++ list ∷ []) l ≡ list = get_or_push old list [] l (sym e) in
           let inside : Contains list v = subst (λ (xs : List ℕ). Contains xs v) at c in
-          below_all count vars v below (subst (λ (xs : List ℕ). Contains xs v) (sym ends.parted) (Contains-append_right (take own vars) list v inside)) in
+          below_all count vars v below (in_list vars front list v has inside) in
           let past : l ≢ length old → v < count =
           λ ne.
           let none : list_at (old ++ list ∷ []) l ≡ [] = get_or_past (old ++ list ∷ []) l [] (omega arith) in
@@ -58,38 +93,20 @@ lists_grown count vars old new below are (inr (own, list, ends, is)) =
           ⊎_elim before after (cases_lt l (length old));
     })
 
--- a list that is put behind the others, or isn't, with the variables that end with it
-pub grows_by : (vars : List ℕ) (own : ℕ) (list : List ℕ) (old new : List (List ℕ)) → EndsWith vars own list → Grows list old new → GrowsBy vars old new
-grows_by vars own list old new ends (inl same) = inl same
-grows_by vars own list old new ends (inr is) = inr (own, list, ends, is)
-
 -- ---- parts
-
--- all variables of the kernel's own
-pub whole_part : (vars : List ℕ) (lists : List (List ℕ)) (own : ℕ) → own ≡ length vars → 0 < length lists → list_at lists 0 ≡ [] → IsPart vars lists (record { own = own; list = 0 })
-whole_part vars lists own len some empty = record {
-  there = some;
-  ends = record {
-    within = omega arith;
-    parted = sym (ap (λ (xs : List ℕ). take own vars ++ xs) empty ∙ append-nil (take own vars) ∙ take_all own vars (omega arith));
-  };
-}
 
 pub part_grown : (vars more : List ℕ) (old new : List (List ℕ)) (part : Part) → GrowsBy more old new → IsPart vars old part → IsPart vars new part
 part_grown vars more old new part grows is =
     let kept = lists_kept more old new part.list grows is.there in
     record {
       there = kept.0;
-      ends = subst (EndsWith vars part.own) (sym kept.1) is.ends;
+      has = subst (HasList vars part.before) (sym kept.1) is.has;
     }
-
-pub listed_part : (vars list : List ℕ) (lists : List (List ℕ)) (own place : ℕ) → EndsWith vars own list → place < length lists → list_at lists place ≡ list → IsPart vars lists (record { own = own; list = place })
-listed_part vars list lists own place ends there is = record { there = there; ends = subst (EndsWith vars own) (sym is) ends }
 
 pub parts_more : (kernels : List Kernel) (j : ℕ) (k : Kernel) (old new : List (List ℕ)) (parts : List Part) (part : Part) → j < length kernels → k ≡ get_or kernels j k
     → GrowsBy (vars_of k) old new → IsPart (vars_of k) new part → AreParts kernels j old parts → AreParts kernels (j + 1) new (parts ++ part ∷ [])
 parts_more kernels j k old new parts part h is grows one are =
-    let none : Part = record { own = 0; list = 0 } in
+    let none : Part = record { before = 0; list = 0 } in
     record {
       same_length = length_push parts part ∙ ap (λ (n : ℕ). n + 1) are.same_length;
       each = λ i lt.
@@ -123,11 +140,49 @@ lists_first count lists is = subst (AreLists count) (sym is) (record {
 
 -- a kernel names a variable where it is an own one or one of the list
 pub named_in_part : (vars : List ℕ) (lists : List (List ℕ)) (part : Part) (v : ℕ) → IsPart vars lists part
-    → (Contains vars v → Contains (take part.own vars) v ⊎ Contains (list_at lists part.list) v) × (Contains (take part.own vars) v ⊎ Contains (list_at lists part.list) v → Contains vars v)
-named_in_part vars lists part v is = (
-  λ c. Contains-append_cases (take part.own vars) (list_at lists part.list) v (subst (λ (xs : List ℕ). Contains xs v) is.ends.parted c),
-  λ s. subst (λ (xs : List ℕ). Contains xs v) (sym is.ends.parted) (elim s [
-    | inl own ↦ Contains-append_left (take part.own vars) (list_at lists part.list) v own
-    | inr listed ↦ Contains-append_right (take part.own vars) (list_at lists part.list) v listed
-  ]),
-)
+    → (Contains vars v → Contains (own_of vars lists part) v ⊎ Contains (list_at lists part.list) v) × (Contains (own_of vars lists part) v ⊎ Contains (list_at lists part.list) v → Contains vars v)
+named_in_part vars lists part v is =
+    let list : List ℕ = list_at lists part.list in
+    let front : List ℕ = take part.before vars in
+    let back : List ℕ = drop (part.before + length list) vars in (
+      λ c. elim (Contains-append_cases (front ++ list) back v (subst (λ (xs : List ℕ). Contains xs v) is.has.parted c)) [
+        | inl first ↦ elim (Contains-append_cases front list v first) [
+          | inl own ↦ inl (Contains-append_left front back v own)
+          | inr listed ↦ inr listed
+        ]
+        | inr own ↦ inl (Contains-append_right front back v own)
+      ],
+      λ s. elim s [
+        | inl own ↦ subst (λ (xs : List ℕ). Contains xs v) (sym is.has.parted) (elim (Contains-append_cases front back v own) [
+          | inl first ↦ Contains-append_left (front ++ list) back v (Contains-append_left front list v first)
+          | inr last ↦ Contains-append_right (front ++ list) back v last
+        ])
+        | inr listed ↦ in_list vars part.before list v is.has listed
+      ],
+    )
+
+or_swapped : (a b c : Bool) → ((a || c) || b) ≡ ((a || b) || c)
+or_swapped true b c = refl
+or_swapped false true true = refl
+or_swapped false true false = refl
+or_swapped false false true = refl
+or_swapped false false false = refl
+
+-- the same, as tests
+pub any_in_part : (test : ℕ → Bool) (vars : List ℕ) (lists : List (List ℕ)) (part : Part) → IsPart vars lists part
+    → (list_any test (own_of vars lists part) || list_any test (list_at lists part.list)) ≡ list_any test vars
+any_in_part test vars lists part is =
+    let list : List ℕ = list_at lists part.list in
+    let front : List ℕ = take part.before vars in
+    let back : List ℕ = drop (part.before + length list) vars in
+    ap (λ (b : Bool). b || list_any test list) (list_any-append test front back)
+    ∙ or_swapped (list_any test front) (list_any test list) (list_any test back)
+    ∙ ap (λ (b : Bool). b || list_any test back) (sym (list_any-append test front list))
+    ∙ sym (list_any-append test (front ++ list) back) ∙ ap (list_any test) (sym is.has.parted)
+
+-- the own variables are some of the first ones, too
+pub own_below : (limit : ℕ) (vars : List ℕ) (lists : List (List ℕ)) (part : Part) → AreVariables limit vars → IsPart vars lists part → All (λ v. v < limit) (own_of vars lists part)
+own_below limit vars lists part are is k d h =
+    let own : List ℕ = own_of vars lists part in
+    let v : ℕ = get_or own k d in
+    below_all limit vars v are ((named_in_part vars lists part v is).1 (inl (Contains-get_or own k d h)))

@@ -1,5 +1,5 @@
--- Kernels' variables in two parts: some of the kernel's own, and behind them a list that it may have with others.
-use Rattle.std.specs.Prelude.{◌≡◌, ℕ, ◌<◌, ◌≤◌, ◌⊎◌, ◌++◌, List, [], ◌∷◌, length, map, take, slice_index_or, Contains}
+-- Kernels' variables in two parts: a list that a kernel may have with others, and those before and behind it, its own.
+use Rattle.std.specs.Prelude.{◌≡◌, ℕ, ◌<◌, ◌≤◌, ◌+◌, ◌⊎◌, ◌++◌, List, [], ◌∷◌, length, map, take, drop, slice_index_or, Contains}
 use Rattle.guarded_tell.specs.declared.kernel.Kernel.{Kernel}
 use Rattle.guarded_tell.specs.Kernels.{vars_of}
 use Rattle.moved_set.specs.declared.parts.Part.{Part}
@@ -14,17 +14,17 @@ list_at lists l = slice_index_or lists l []
 
 -- the part of the kernel at a place
 abbrev pub part_at : List Part → ℕ → Part
-part_at parts j = slice_index_or parts j (record { own = 0; list = 0 })
+part_at parts j = slice_index_or parts j (record { before = 0; list = 0 })
 
--- behind so many first variables stands the list, up to the end
-pub record EndsWith (vars : List ℕ) (own : ℕ) (list : List ℕ) : Type 0 where
-  pub within : own ≤ length vars
-  pub parted : vars ≡ take own vars ++ list
+-- behind so many first variables stands the list, and there may be others behind it
+pub record HasList (vars : List ℕ) (before : ℕ) (list : List ℕ) : Type 0 where
+  pub within : before + length list ≤ length vars
+  pub parted : vars ≡ take before vars ++ list ++ drop (before + length list) vars
 
--- behind so many first variables stands the list at the part's place
+-- among the variables stands the list at the part's place
 pub record IsPart (vars : List ℕ) (lists : List (List ℕ)) (part : Part) : Type 0 where
   pub there : part.list < length lists
-  pub ends : EndsWith vars part.own (list_at lists part.list)
+  pub has : HasList vars part.before (list_at lists part.list)
 
 -- the first list is empty, and all are of the first `count` variables
 pub record AreLists (count : ℕ) (lists : List (List ℕ)) : Type 0 where
@@ -37,9 +37,13 @@ pub record AreParts (kernels : List Kernel) (to : ℕ) (lists : List (List ℕ))
   pub same_length : length parts ≡ to
   pub each : (j : ℕ) → j < to → IsPart (vars_at kernels j) lists (part_at parts j)
 
+-- the variables before the part's list and those behind it
+abbrev pub own_of : List ℕ → List (List ℕ) → Part → List ℕ
+own_of vars lists part = take part.before vars ++ drop (part.before + length (list_at lists part.list)) vars
+
 -- the own variables of the kernel at a place
-abbrev pub own_at : List Kernel → List Part → ℕ → List ℕ
-own_at kernels parts j = take (part_at parts j).own (vars_at kernels j)
+abbrev pub own_at : List Kernel → List (List ℕ) → List Part → ℕ → List ℕ
+own_at kernels lists parts j = own_of (vars_at kernels j) lists (part_at parts j)
 
 -- ---- while they are built
 
@@ -47,6 +51,6 @@ own_at kernels parts j = take (part_at parts j).own (vars_at kernels j)
 abbrev pub Grows : List ℕ → List (List ℕ) → List (List ℕ) → Type 0
 Grows list old new = (new ≡ old) ⊎ (new ≡ old ++ list ∷ [])
 
--- a list that the variables end with is put behind the others, or they stay
+-- a list that stands among the variables is put behind the others, or they stay
 abbrev pub GrowsBy : List ℕ → List (List ℕ) → List (List ℕ) → Type 0
-GrowsBy vars old new = (new ≡ old) ⊎ ((own : ℕ) × (list : List ℕ) × EndsWith vars own list × (new ≡ old ++ list ∷ []))
+GrowsBy vars old new = (new ≡ old) ⊎ ((before : ℕ) × (list : List ℕ) × HasList vars before list × (new ≡ old ++ list ∷ []))

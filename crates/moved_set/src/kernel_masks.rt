@@ -1,15 +1,15 @@
-//! For each kernel the masks of its variables: those of its own, and those of the list that it ends with, which stand here
-//! once, however many kernels have the list.
+//! For each kernel the masks of its variables: those of its own, and those of its list, which stand here once, however many
+//! kernels have the list.
 
 ghost use Rattle.std.specs.Prelude.{◌≡◌, ◌<◌, ◌≤◌, ◌*◌, ◌++◌, [], ℕ, length, slice_index_or, All, IfOk};
 ghost use Rattle.moved_set.specs.Building.{AreGroupsOf, AreNamed, AreWithin, NamesBelow};
 ghost use Rattle.moved_set.specs.Joined.{AreJoined, joined};
-ghost use Rattle.moved_set.specs.Parts.{AreParts, list_at, own_at, part_at, vars_at};
+ghost use Rattle.moved_set.specs.Parts.{AreParts, list_at, own_at, part_at};
 
 use crate::build::add_vars;
 use crate::groups::Groups;
 use crate::mask::Mask;
-use crate::parts::{Part, Parts, own_vars};
+use crate::parts::{Part, Parts};
 use guarded_tell::Kernel;
 use interval::NoMemory;
 use shared_list::SharedList;
@@ -50,7 +50,7 @@ impl KernelMasks {
         ensures named { IfOk result (AreNamed kernels.now) }
         ensures within { IfOk result (λ masks. All (AreWithin words) masks) }
     {
-        let own = own_groups(alloc, kernels, parts.of_kernels.as_slice(), words)?;
+        let own = own_groups(alloc, kernels, &parts, words)?;
         let lists = list_groups(alloc, parts.lists.as_slice(), words)?;
         let Parts { of_kernels, .. } = parts;
         Ok(KernelMasks {
@@ -89,13 +89,12 @@ fn list_of(parts: &[Part], j: usize) -> usize
 fn own_groups(
     alloc: Global,
     kernels: &[Kernel],
-    parts: &[Part],
+    parts: &Parts,
     words: usize,
 ) -> Result<Groups, NoMemory>
     requires kernels { All (NamesBelow words) kernels.now }
-    requires length { length parts.now ≡ length kernels.now }
-    requires own { (j : ℕ) → j < length kernels.now → (part_at parts.now j).own ≤ length (vars_at kernels.now j) }
-    ensures masks { IfOk result (AreGroupsOf (own_at kernels.now parts.now) (length kernels.now)) }
+    requires parts { AreParts kernels.now (length kernels.now) parts.now.lists.items parts.now.of_kernels.items }
+    ensures masks { IfOk result (AreGroupsOf (own_at kernels.now parts.now.lists.items parts.now.of_kernels.items) (length kernels.now)) }
     ensures within { IfOk result (λ groups. All (AreWithin words) groups) }
 {
     let mut groups = Groups::new(alloc)?;
@@ -104,7 +103,7 @@ fn own_groups(
     let mut places = vec![in alloc; 0; words]?;
     let last = places.as_mut_slice();
     for j in 0..kernels.len() {
-        own_vars(&mut vars, &kernels[j], parts[j])?;
+        parts.own_vars(&mut vars, kernels, j)?;
         add_vars(&mut group, last, vars.as_slice())?;
         let made = group.as_slice();
         groups.push(made)?;

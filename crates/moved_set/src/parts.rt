@@ -1,22 +1,22 @@
-//! Kernels' variables in two parts: some of the kernel's own, and behind them a list that it may have with others. What
-//! is kept for each variable of a list is then kept once, however many kernels have the list.
+//! Kernels' variables in two parts: a list that a kernel may have with others, and those before and behind it, which are
+//! its own. What is kept for each variable of a list is then kept once, however many kernels have the list.
 
-ghost use Rattle.std.specs.Prelude.{◌≡◌, ◌≢◌, ◌<◌, ◌≤◌, ◌+◌, ◌++◌, [], ◌∷◌, ℕ, length, take, map, slice_index_or, All, IsTrue, IfOk, OnOk, IfSome};
+ghost use Rattle.std.specs.Prelude.{◌≡◌, ◌≢◌, ◌<◌, ◌≤◌, ◌++◌, [], ◌∷◌, length, slice_index_or, slice_range, All, IsTrue, IfOk, OnOk, IfSome};
 ghost use Rattle.guarded_tell.specs.Kernels.{vars_of, IsKernel, HasNumbers};
-ghost use Rattle.moved_set.specs.Parts.{EndsWith, IsPart, AreLists, AreParts, Grows, GrowsBy};
+ghost use Rattle.moved_set.specs.Parts.{HasList, IsPart, AreLists, AreParts, own_at, Grows, GrowsBy};
 
 use guarded_tell::Kernel;
 use shared_list::SharedList;
 use std::alloc::{AllocError, Global};
 use std::collections::BTreeMap;
 
-/// Where a kernel's variables stand: so many of its own, and behind them those of the list at a place. The first list is
-/// empty, for kernels that have none with others.
+/// Where a kernel's list stands: behind so many variables of its own. Those behind the list, up to the end, are its own too.
+/// The first list is empty, for kernels that have none with others.
 #[derive(Clone, Copy)]
 pub(crate) struct Part {
-    /// How many variables are the kernel's own.
-    pub(crate) own: usize,
-    /// The place of the list.
+    /// How many of the kernel's variables stand before the list.
+    pub(crate) before: usize,
+    /// The place of the list among the lists.
     pub(crate) list: usize,
 }
 
@@ -36,10 +36,10 @@ pub(crate) struct Parts {
     pub(crate) lists: Vec<SharedList<u32>>,
 }
 
-/// How many of a kernel's variables stand before the list that it ends with, and this list.
+/// How many of a kernel's variables stand before the list that it may have with others, and this list.
 #[tactic(auto, unfolding(guarded_tell::specs::Kernels::vars_of))]
-fn ending(kernel: &Kernel) -> Option<(usize, &SharedList<u32>)>
-    ensures { IfSome result (λ end. EndsWith (vars_of kernel.now) end.0 end.1.now) }
+fn long_list(kernel: &Kernel) -> Option<(usize, &SharedList<u32>)>
+    ensures { IfSome result (λ found. HasList (vars_of kernel.now) found.0 found.1.now) }
 {
     match kernel {
         Kernel::Le { vars, .. } | Kernel::Eq { vars, .. } => Some((1, vars)),
@@ -93,7 +93,7 @@ impl Lists {
         Ok(place)
     }
 
-    /// The part of a kernel. The list that it ends with is one of the lists where it has another owner.
+    /// The part of a kernel. The list that it may have with others is one of the lists where it has another owner.
     fn part_of(&mut self, alloc: Global, kernel: &Kernel) -> Result<Part, AllocError>
         requires some { 0 < length self.old.items.items }
         requires empty { slice_index_or self.old.items.items 0 [] ≡ [] }
@@ -102,10 +102,10 @@ impl Lists {
         ensures part { IfOk result (IsPart (vars_of kernel.now) self.new.items.items) }
     {
         let whole = Part {
-            own: kernel.var_count(),
+            before: kernel.var_count(),
             list: 0,
         };
-        let Some((own, list)) = ending(kernel) else {
+        let Some((before, list)) = long_list(kernel) else {
             return Ok(whole);
         };
         let Some(mark) = list.mark_if_shared() else {
@@ -115,7 +115,10 @@ impl Lists {
         Ok(if place == 0 {
             whole
         } else {
-            Part { own, list: place }
+            Part {
+                before,
+                list: place,
+            }
         })
     }
 }
@@ -139,14 +142,37 @@ pub(crate) fn parts_of(alloc: Global, kernels: &[Kernel], count: u32) -> Result<
     })
 }
 
-/// Makes the list of the variables of a kernel that are its own.
-pub(crate) fn own_vars(vars: &mut Vec<u32>, kernel: &Kernel, part: Part) -> Result<(), AllocError>
-    requires numbers { HasNumbers kernel.now }
-    requires within { part.own ≤ length (vars_of kernel.now) }
-    ensures { OnOk result (vars.new.items ≡ take part.own (vars_of kernel.now)) }
+impl Parts {
+    /// Makes the list of the own variables of the kernel at a place.
+    #[tactic(auto, using(crate::proofs::PartLaws::part_within))]
+    pub(crate) fn own_vars(
+        &self,
+        vars: &mut Vec<u32>,
+        kernels: &[Kernel],
+        j: usize,
+    ) -> Result<(), AllocError>
+        requires numbers { All HasNumbers kernels.now }
+        requires place { j < length kernels.now }
+        requires parts { AreParts kernels.now (length kernels.now) self.now.lists.items self.now.of_kernels.items }
+        ensures { OnOk result (vars.new.items ≡ own_at kernels.now self.now.lists.items self.now.of_kernels.items j) }
+    {
+        let kernel = &kernels[j];
+        let part = self.of_kernels[j];
+        let count = kernel.var_count();
+        let behind = part.before + self.lists[part.list].len();
+        vars.clear();
+        push_vars(vars, kernel, 0, part.before)?;
+        push_vars(vars, kernel, behind, count)
+    }
+}
+
+/// Puts a kernel's variables from one place up to another behind a list.
+fn push_vars(vars: &mut Vec<u32>, kernel: &Kernel, from: usize, to: usize) -> Result<(), AllocError>
+    requires order { from ≤ to }
+    requires end { to ≤ length (vars_of kernel.now) }
+    ensures { OnOk result (vars.new.items ≡ vars.old.items ++ slice_range (vars_of kernel.now) from to) }
 {
-    vars.clear();
-    for place in 0..part.own {
+    for place in from..to {
         vars.push(kernel.var_at(place))?;
     }
     Ok(())

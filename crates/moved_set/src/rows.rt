@@ -3,10 +3,10 @@
 
 ghost use Rattle.std.specs.Prelude.{◌≡◌, ◌≢◌, ◌<◌, ◌≤◌, ◌+◌, ◌-◌, [], ◌∷◌, ℕ, List, length, slice_index, slice_index_or, All, Contains, IfOk, OnOk};
 ghost use Rattle.guarded_tell.specs.Kernels.{IsKernel};
-ghost use Rattle.moved_set.specs.Parts.{AreLists, AreParts, list_at, part_at, own_at, vars_at};
+ghost use Rattle.moved_set.specs.Parts.{AreLists, AreParts, list_at, part_at, own_at};
 ghost use Rattle.moved_set.specs.Rows.{AreRowsTo, AreShaped, HasKernel, IsRising, PutsAll, PutsOnce, row_at};
 
-use crate::parts::{Part, Parts, own_vars};
+use crate::parts::{Part, Parts};
 use guarded_tell::Kernel;
 use shared_list::SharedList;
 use std::alloc::{AllocError, Global};
@@ -18,7 +18,7 @@ pub(crate) struct Rows {
     own: Vec<Vec<usize>>,
     /// For each variable the lists that have it.
     lists_of: Vec<Vec<usize>>,
-    /// For each list the kernels that end with it.
+    /// For each list the kernels that have it.
     users: Vec<Vec<usize>>,
 }
 
@@ -33,13 +33,13 @@ impl Rows {
         requires kernels { All (IsKernel count) kernels.now }
         requires lists { AreLists count parts.now.lists.items }
         requires parts { AreParts kernels.now (length kernels.now) parts.now.lists.items parts.now.of_kernels.items }
-        ensures own { IfOk result (λ rows. AreRowsTo (own_at kernels.now parts.now.of_kernels.items) (length kernels.now) count rows.own.items) }
+        ensures own { IfOk result (λ rows. AreRowsTo (own_at kernels.now parts.now.lists.items parts.now.of_kernels.items) (length kernels.now) count rows.own.items) }
         ensures lists { IfOk result (λ rows. AreRowsTo (list_at parts.now.lists.items) (length parts.now.lists.items) count rows.lists_of.items) }
         ensures users { IfOk result (λ rows. AreRowsTo (λ j. (part_at parts.now.of_kernels.items j).list ∷ []) (length kernels.now) (length parts.now.lists.items) rows.users.items) }
     {
         let of_kernels = parts.of_kernels.as_slice();
         let lists = parts.lists.as_slice();
-        let own = own_rows(alloc, kernels, of_kernels, count)?;
+        let own = own_rows(alloc, kernels, parts, count)?;
         let lists_of = list_rows(alloc, lists, count)?;
         let users = user_rows(alloc, of_kernels, lists.len())?;
         Ok(Rows {
@@ -163,18 +163,17 @@ fn put(rows: &mut Vec<Vec<usize>>, keys: &[u32], j: usize) -> Result<(), AllocEr
 fn own_rows(
     alloc: Global,
     kernels: &[Kernel],
-    parts: &[Part],
+    parts: &Parts,
     count: u32,
 ) -> Result<Vec<Vec<usize>>, AllocError>
     requires kernels { All (IsKernel count) kernels.now }
-    requires length { length parts.now ≡ length kernels.now }
-    requires within { (j : ℕ) → j < length kernels.now → (part_at parts.now j).own ≤ length (vars_at kernels.now j) }
-    ensures { IfOk result (λ rows. AreRowsTo (own_at kernels.now parts.now) (length kernels.now) count rows.items) }
+    requires parts { AreParts kernels.now (length kernels.now) parts.now.lists.items parts.now.of_kernels.items }
+    ensures { IfOk result (λ rows. AreRowsTo (own_at kernels.now parts.now.lists.items parts.now.of_kernels.items) (length kernels.now) count rows.items) }
 {
     let mut rows = empty_rows(alloc, count as usize)?;
     let mut vars = Vec::new(alloc);
     for j in 0..kernels.len() {
-        own_vars(&mut vars, &kernels[j], parts[j])?;
+        parts.own_vars(&mut vars, kernels, j)?;
         put(&mut rows, vars.as_slice(), j)?;
     }
     Ok(rows)
@@ -196,7 +195,7 @@ fn list_rows(
     Ok(rows)
 }
 
-/// For each of so many lists the row of the kernels that end with it.
+/// For each of so many lists the row of the kernels that have it.
 fn user_rows(alloc: Global, parts: &[Part], count: usize) -> Result<Vec<Vec<usize>>, AllocError>
     requires { (j : ℕ) → j < length parts.now → (part_at parts.now j).list < count }
     ensures { IfOk result (λ rows. AreRowsTo (λ j. (part_at parts.now j).list ∷ []) (length parts.now) count rows.items) }

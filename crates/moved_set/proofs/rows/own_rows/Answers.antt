@@ -1,23 +1,31 @@
-use Rattle.std.proofs.Common.{◌≡◌, ℕ, List, length, take, ap, sym, subst, ◌∙◌, arith}
-use Rattle.guarded_tell.specs.declared.kernel.Kernel.{Kernel}
-use Rattle.moved_set.specs.declared.parts.Part.{Part}
-use Rattle.moved_set.specs.Parts.{part_at, own_at}
+use Rattle.std.proofs.Common.{◌≡◌, ◌<◌, ℕ, List, length, sym, subst, ◌∙◌, arith}
+use Rattle.std.specs.Prelude.{All}
+use Rattle.moved_set.specs.Parts.{own_at}
 use Rattle.moved_set.specs.Rows.{AreRowsTo}
-use Rattle.moved_set.proofs.PartLaws.{vars_lent}
+use Rattle.moved_set.proofs.JoinedLaws.{owns_below}
 use Rattle.moved_set.proofs.rows.own_rows.Goals as goal
+
+pub own_vars-requires-clause-numbers : goal.own_vars-requires-clause-numbers
+own_vars-requires-clause-numbers c j d h = (c.requires.kernels j d h).numbers
+
+pub put-requires : goal.put-requires
+put-requires c =
+    let j : ℕ = c.loop-j.j in
+    let lists : List (List ℕ) = c.args.parts.now.lists.items in
+    let parts = c.args.parts.now.of_kernels.items in
+    let below : All (λ v. v < c.args.count) (own_at c.args.kernels.now lists parts j) =
+    owns_below c.args.count j c.args.kernels.now lists parts (omega arith) (λ k. (c.requires.kernels j k (omega arith)).variables) c.requires.parts in
+    let lent : c.as_slice.result.now ≡ own_at c.args.kernels.now lists parts j = c.as_slice.ensures.value ∙ c.in_ok-own_vars.ensures in
+    subst (λ (n : ℕ). All (λ v. v < n) c.as_slice.result.now) (sym c.loop-j.invariant.length_is) (subst (All (λ v. v < c.args.count)) (sym lent) below)
 
 pub loop-j-preserved : goal.loop-j-preserved
 loop-j-preserved c =
-    let j : ℕ = c.loop-j.j in
-    let kernels : List Kernel = c.args.kernels.now in
-    let parts : List Part = c.args.parts.now in
-    let k : Kernel = c.index-kernels-j.result in
-    let keys : own_at kernels parts j ≡ c.as_slice.result.now =
-    ap (take (part_at parts j).own) (vars_lent kernels j k (omega arith) c.index-kernels-j.is)
-    ∙ sym c.in_ok-own_vars.ensures ∙ sym c.as_slice.ensures.value in
-    c.in_ok-put.ensures (own_at kernels parts) c.args.count keys c.loop-j.invariant
+    let keys : ℕ → List ℕ = own_at c.args.kernels.now c.args.parts.now.lists.items c.args.parts.now.of_kernels.items in
+    let own : keys c.loop-j.j ≡ c.as_slice.result.now = sym c.in_ok-own_vars.ensures ∙ sym c.as_slice.ensures.value in
+    c.in_ok-put.ensures keys c.args.count own c.loop-j.invariant
 
 pub returns : goal.returns
 returns c =
+    let keys : ℕ → List ℕ = own_at c.args.kernels.now c.args.parts.now.lists.items c.args.parts.now.of_kernels.items in
     let all : c.loop-j.j ≡ length c.args.kernels.now = omega arith in
-    subst (λ (n : ℕ). AreRowsTo (own_at c.args.kernels.now c.args.parts.now) n c.args.count c.loop-j.rows.items) all c.loop-j.invariant
+    subst (λ (n : ℕ). AreRowsTo keys n c.args.count c.loop-j.rows.items) all c.loop-j.invariant

@@ -3,4 +3,4 @@ use Rattle.moved_set.specs.Rows.{AreRowsTo}
 use Rattle.moved_set.proofs.rows.own_rows.Given as goal
 
 abbrev pub invariant-loop-j : goal.invariant-loop-j
-invariant-loop-j l = AreRowsTo (own_at l.kernels l.parts) l.j l.count l.rows.items
+invariant-loop-j l = AreRowsTo (own_at l.kernels l.parts.lists.items l.parts.of_kernels.items) l.j l.count l.rows.items

@@ -19,6 +19,7 @@ mod linear;
 mod linear_tests;
 #[cfg(test)]
 mod list_tests;
+mod literal_list;
 mod literals;
 mod maximum;
 mod minimum;
@@ -38,6 +39,7 @@ mod visit;
 pub use hear::Hear;
 pub use kernel::Kernel;
 pub use laws::{law_local, law_monotone, law_narrowing, law_point, law_tell_place};
+pub use literal_list::Literals;
 pub use narrowing::visit_narrowing;
 pub use quiet::Hint;
 pub use tell::{Lit, Side, Tell};

@@ -5,7 +5,7 @@ ghost use Rattle.interval.specs.Limits.{IsNumber, largest_number};
 ghost use Rattle.guarded_tell.specs.Kernels.{IsKernel};
 
 use crate::test_support::{LARGEST, PAST, Pairs, after, expect, high, low, number};
-use crate::{Kernel, Lit, Tell};
+use crate::{Kernel, Lit, Literals, Tell};
 use shared_list::SharedList;
 use std::alloc::{AllocError, Global};
 use std::test::Fail;
@@ -39,7 +39,9 @@ fn clause(alloc: Global) -> Result<Kernel, AllocError>
         positive: false,
     };
     let lits = SharedList::from_vec(vec![in alloc; first, second]?)?;
-    Ok(Kernel::Clause { lits })
+    Ok(Kernel::Clause {
+        lits: Literals::from_list(lits),
+    })
 }
 
 /// No literal is true.
@@ -47,7 +49,7 @@ fn no_literals(alloc: Global) -> Kernel
     ensures { IsKernel 4 result }
 {
     Kernel::Clause {
-        lits: SharedList::empty(alloc),
+        lits: Literals::from_list(SharedList::empty(alloc)),
     }
 }
 

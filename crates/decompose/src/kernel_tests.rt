@@ -8,7 +8,7 @@ use crate::kernels::kernels_of;
 use crate::places::{ALWAYS, NEVER, Places};
 use crate::sums::Relation;
 use constraint_model::{Constants, Constraint, ConstraintName as Name, Operand, Term};
-use guarded_tell::{Kernel, Lit};
+use guarded_tell::{Kernel, Lit, Literals};
 use list_of::ListOf;
 use shared_list::SharedList;
 use std::alloc::{AllocError, Global};
@@ -203,12 +203,25 @@ fn is_member(found: &ListOf<Kernel>, literal: Lit, var: u32, set: &[(i64, i64)])
     }
 }
 
+/// Whether a clause has these literals.
+fn are_literals(found: &Literals, literals: &[Lit]) -> bool {
+    if found.len() != literals.len() {
+        return false;
+    }
+    for place in 0..literals.len() {
+        if found.at(place) != literals[place] {
+            return false;
+        }
+    }
+    true
+}
+
 /// Whether the kernels are these clauses.
 fn are_clauses(found: &ListOf<Kernel>, clauses: &[&[Lit]]) -> bool {
     let found = found.as_slice();
     found.len() == clauses.len()
         && found.iter().zip(clauses).all(|(kernel, literals)| match kernel {
-            Kernel::Clause { lits } => lits.as_slice() == *literals,
+            Kernel::Clause { lits } => are_literals(lits, literals),
             _ => false,
         })
 }

@@ -1,11 +1,13 @@
 -- Clauses that say that a literal is true exactly where one of some others is, as they are added one by one.
-use Rattle.std.proofs.Common.{◌≡◌, List, [], ◌∷◌, ◌++◌, map, sym, ap, ◌∙◌, append_assoc}
+use Rattle.std.proofs.Common.{◌≡◌, true, false, List, [], ◌∷◌, ◌++◌, map, sym, ap, ◌∙◌, append_assoc}
 use Rattle.std.proofs.lemmas.Simd.{map-map}
 use Rattle.std.proofs.lemmas.List.{map-append}
 use Rattle.guarded_tell.specs.declared.tell.Lit.{Lit}
 use Rattle.guarded_tell.specs.declared.kernel.Kernel.{Kernel}
 use Rattle.constraint_model.specs.declared.model.Term.{Term}
-use Rattle.decompose.specs.Kernels.{negated, some_of}
+use Rattle.guarded_tell.specs.Literals.{literal, literals_by_sign}
+use Rattle.decompose.specs.Kernels.{negated, some_of, variable_of, variables_of, clause_literals}
+use Rattle.decompose.specs.Places.{Numbering}
 
 abbrev pub implied : Lit → Lit → Kernel
 implied l k = Kernel.Clause (l ∷ negated k ∷ [])
@@ -37,3 +39,9 @@ joined_both_after l f g ts us before first middle after literals d e x h =
 pub literals_after : (l l' : Lit) (none some all : List Lit) (rest : List Lit) → none ≡ [] → l' ≡ negated l → some ≡ none ++ l' ∷ [] → all ≡ some ++ rest → all ≡ negated l ∷ rest
 literals_after l l' none some all rest e f g h =
     h ∙ ap (λ ls. ls ++ rest) g ∙ ap (λ ls. (ls ++ l' ∷ []) ++ rest) e ∙ ap (λ k. k ∷ rest) f
+
+-- the literals of the terms' variables by sign are those of the terms
+pub literals_of_variables : (numbering : Numbering) (positives negatives : List Term)
+    → literals_by_sign (variables_of numbering positives) (variables_of numbering negatives) ≡ clause_literals numbering positives negatives
+literals_of_variables numbering positives negatives =
+    λ i. map-map (literal true) (variable_of numbering) positives i ++ map-map (literal false) (variable_of numbering) negatives i

@@ -8,7 +8,7 @@ ghost use Rattle.decompose.specs.Rows.{literal_at, joined};
 
 use crate::places::Places;
 use constraint_model::{Operand, Term};
-use guarded_tell::{Kernel, Lit};
+use guarded_tell::{Kernel, Lit, Literals};
 use list_of::ListOf;
 use shared_list::SharedList;
 use std::alloc::{AllocError, Global};
@@ -27,8 +27,9 @@ fn negated(lit: Lit) -> Lit
 fn clause_of_two(alloc: Global, first: Lit, second: Lit) -> Result<Kernel, AllocError>
     ensures { IfOk result (λ k. k ≡ Kernel.Clause (first ∷ second ∷ [])) }
 {
+    let lits = SharedList::from_vec(Vec::from_slice(alloc, &[first, second])?)?;
     Ok(Kernel::Clause {
-        lits: SharedList::from_vec(Vec::from_slice(alloc, &[first, second])?)?,
+        lits: Literals::from_list(lits),
     })
 }
 
@@ -71,7 +72,9 @@ fn add_joined(
     literals.push(negated(lit))?;
     places.add_literals(positive, booleans, &mut literals)?;
     let lits = SharedList::from_vec(literals)?;
-    kernels.push(Kernel::Clause { lits })?;
+    kernels.push(Kernel::Clause {
+        lits: Literals::from_list(lits),
+    })?;
     Ok(())
 }
 
@@ -129,21 +132,71 @@ fn add_clause_literals(
     places.add_literals(false, negatives, literals)
 }
 
-/// Adds a clause.
-fn add_clause(
+/// The literals of a clause by the variables of its arrays, which those who name the same long array share.
+#[tactic(auto, using(crate::proofs::ClauseLaws::literals_of_variables))]
+fn shared_literals(
+    alloc: Global,
+    places: &Places,
+    positives: &SharedList<Term>,
+    negatives: &SharedList<Term>,
+) -> Result<Literals, AllocError>
+    requires declared_positives { All (IsDeclared places.now.count) positives.now }
+    requires declared_negatives { All (IsDeclared places.now.count) negatives.now }
+    ensures { IfOk result (λ literals. literals ≡ clause_literals places.now positives.now negatives.now) }
+{
+    Ok(Literals::by_sign(
+        places.variables_of_row(alloc, positives)?,
+        places.variables_of_row(alloc, negatives)?,
+    ))
+}
+
+/// The literals of a clause, in a list of their own.
+fn own_literals(
     alloc: Global,
     places: &Places,
     positives: &[Term],
     negatives: &[Term],
+) -> Result<Literals, AllocError>
+    requires declared_positives { All (IsDeclared places.now.count) positives.now }
+    requires declared_negatives { All (IsDeclared places.now.count) negatives.now }
+    ensures { IfOk result (λ literals. literals ≡ clause_literals places.now positives.now negatives.now) }
+{
+    let mut literals = Vec::with_capacity(alloc, positives.len() + negatives.len())?;
+    add_clause_literals(places, positives, negatives, &mut literals)?;
+    Ok(Literals::from_list(SharedList::from_vec(literals)?))
+}
+
+/// The literals of a clause. Those of arrays that no other constraint names stand together, since they are read faster so.
+fn literals_of_clause(
+    alloc: Global,
+    places: &Places,
+    positives: &SharedList<Term>,
+    negatives: &SharedList<Term>,
+) -> Result<Literals, AllocError>
+    requires declared_positives { All (IsDeclared places.now.count) positives.now }
+    requires declared_negatives { All (IsDeclared places.now.count) negatives.now }
+    ensures { IfOk result (λ literals. literals ≡ clause_literals places.now positives.now negatives.now) }
+{
+    if positives.mark_if_shared().is_some() || negatives.mark_if_shared().is_some() {
+        shared_literals(alloc, places, positives, negatives)
+    } else {
+        own_literals(alloc, places, positives.as_slice(), negatives.as_slice())
+    }
+}
+
+/// Adds a clause.
+fn add_clause(
+    alloc: Global,
+    places: &Places,
+    positives: &SharedList<Term>,
+    negatives: &SharedList<Term>,
     kernels: &mut ListOf<Kernel>,
 ) -> Result<(), AllocError>
     requires declared_positives { All (IsDeclared places.now.count) positives.now }
     requires declared_negatives { All (IsDeclared places.now.count) negatives.now }
     ensures { OnOk result (kernels.new ≡ kernels.old ++ Kernel.Clause (clause_literals places.now positives.now negatives.now) ∷ []) }
 {
-    let mut literals = Vec::with_capacity(alloc, positives.len() + negatives.len())?;
-    add_clause_literals(places, positives, negatives, &mut literals)?;
-    let lits = SharedList::from_vec(literals)?;
+    let lits = literals_of_clause(alloc, places, positives, negatives)?;
     kernels.push(Kernel::Clause { lits })?;
     Ok(())
 }
@@ -161,13 +214,7 @@ pub(crate) fn clause(
 {
     match operands {
         [Operand::Row(positives), Operand::Row(negatives)] => {
-            add_clause(
-                alloc,
-                places,
-                positives.as_slice(),
-                negatives.as_slice(),
-                kernels,
-            )
+            add_clause(alloc, places, positives, negatives, kernels)
         }
         _ => Ok(()),
     }
@@ -194,7 +241,9 @@ fn add_clause_reified(
     literals.push(negated(lit))?;
     add_clause_literals(places, positives, negatives, &mut literals)?;
     let lits = SharedList::from_vec(literals)?;
-    kernels.push(Kernel::Clause { lits })?;
+    kernels.push(Kernel::Clause {
+        lits: Literals::from_list(lits),
+    })?;
     Ok(())
 }
 

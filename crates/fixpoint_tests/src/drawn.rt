@@ -6,7 +6,7 @@ ghost use Rattle.guarded_tell.specs.declared.tell.Lit.{Lit};
 ghost use Rattle.guarded_tell.specs.InSet.{IsSet};
 ghost use Rattle.guarded_tell.specs.Kernels.{IsKernel};
 
-use guarded_tell::{Kernel, Lit};
+use guarded_tell::{Kernel, Lit, Literals};
 use interval::{BoxOf, NoMemory};
 use shared_list::SharedList;
 use std::alloc::{AllocError, Global};
@@ -160,7 +160,9 @@ fn clause(alloc: Global, draws: &mut Draws) -> Result<Kernel, AllocError>
     ensures { IfOk result (IsKernel 40) }
 {
     let lits = three_lits(alloc, draws)?;
-    Ok(Kernel::Clause { lits })
+    Ok(Kernel::Clause {
+        lits: Literals::from_list(lits),
+    })
 }
 
 /// An element of a list of three.

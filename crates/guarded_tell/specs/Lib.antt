@@ -7,6 +7,7 @@ pub mod Absolute
 pub mod Division
 pub mod Remainder
 pub mod Clause
+pub mod Literals
 pub mod Extremes
 pub mod Maximum
 pub mod Minimum

@@ -8,11 +8,11 @@ ghost use Rattle.guarded_tell.specs.Hearing.{MayHearAll, HearsAll};
 ghost use Rattle.guarded_tell.specs.Clause.{clause_vars, clause_tells, sole_tell, AreLiterals};
 
 use crate::literals::{is_out, no_number, tell_true};
-use crate::{Hear, Lit};
+use crate::{Hear, Lit, Literals};
 use interval::BoxOf;
 
 /// Gives the tells of the clause to `h`, in order.
-pub fn visit_clause<H: Hear>(lits: &[Lit], b: &BoxOf, h: &mut H)
+pub fn visit_clause<H: Hear>(lits: &Literals, b: &BoxOf, h: &mut H)
     requires variables { AreVariables (length b.now) (clause_vars lits.now) }
     requires hearer { MayHearAll H.can_hear H.hears h.old (clause_tells lits.now b.now) }
     ensures { HearsAll H.hears h.old (clause_tells lits.now b.now) h.new }
@@ -25,7 +25,7 @@ pub fn visit_clause<H: Hear>(lits: &[Lit], b: &BoxOf, h: &mut H)
 }
 
 /// Gives the tells of a clause of some literals.
-fn tell_some<H: Hear>(lits: &[Lit], b: &BoxOf, h: &mut H)
+fn tell_some<H: Hear>(lits: &Literals, b: &BoxOf, h: &mut H)
     requires some { 0 < length lits.now }
     requires variables { AreVariables (length b.now) (clause_vars lits.now) }
     requires hearer { MayHearAll H.can_hear H.hears h.old (clause_tells lits.now b.now) }
@@ -39,7 +39,7 @@ fn tell_some<H: Hear>(lits: &[Lit], b: &BoxOf, h: &mut H)
 
 /// How many variables a clause names, with repeats.
 #[tactic(auto, unfolding(crate::specs::Clause::clause_vars))]
-pub fn clause_var_count(lits: &[Lit]) -> usize
+pub fn clause_var_count(lits: &Literals) -> usize
     ensures { result ≡ length (clause_vars lits.now) }
 {
     if lits.is_empty() { 1 } else { lits.len() }
@@ -47,21 +47,25 @@ pub fn clause_var_count(lits: &[Lit]) -> usize
 
 /// The variable that a clause names at this place.
 #[tactic(auto, unfolding(crate::specs::Clause::clause_vars))]
-pub fn clause_var(lits: &[Lit], place: usize) -> u32
+pub fn clause_var(lits: &Literals, place: usize) -> u32
     requires { place < length (clause_vars lits.now) }
     ensures { result ≡ slice_index (clause_vars lits.now) place }
 {
-    if lits.is_empty() { 0 } else { lits[place].var }
+    if lits.is_empty() {
+        0
+    } else {
+        lits.at(place).var
+    }
 }
 
 /// How many of the literals aren't out, or two where there are more.
-fn count_left(lits: &[Lit], b: &BoxOf) -> usize
+fn count_left(lits: &Literals, b: &BoxOf) -> usize
     requires { AreLiterals (length b.now) lits.now }
     ensures { result ≡ min (count_by (λ l. not (words.is_out l b.now)) lits.now) 2 }
 {
     let mut left = 0;
     for i in 0..lits.len() {
-        if !is_out(lits[i], b) {
+        if !is_out(lits.at(i), b) {
             if left == 1 {
                 return 2;
             }
@@ -72,13 +76,13 @@ fn count_left(lits: &[Lit], b: &BoxOf) -> usize
 }
 
 /// Tells each literal true beside which all others are out. `left` is how many aren't out.
-fn tell_sole<H: Hear>(lits: &[Lit], left: usize, b: &BoxOf, h: &mut H)
+fn tell_sole<H: Hear>(lits: &Literals, left: usize, b: &BoxOf, h: &mut H)
     requires variables { AreLiterals (length b.now) lits.now }
     requires hearer { MayHearAll H.can_hear H.hears h.old (flat_map (sole_tell left b.now) lits.now) }
     ensures { HearsAll H.hears h.old (flat_map (sole_tell left b.now) lits.now) h.new }
 {
     for i in 0..lits.len() {
-        tell_where_sole(lits[i], left, b, h);
+        tell_where_sole(lits.at(i), left, b, h);
     }
 }
 

@@ -2,8 +2,8 @@
 
 ghost use Rattle.std.specs.Prelude.{◌≡◌, ◌<◌, length, slice_index};
 
-use crate::Lit;
 use crate::clause::{clause_var, clause_var_count};
+use crate::{Lit, Literals};
 use shared_list::SharedList;
 
 /// A relation over a box's variables that is run as a propagator.
@@ -82,7 +82,7 @@ pub enum Kernel {
     /// Some literal is true.
     Clause {
         /// The literals.
-        lits: SharedList<Lit>,
+        lits: Literals,
     },
     /// A variable is a place of a list, counted from 1, and the variable at that place equals another.
     Element {
@@ -118,7 +118,7 @@ impl Kernel {
             Kernel::Times { .. } | Kernel::Div { .. } | Kernel::Mod { .. } => 3,
             Kernel::Abs { .. } => 2,
             Kernel::Max { xs, .. } | Kernel::Min { xs, .. } => xs.len() + 1,
-            Kernel::Clause { lits } => clause_var_count(lits.as_slice()),
+            Kernel::Clause { lits } => clause_var_count(lits),
             Kernel::Element { entries, .. } => entries.len() + 2,
             Kernel::InSet { .. } => 2,
         }
@@ -152,7 +152,7 @@ impl Kernel {
                     xs.as_slice()[place - 1]
                 }
             }
-            Kernel::Clause { lits } => clause_var(lits.as_slice(), place),
+            Kernel::Clause { lits } => clause_var(lits, place),
             Kernel::Element { x, entries, c } => {
                 if place == 0 {
                     *x

@@ -47,7 +47,7 @@ pub fn is_quiet(k: &Kernel, b: &BoxOf, hint: &mut Hint) -> bool
             vars,
             limit,
         } => is_equation_quiet(*lit, coeffs.as_slice(), vars.as_slice(), *limit, b, hint),
-        Kernel::Clause { lits } => is_clause_quiet(lits.as_slice(), b, hint),
+        Kernel::Clause { lits } => is_clause_quiet(lits, b, hint),
         Kernel::Times { x, y, z } => is_product_quiet(*x, *y, *z, b),
         _ => false,
     }

@@ -12,10 +12,10 @@ ghost use Rattle.guarded_tell.specs.Linear.{at_most_tells, least_of, greatest_of
 ghost use Rattle.guarded_tell.specs.Equality.{eq_tells};
 ghost use Rattle.guarded_tell.specs.Short.{short_sum_limit, AreTwoOpen, IsAtMostQuiet, IsUnequalQuiet, IsEquationQuiet};
 
-use crate::Lit;
 use crate::literals::{is_out, is_sure, stands_false, stands_true};
 use crate::pairs::{is_apart, pair_leaves_room, pair_leaves_room_on_both_sides, pair_of};
 use crate::short::{Sums, short_sums};
+use crate::{Lit, Literals};
 use interval::{BoxOf, law_clamp_order, law_quotient_order};
 
 /// Whether the inequality is seen to narrow nothing. Where its numbers are large, it isn't seen.
@@ -268,7 +268,7 @@ impl Hint {
 }
 
 /// Whether the clause is seen to narrow nothing. What the hint remembers is looked at first, and then what is found.
-pub fn is_clause_quiet(lits: &[Lit], b: &BoxOf, hint: &mut Hint) -> bool
+pub fn is_clause_quiet(lits: &Literals, b: &BoxOf, hint: &mut Hint) -> bool
     requires variables { AreVariables (length b.now) (clause_vars lits.now) }
     requires short { IsShortClause lits.now }
     ensures { OnTrue result (All (Keeps b.now) (clause_tells lits.now b.now)) }
@@ -285,7 +285,7 @@ pub fn is_clause_quiet(lits: &[Lit], b: &BoxOf, hint: &mut Hint) -> bool
 }
 
 /// Whether the literal at the hint's place is sure, or those at its two places aren't out.
-fn is_quiet_at(lits: &[Lit], hint: Hint, b: &BoxOf) -> bool
+fn is_quiet_at(lits: &Literals, hint: Hint, b: &BoxOf) -> bool
     requires some { 0 < length lits.now }
     requires variables { AreLiterals (length b.now) lits.now }
     ensures { OnTrue result (All (Keeps b.now) (clause_tells lits.now b.now)) }
@@ -297,9 +297,9 @@ fn is_quiet_at(lits: &[Lit], hint: Hint, b: &BoxOf) -> bool
         return false;
     }
     if first == second {
-        is_sure(lits[first], b)
+        is_sure(lits.at(first), b)
     } else {
-        are_left(lits[first], lits[second], b)
+        are_left(lits.at(first), lits.at(second), b)
     }
 }
 
@@ -315,20 +315,20 @@ fn are_left(first: Lit, second: Lit, b: &BoxOf) -> bool
 
 /// The place of a literal that is sure, twice, or the first two places of literals that aren't out, if there are such.
 #[tactic(auto, unfolding(crate::specs::Clause::literal_limit))]
-fn places_left(lits: &[Lit], b: &BoxOf) -> Hint
+fn places_left(lits: &Literals, b: &BoxOf) -> Hint
     requires variables { AreLiterals (length b.now) lits.now }
     requires short { IsShortClause lits.now }
 {
     let mut found = None;
     for i in 0..lits.len() {
         let place = i as u32;
-        if is_sure(lits[i], b) {
+        if is_sure(lits.at(i), b) {
             return Hint {
                 first: place,
                 second: place,
             };
         }
-        if !is_out(lits[i], b) {
+        if !is_out(lits.at(i), b) {
             match found {
                 Some(first) => {
                     return Hint {

@@ -46,7 +46,7 @@ pub fn visit_tells<H: Hear>(k: &Kernel, b: &BoxOf, h: &mut H)
         Kernel::Abs { x, y } => visit_abs(*x, *y, b, h),
         Kernel::Max { m, xs } => visit_max(*m, xs.as_slice(), b, h),
         Kernel::Min { m, xs } => visit_min(*m, xs.as_slice(), b, h),
-        Kernel::Clause { lits } => visit_clause(lits.as_slice(), b, h),
+        Kernel::Clause { lits } => visit_clause(lits, b, h),
         Kernel::Element { x, entries, c } => visit_element(*x, entries.as_slice(), *c, b, h),
         Kernel::InSet { lit, x, ranges } => visit_in_set(*lit, *x, ranges.as_slice(), b, h),
     }

@@ -9,3 +9,4 @@ pub mod NamingLaws
 pub mod AskLaws
 pub mod JoinedLaws
 pub mod ListLaws
+pub mod ClauseLists

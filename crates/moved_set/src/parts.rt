@@ -2,10 +2,11 @@
 //! its own. What is kept for each variable of a list is then kept once, however many kernels have the list.
 
 ghost use Rattle.std.specs.Prelude.{◌≡◌, ◌≢◌, ◌<◌, ◌≤◌, ◌++◌, [], ◌∷◌, length, slice_index_or, slice_range, All, IsTrue, IfOk, OnOk, IfSome};
+ghost use Rattle.guarded_tell.specs.Clause.{clause_vars};
 ghost use Rattle.guarded_tell.specs.Kernels.{vars_of, IsKernel, HasNumbers};
 ghost use Rattle.moved_set.specs.Parts.{HasList, IsPart, AreLists, AreParts, own_at, Grows, GrowsBy};
 
-use guarded_tell::Kernel;
+use guarded_tell::{Kernel, Literals};
 use shared_list::SharedList;
 use std::alloc::{AllocError, Global};
 use std::collections::BTreeMap;
@@ -45,7 +46,22 @@ fn long_list(kernel: &Kernel) -> Option<(usize, &SharedList<u32>)>
         Kernel::Le { vars, .. } | Kernel::Eq { vars, .. } => Some((1, vars)),
         Kernel::Max { xs, .. } | Kernel::Min { xs, .. } => Some((1, xs)),
         Kernel::Element { entries, .. } => Some((2, entries)),
+        Kernel::Clause { lits } => long_list_of_clause(lits),
         _ => None,
+    }
+}
+
+/// The same of a clause: the variables of its positive literals, where these have another owner, or those of its negative
+/// ones.
+#[tactic(auto, using(crate::proofs::ClauseLists::has_positives, crate::proofs::ClauseLists::has_negatives))]
+fn long_list_of_clause(lits: &Literals) -> Option<(usize, &SharedList<u32>)>
+    ensures { IfSome result (λ found. HasList (clause_vars lits.now) found.0 found.1.now) }
+{
+    let (positives, negatives) = lits.variables_by_sign()?;
+    if positives.mark_if_shared().is_some() {
+        Some((0, positives))
+    } else {
+        Some((positives.len(), negatives))
     }
 }
 

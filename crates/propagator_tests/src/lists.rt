@@ -6,7 +6,7 @@ ghost use Rattle.guarded_tell.specs.Kernels.{IsKernel};
 
 use crate::four_variables::{LARGEST, PAST, Pairs, Told, expect_bounds, expect_tells, number};
 use guarded_tell::Side::{High, Low};
-use guarded_tell::{Kernel, Lit};
+use guarded_tell::{Kernel, Lit, Literals};
 use shared_list::SharedList;
 use std::alloc::{AllocError, Global};
 use std::process::Abort;
@@ -131,7 +131,20 @@ fn clause(alloc: Global) -> Result<Kernel, AllocError>
         positive: false,
     };
     let lits = SharedList::from_vec(vec![in alloc; first, second]?)?;
-    Ok(Kernel::Clause { lits })
+    Ok(Kernel::Clause {
+        lits: Literals::from_list(lits),
+    })
+}
+
+/// The same by the variables of its literals of each sign.
+fn clause_by_sign(alloc: Global) -> Result<Kernel, AllocError>
+    ensures { IfOk result (IsKernel 4) }
+{
+    let positives = SharedList::from_vec(vec![in alloc; 0u32]?)?;
+    let negatives = SharedList::from_vec(vec![in alloc; 1u32]?)?;
+    Ok(Kernel::Clause {
+        lits: Literals::by_sign(positives, negatives),
+    })
 }
 
 /// Bounds of the two variables, and the tells.
@@ -151,6 +164,12 @@ static CLAUSE_TELLS: [(Pairs, &[Told]); 4] = [
 #[test]
 fn the_clause_gives_its_tells_in_order(rt: HostRuntime) -> Result<(), Fail> {
     expect_tells(&rt, rt.alloc(), clause(rt.alloc())?, &CLAUSE_TELLS)?;
+    Ok(())
+}
+
+#[test]
+fn the_clause_by_sign_gives_the_same_tells(rt: HostRuntime) -> Result<(), Fail> {
+    expect_tells(&rt, rt.alloc(), clause_by_sign(rt.alloc())?, &CLAUSE_TELLS)?;
     Ok(())
 }
 
@@ -181,7 +200,7 @@ fn no_literals(alloc: Global) -> Kernel
     ensures { IsKernel 4 result }
 {
     Kernel::Clause {
-        lits: SharedList::empty(alloc),
+        lits: Literals::from_list(SharedList::empty(alloc)),
     }
 }
 

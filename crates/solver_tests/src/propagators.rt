@@ -3,7 +3,7 @@
 //! the variables from 7 on, in the order in which they stand.
 
 use crate::programs::program_of;
-use guarded_tell::{Kernel, Lit};
+use guarded_tell::{Kernel, Lit, Literals};
 use list_of::ListOf;
 use std::alloc::{AllocError, Global};
 use std::process::Abort;
@@ -66,6 +66,19 @@ fn is_operation(kernel: &Kernel, shape: &Shape) -> bool {
     }
 }
 
+/// Whether a clause has these literals.
+fn are_literals(found: &Literals, literals: &[Lit]) -> bool {
+    if found.len() != literals.len() {
+        return false;
+    }
+    for place in 0..literals.len() {
+        if found.at(place) != literals[place] {
+            return false;
+        }
+    }
+    true
+}
+
 /// Whether the kernel is this clause, entry or extreme, or says that a variable is in this set.
 fn is_choice(kernel: &Kernel, shape: &Shape) -> bool {
     match (kernel, *shape) {
@@ -73,7 +86,7 @@ fn is_choice(kernel: &Kernel, shape: &Shape) -> bool {
         | (Kernel::Min { m, xs }, Shape::Min(extreme, places)) => {
             *m == extreme && xs.as_slice() == places
         }
-        (Kernel::Clause { lits }, Shape::Clause(literals)) => lits.as_slice() == literals,
+        (Kernel::Clause { lits }, Shape::Clause(literals)) => are_literals(lits, literals),
         (Kernel::Element { x, entries, c }, Shape::Element(place, places, entry)) => {
             *x == place && entries.as_slice() == places && *c == entry
         }

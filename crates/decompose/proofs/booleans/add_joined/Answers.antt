@@ -9,7 +9,7 @@ pub returns : goal.returns
 returns c =
     let f = literal_at c.args.places.now c.args.positive in
     subst (λ (l : Lit). c.push-2.new.self ≡ c.args.kernels.now ++ some_of l (map f c.args.booleans.now)) c.literal-lit.ensures
-    (joined_after c.literal-lit.result f c.args.booleans.now c.args.kernels.now c.add_implications.new.kernels c.push-2.new.self c.in_ok-lits.lits
+    (joined_after c.literal-lit.result f c.args.booleans.now c.args.kernels.now c.add_implications.new.kernels c.push-2.new.self c.from_list.result
     c.in_ok-add_implications.ensures
-    (c.in_ok-lits.ensures ∙ literals_after c.literal-lit.result c.negated.result c.in_ok-literals.literals.items c.push.new.self.items c.add_literals.new.literals.items (map f c.args.booleans.now) c.in_ok-literals.ensures.items c.negated.ensures c.in_ok-push.ensures.items c.in_ok-add_literals.ensures)
+    (c.from_list.ensures ∙ c.in_ok-lits.ensures ∙ literals_after c.literal-lit.result c.negated.result c.in_ok-literals.literals.items c.push.new.self.items c.add_literals.new.literals.items (map f c.args.booleans.now) c.in_ok-literals.ensures.items c.negated.ensures c.in_ok-push.ensures.items c.in_ok-add_literals.ensures)
     c.in_ok-push-2.ensures.pushed)

@@ -1,0 +1,17 @@
+-- The literals of a clause, wherever they stand.
+use Rattle.std.specs.Prelude.{ℕ, Bool, true, false, List, ◌++◌, map}
+use Rattle.guarded_tell.specs.declared.tell.Lit.{Lit}
+use Rattle.guarded_tell.specs.declared.literal_list.Form.{Form}
+
+-- the literal of a variable by its sign
+abbrev pub literal : Bool → ℕ → Lit
+literal positive v = record { var = v; positive = positive }
+
+-- the positive literals of some variables, and behind them the negative ones of others
+abbrev pub literals_by_sign : List ℕ → List ℕ → List Lit
+literals_by_sign positives negatives = map (literal true) positives ++ map (literal false) negatives
+
+-- the literals in order
+abbrev pub literals : Form → List Lit
+literals (Form.Listed lits) = lits
+literals (Form.BySign positives negatives) = literals_by_sign positives negatives

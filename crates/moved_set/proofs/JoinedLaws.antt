@@ -80,7 +80,7 @@ are_joined kernels lists parts own listed are own_are listed_are =
       there = λ j h. let there = (are.each j (omega arith)).there in omega arith;
     }
 
--- the own variables of a kernel have words
+-- the own variables of the kernel at a place are below the limit
 pub owns_below : (limit j : ℕ) (kernels : List Kernel) (lists : List (List ℕ)) (parts : List Part) → j < length kernels
     → ((k : Kernel) → AreVariables limit (vars_of (get_or kernels j k))) → AreParts kernels (length kernels) lists parts → All (λ v. v < limit) (own_at kernels lists parts j)
 owns_below limit j [] lists parts h below are = absurd (omega arith)

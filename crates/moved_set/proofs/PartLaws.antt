@@ -180,7 +180,7 @@ any_in_part test vars lists part is =
     ∙ ap (λ (b : Bool). b || list_any test back) (sym (list_any-append test front list))
     ∙ sym (list_any-append test (front ++ list) back) ∙ ap (list_any test) (sym is.has.parted)
 
--- the own variables are some of the first ones, too
+-- the own variables are below the limit, where all are
 pub own_below : (limit : ℕ) (vars : List ℕ) (lists : List (List ℕ)) (part : Part) → AreVariables limit vars → IsPart vars lists part → All (λ v. v < limit) (own_of vars lists part)
 own_below limit vars lists part are is k d h =
     let own : List ℕ = own_of vars lists part in

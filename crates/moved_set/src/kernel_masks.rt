@@ -1,7 +1,7 @@
 //! For each kernel the masks of its variables: those of its own, and those of its list, which stand here once, however many
 //! kernels have the list.
 
-ghost use Rattle.std.specs.Prelude.{◌≡◌, ◌<◌, ◌≤◌, ◌*◌, ◌++◌, [], ℕ, length, slice_index_or, All, IfOk};
+ghost use Rattle.std.specs.Prelude.{◌≡◌, ◌<◌, ◌*◌, ◌++◌, [], length, slice_index_or, All, IfOk};
 ghost use Rattle.moved_set.specs.Building.{AreGroupsOf, AreNamed, AreWithin, NamesBelow};
 ghost use Rattle.moved_set.specs.Joined.{AreJoined, joined};
 ghost use Rattle.moved_set.specs.Parts.{AreParts, list_at, own_at, part_at};

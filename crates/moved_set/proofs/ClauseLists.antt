@@ -1,7 +1,7 @@
 -- The variables of a clause whose literals stand by their signs.
 use Rattle.std.proofs.Common.{◌≡◌, ℕ, ◌+◌, ◌≤◌, List, [], ◌∷◌, ◌++◌, Bool, true, false, length, map, take, drop, refl, sym, ◌∙◌, ap, subst, arith}
 use Rattle.std.proofs.Math.Seq.{take-append_seam, drop-append_seam}
-use Rattle.std.proofs.lemmas.List.{length-append, drop_all}
+use Rattle.std.proofs.lemmas.List.{length-append, append-nil, drop_all}
 use Rattle.guarded_tell.specs.declared.tell.Lit.{Lit}
 use Rattle.guarded_tell.specs.Clause.{clause_vars}
 use Rattle.guarded_tell.specs.Literals.{literal, literals_by_sign}
@@ -20,7 +20,8 @@ vars_by_sign (p ∷ ps) ns = ap (λ (xs : List ℕ). p ∷ xs) (vars_by_sign ps 
 front : (ps ns vars : List ℕ) → vars ≡ ps ++ ns → HasList vars 0 ps
 front ps ns vars is =
     let len : length vars ≡ length ps + length ns = ap length is ∙ length-append ps ns in
-    let rest : drop (length ps) vars ≡ ns = ap (drop (length ps)) is ∙ drop-append_seam ps ns in
+    let count : 0 + length ps ≡ length ps = omega arith in
+    let rest : drop (0 + length ps) vars ≡ ns = ap (λ (n : ℕ). drop n vars) count ∙ ap (drop (length ps)) is ∙ drop-append_seam ps ns in
     record {
       within = omega arith;
       parted = is ∙ ap (λ (xs : List ℕ). ps ++ xs) (sym rest);
@@ -31,10 +32,10 @@ back ps ns vars is =
     let len : length vars ≡ length ps + length ns = ap length is ∙ length-append ps ns in
     let first : take (length ps) vars ≡ ps = ap (take (length ps)) is ∙ take-append_seam ps ns in
     let rest : drop (length ps + length ns) vars ≡ [] = drop_all (length ps + length ns) vars (omega arith) in
-    let none : ns ++ [] ≡ ns = append_none ns in
+    let whole : (take (length ps) vars ++ ns) ++ [] ≡ ps ++ ns = append-nil (take (length ps) vars ++ ns) ∙ ap (λ (xs : List ℕ). xs ++ ns) first in
     record {
       within = omega arith;
-      parted = is ∙ sym (ap (λ (xs : List ℕ). take (length ps) vars ++ ns ++ xs) rest ∙ ap (λ (xs : List ℕ). xs ++ ns ++ []) first ∙ ap (λ (xs : List ℕ). ps ++ xs) none);
+      parted = is ∙ sym (ap (λ (xs : List ℕ). (take (length ps) vars ++ ns) ++ xs) rest ∙ whole);
     }
 
 -- the variables of the positive literals stand in front

@@ -53,7 +53,6 @@ fn long_list(kernel: &Kernel) -> Option<(usize, &SharedList<u32>)>
 
 /// The same of a clause: the variables of its positive literals, where these have another owner, or those of its negative
 /// ones.
-#[tactic(auto, using(crate::proofs::ClauseLists::has_positives, crate::proofs::ClauseLists::has_negatives))]
 fn long_list_of_clause(lits: &Literals) -> Option<(usize, &SharedList<u32>)>
     ensures { IfSome result (λ found. HasList (clause_vars lits.now) found.0 found.1.now) }
 {

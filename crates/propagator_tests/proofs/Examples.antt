@@ -1,5 +1,5 @@
 -- What the boxes of four variables and the kernels of the tests have to meet.
-use Rattle.std.proofs.Common.{◌≡◌, ℕ, zero, suc, ◌<◌, ◌≤◌, List, [], ◌∷◌, length, get_or, true, false, ltb, ℤ, pos, ◌+ℤ◌, ◌≤ℤ◌, ◌<ℤ◌, refl, sym, subst, arith}
+use Rattle.std.proofs.Common.{◌≡◌, ℕ, zero, suc, ◌<◌, ◌≤◌, List, [], ◌∷◌, length, get_or, true, false, ltb, ℤ, pos, ◌+ℤ◌, ◌≤ℤ◌, ◌<ℤ◌, refl, sym, ◌∙◌, ap, subst, arith}
 use Rattle.std.proofs.lemmas.Int.{ints}
 use Rattle.std.proofs.lemmas.Bool.{ltb-true}
 use Rattle.std.proofs.lemmas.List.Sums.{AllPass-from_list_all}
@@ -16,6 +16,7 @@ use Rattle.guarded_tell.specs.Words.{IsProperIn, AreVariables}
 use Rattle.guarded_tell.specs.Linear.{IsLinear, term_limit}
 use Rattle.guarded_tell.specs.Extremes.{member_limit}
 use Rattle.guarded_tell.specs.Clause.{clause_vars, literal_limit}
+use Rattle.guarded_tell.specs.Literals.{literals_by_sign}
 use Rattle.guarded_tell.specs.InSet.{IsSet, range_limit}
 use Rattle.guarded_tell.specs.Hearing.{MayHearAll}
 use Rattle.guarded_tell.specs.Kernels.{vars_of, HasNumbers, IsKernel}
@@ -208,6 +209,9 @@ element_made xs e = subst (λ (ys : List ℕ). IsKernel 4 (Element 0 ys 1)) (sym
 pub clause_made : (lits : List Lit) → lits ≡ record { var = 0; positive = true } ∷ record { var = 1; positive = false } ∷ [] → IsKernel 4 (Clause lits)
 unfolding vars_of HasNumbers clause_vars
 clause_made lits e = subst (λ (ls : List Lit). IsKernel 4 (Clause ls)) (sym e) (record { variables = below_four (0 ∷ 1 ∷ []) refl; numbers = few_literals 2 (omega arith) })
+
+pub signed_clause_made : (lits : List Lit) (ps ns : List ℕ) → lits ≡ literals_by_sign ps ns → ps ≡ 0 ∷ [] → ns ≡ 1 ∷ [] → IsKernel 4 (Clause lits)
+signed_clause_made lits ps ns e f g = clause_made lits (e ∙ ap (λ (xs : List ℕ). literals_by_sign xs ns) f ∙ ap (literals_by_sign (0 ∷ [])) g)
 
 pub no_literals_made : (lits : List Lit) → lits ≡ [] → IsKernel 4 (Clause lits)
 unfolding vars_of HasNumbers clause_vars

@@ -3,4 +3,4 @@ use Rattle.propagator_tests.proofs.Examples.{clause_made}
 use Rattle.propagator_tests.proofs.lists.clause.Goals as goal
 
 pub returns : goal.returns
-returns c = clause_made c.in_ok-lits.lits (c.in_ok-lits.ensures ∙ c.in_ok-vec.ensures.items)
+returns c = clause_made c.from_list.result (c.from_list.ensures ∙ c.in_ok-lits.ensures ∙ c.in_ok-vec.ensures.items)

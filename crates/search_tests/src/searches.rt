@@ -282,22 +282,21 @@ fn a_lesser_number_cuts_a_search(rt: HostRuntime) -> Result<(), Fail> {
     let mut other = found.split(&mut seat);
     found.post(&mut other, 3);
     // the number itself and greater ones cut nothing; a lesser one does, before the first node
-    let table: &[(Limits, u32, Expected)] = &[
+    for (limits, number, expected) in [
         ((0, 0), 2, Expected::Done(Some([1, 0]))),
         ((1, 0), 2, Expected::Spent((1, Why::Nodes))),
         ((0, 0), 3, Expected::Cut(2)),
-    ];
-    for (limits, number, expected) in table {
+    ] {
         let end = first_of(
             &rt,
             rt.alloc(),
             &searched,
-            *limits,
-            *number,
+            limits,
+            number,
             &found,
             &mut seat,
         )?;
-        assert!(rt; is_end(&end, *expected), "as number {number}");
+        assert!(rt; is_end(&end, expected), "as number {number}");
         assert_eq!(rt; found.seen(&mut other), Some(2));
     }
     Ok(())

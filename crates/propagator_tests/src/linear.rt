@@ -40,6 +40,7 @@ fn are_numbers(numbers: &[i64]) -> bool
 }
 
 /// The terms with these coefficients: the coefficients, and as many of variables 1, 2 and 3.
+#[tactic(auto, unfolding(guarded_tell::specs::Linear::term_limit, interval::specs::Limits::largest_number))]
 fn terms(
     rt: &impl Abort,
     alloc: Global,
@@ -56,6 +57,7 @@ fn terms(
 }
 
 /// The kernel of the sum.
+#[tactic(auto, unfolding(guarded_tell::specs::Kernels::vars_of, guarded_tell::specs::Kernels::HasNumbers))]
 fn linear(rt: &impl Abort, alloc: Global, sum: &Sum) -> Result<Kernel, AllocError>
     ensures { IfOk result (IsKernel 4) }
 {

@@ -119,26 +119,33 @@ fn opposed_kernels_fail_in_every_cut(rt: HostRuntime) -> Result<(), Fail> {
     Ok(())
 }
 
-/// A store has 32,768 epochs.
-#[test]
+/// Propagates two boxes in turn by one engine, more often than its store has epochs: these are 32,768.
 #[tactic(auto, unfolding(rounds::specs::Shares::share_limit, interval::specs::Limits::box_limit))]
-fn an_engine_goes_on_after_the_last_epoch_of_its_store(rt: HostRuntime) -> Result<(), Fail> {
-    let x_below_y = [at_most(rt.alloc(), &[1, -1], &[1, 2], -1)?];
-    let wide = four(rt.alloc(), [(1, 1), (0, 3), (0, 3), (0, 0)])?;
-    let failing = four(rt.alloc(), [(1, 1), (2, 3), (0, 2), (0, 0)])?;
-    let cut = even_cut(rt.alloc(), &x_below_y, 1)?;
-    let mut engine = Engine::new(rt.alloc(), 4, 1)?;
-    let mut into = wide.copy(rt.alloc())?;
+fn propagate_in_turn<R: Threads + Sync + Abort>(
+    rt: &R,
+    alloc: Global,
+    wide: &BoxOf,
+    failing: &BoxOf,
+    kernels: &[Kernel],
+) -> Result<(), NoMemory>
+    requires wide { length wide.now ≡ 4 }
+    requires failing { length failing.now ≡ 4 }
+    requires kernels { All (IsKernel 4) kernels.now }
+    requires one { length kernels.now ≡ 1 }
+{
+    let cut = even_cut(alloc, kernels, 1)?;
+    let mut engine = Engine::new(alloc, 4, 1)?;
+    let mut into = wide.copy(alloc)?;
     for pass in 0..32_800u32 {
         let fails = pass % 2 == 1;
         let work = Work {
-            start: if fails { &failing } else { &wide },
-            kernels: &x_below_y,
+            start: if fails { failing } else { wide },
+            kernels,
             cut: &cut,
             round_limit: 0,
             gate: &NoGate,
         };
-        let end = engine.propagate(&rt, rt.alloc(), &work, &mut into)?;
+        let end = engine.propagate(rt, alloc, &work, &mut into)?;
         if fails {
             assert_eq!(rt; end, Limited::Failed { rounds: 1 });
         } else {
@@ -146,6 +153,15 @@ fn an_engine_goes_on_after_the_last_epoch_of_its_store(rt: HostRuntime) -> Resul
             assert_eq!(rt; bounds_of(&into), [1, 1, 0, 2, 1, 3, 0, 0]);
         }
     }
+    Ok(())
+}
+
+#[test]
+fn an_engine_goes_on_after_the_last_epoch_of_its_store(rt: HostRuntime) -> Result<(), Fail> {
+    let x_below_y = [at_most(rt.alloc(), &[1, -1], &[1, 2], -1)?];
+    let wide = four(rt.alloc(), [(1, 1), (0, 3), (0, 3), (0, 0)])?;
+    let failing = four(rt.alloc(), [(1, 1), (2, 3), (0, 2), (0, 0)])?;
+    propagate_in_turn(&rt, rt.alloc(), &wide, &failing, &x_below_y)?;
     Ok(())
 }
 

@@ -1,6 +1,6 @@
 use Rattle.std.proofs.Common.{◌≡◌, length}
 use Rattle.rounds.specs.Engines.{engine_len, engine_shares}
-use Rattle.fixpoint_tests.proofs.lanes.an_engine_goes_on_after_the_last_epoch_of_its_store.Given as goal
+use Rattle.fixpoint_tests.proofs.lanes.propagate_in_turn.Given as goal
 
 abbrev pub invariant-loop-pass : goal.invariant-loop-pass
 invariant-loop-pass g l = record {

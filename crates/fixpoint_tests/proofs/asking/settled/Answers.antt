@@ -1,9 +1,0 @@
-use Rattle.std.proofs.Common.{ap, arith, length, ℤ, List}
-use Rattle.fixpoint_tests.proofs.Marking.{all_marked}
-use Rattle.fixpoint_tests.proofs.asking.settled.Goals as goal
-
-pub settle_moved-requires-clause-quiet : goal.settle_moved-requires-clause-quiet
-settle_moved-requires-clause-quiet c = all_marked c.law_quiet_unless_moved.ensures 4 _ _ _ _ c.mark_all.ensures
-    (omega (arith, c.in_ok-sets.ensures.moved.1))
-    (omega (arith, ap (λ (b : List (ℤ × ℤ)). length b) c.in_ok-b.ensures.current, c.in_ok-first.ensures))
-    c.absolute-kernels.ensures

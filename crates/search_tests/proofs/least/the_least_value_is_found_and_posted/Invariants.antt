@@ -3,4 +3,4 @@ use Rattle.search_tests.proofs.least.the_least_value_is_found_and_posted.Given a
 
 -- what may be posted are the costs of the model
 abbrev pub ghosts-assert_ends : goal.ghosts-assert_ends
-ghosts-assert_ends a = record { is_cost = λ cost. IsCost a.searched.now.model cost }
+ghosts-assert_ends g a = record { is_cost = λ cost. IsCost a.searched.now.model cost }

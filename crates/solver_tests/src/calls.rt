@@ -22,9 +22,9 @@ pub(crate) const SOUND: Stream = (1024, 0);
 /// What a call did.
 #[derive(Drop)]
 pub(crate) struct Outcome {
-    status: Status,
-    out: MemSink,
-    err: MemSink,
+    pub(crate) status: Status,
+    pub(crate) out: MemSink,
+    pub(crate) err: MemSink,
 }
 
 /// What a call is to end with: its status, and what it writes to standard output and to standard error.

@@ -2,11 +2,9 @@
 
 ghost use Rattle.std.specs.Prelude.{◌≡◌};
 
-use crate::calls::{
-    BOUNDS, Ended, Outcome, SOUND, Stream, assert_ended, assert_streams, run_source,
-};
-use fzn_io::{MemSource, Named};
-use solver_top::{Gates, NoGate, Status};
+use crate::calls::{BOUNDS, Ended, Outcome, SOUND, Stream, assert_ended, assert_streams};
+use fzn_io::{MemSink, MemSource, Named};
+use solver_top::{Gates, NoGate, Status, solve_main};
 use std::alloc::{AllocError, Global};
 use std::test::Fail;
 use std::thread::Threads;
@@ -32,11 +30,14 @@ fn run_file(
     };
     let (chunk, failing) = file;
     let mut files = MemSource::new(vec![in alloc; named]?, chunk, vec![in alloc; failing]?);
+    let mut out = MemSink::new(alloc, 1024, Vec::new(alloc));
+    let mut err = MemSink::new(alloc, 1024, Vec::new(alloc));
     let gates = Gates {
         crew: &NoGate,
         lanes: &NoGate,
     };
-    run_source(rt, alloc, &words, &mut files, (SOUND, SOUND), &gates)
+    let status = solve_main(rt, alloc, &words, &mut files, &mut out, &mut err, &gates);
+    Ok(Outcome { status, out, err })
 }
 
 const UNREAD: Ended<'static> = (Status::ReadFault, "", "read fault\n");

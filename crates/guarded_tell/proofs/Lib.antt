@@ -35,6 +35,7 @@ pub mod ClauseLaws
 pub mod ListPlaces
 pub mod ShortLaws
 pub mod QuietLaws
+pub mod PartedLaws
 pub mod PairLaws
 pub mod OpenLaws
 pub mod QuotientLaws

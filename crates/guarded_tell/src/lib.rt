@@ -17,6 +17,7 @@ mod maximum;
 mod minimum;
 mod narrowing;
 mod pairs;
+mod parted_quiet;
 mod products;
 mod quiet;
 mod remainder;

@@ -220,7 +220,7 @@ fn is_sum_equation_quiet(lit: Lit, coeffs: &[i64], vars: &[u32], limit: i64, b: 
 
 /// Whether the sums leave more room to the limit, on either side, than a term can grow by.
 #[tactic(auto, unfolding(crate::specs::Short::short_sum_limit, interval::specs::Limits::largest_number))]
-fn leaves_room_on_both_sides(lit: Lit, limit: i64, sums: Sums, b: &BoxOf) -> bool
+pub fn leaves_room_on_both_sides(lit: Lit, limit: i64, sums: Sums, b: &BoxOf) -> bool
     requires variable { lit.var < length b.now }
     requires proper { low_of b.now lit.var ≤ℤ high_of b.now lit.var }
     requires limit { IsNumber limit }

@@ -118,7 +118,7 @@ fn small_product(a: i64, z: i64) -> i64
 
 /// The sums with one more term, unless they get too large.
 #[tactic(auto, unfolding(crate::specs::Short::short_sum_limit, crate::specs::Short::small_product_limit, crate::specs::Short::small_limit))]
-fn sums_with(sums: Sums, term: SmallTerm) -> Option<Sums>
+pub fn sums_with(sums: Sums, term: SmallTerm) -> Option<Sums>
     requires sum_least { unsigned_abs sums.least ≤ short_sum_limit }
     requires sum_greatest { unsigned_abs sums.greatest ≤ short_sum_limit }
     requires term { IsSmallTerm term }

@@ -1,0 +1,101 @@
+-- A sum whose last term stands apart: its terms are those of the front and the last one.
+use Rattle.std.proofs.Common.{◌≡◌, ℕ, zero, suc, ◌+◌, ◌<◌, ◌≤ℤ◌, Option, None, Some, MatchOption, List, [], ◌∷◌, ◌++◌, length, get_or, length-append, ℤ, pos, ◌+ℤ◌, refl, ap, subst, ◌∙◌, arith}
+use Rattle.std.proofs.lemmas.Int.{ints}
+use Rattle.std.proofs.lemmas.List.{get_or_append_left}
+use Rattle.std.proofs.Math.Seq.{get_or-append_seam}
+use Rattle.std.specs.List.{zip}
+use Rattle.guarded_tell.specs.declared.short.Sums.{Sums}
+use Rattle.guarded_tell.specs.declared.short.SmallTerm.{SmallTerm}
+use Rattle.interval.specs.Limits.{IsNumber}
+use Rattle.interval.specs.Boxes.{Bounds, low_of, high_of}
+use Rattle.guarded_tell.specs.Words.{AreVariables, IsProperIn}
+use Rattle.guarded_tell.specs.Linear.{Term, sum_over, least_of, greatest_of, IsLinear}
+use Rattle.guarded_tell.specs.Short.{HasBounds, IsTermOf, HasOneMore, growth_of, AreShortSums}
+
+-- ---- lists with one more
+
+pub length-last : {X : Type 0} (xs : List X) (x : X) → length (xs ++ x ∷ []) ≡ length xs + 1
+length-last xs x = length-append xs (x ∷ [])
+
+pub zip-last : (coeffs : List ℤ) (vars : List ℕ) (a : ℤ) (x : ℕ) → length coeffs ≡ length vars → zip (coeffs ++ a ∷ []) (vars ++ x ∷ []) ≡ zip coeffs vars ++ (a, x) ∷ []
+zip-last [] [] a x same = refl
+zip-last [] (y ∷ vars) a x same = absurd (omega arith)
+zip-last (c ∷ coeffs) [] a x same = absurd (omega arith)
+zip-last (c ∷ coeffs) (y ∷ vars) a x same = ap (λ (ts : List Term). (c, y) ∷ ts) (zip-last coeffs vars a x (omega arith))
+
+pub sum_over-last : (f : Term → ℤ) (ts : List Term) (t : Term) → sum_over f (ts ++ t ∷ []) ≡ sum_over f ts +ℤ f t
+unfolding sum_over
+sum_over-last f [] t = omega (arith, ints)
+sum_over-last f (u ∷ ts) t = let rest = sum_over-last f ts t in omega (arith, ints)
+
+-- the sum over the terms of the front and the last one
+pub sum_over-parted : (f : Term → ℤ) (coeffs : List ℤ) (vars : List ℕ) (a : ℤ) (x : ℕ) → length coeffs ≡ length vars
+    → sum_over f (zip (coeffs ++ a ∷ []) (vars ++ x ∷ [])) ≡ sum_over f (zip coeffs vars) +ℤ f (a, x)
+sum_over-parted f coeffs vars a x same = ap (sum_over f) (zip-last coeffs vars a x same) ∙ sum_over-last f (zip coeffs vars) (a, x)
+
+-- what holds of each term of the front and of the last one holds of each term
+pub each-last : (P : ℤ → ℕ → Type 0) (coeffs : List ℤ) (vars : List ℕ) (a : ℤ) (x : ℕ) → length coeffs ≡ length vars
+    → ((i : ℕ) → i < length coeffs → P (get_or coeffs i (pos 0)) (get_or vars i 0)) → P a x
+    → (i : ℕ) → i < length (coeffs ++ a ∷ []) → P (get_or (coeffs ++ a ∷ []) i (pos 0)) (get_or (vars ++ x ∷ []) i 0)
+each-last P [] [] a x same each p zero h = p
+each-last P [] [] a x same each p (suc i) h = absurd (omega arith)
+each-last P [] (y ∷ vars) a x same each p i h = absurd (omega arith)
+each-last P (c ∷ coeffs) [] a x same each p i h = absurd (omega arith)
+each-last P (c ∷ coeffs) (y ∷ vars) a x same each p zero h = each 0 (omega arith)
+each-last P (c ∷ coeffs) (y ∷ vars) a x same each p (suc i) h = each-last P coeffs vars a x (omega arith) (λ k l. each (suc k) (omega arith)) p i (omega arith)
+
+-- ---- what a whole sum is, its front and its last term are
+
+pub linear-front : (coeffs : List ℤ) (vars : List ℕ) (a : ℤ) (x : ℕ) (limit : ℤ) → IsLinear (coeffs ++ a ∷ []) (vars ++ x ∷ []) limit → IsLinear coeffs vars limit
+linear-front coeffs vars a x limit whole = record {
+  same_length = omega (arith, whole.same_length, length-last coeffs a, length-last vars x);
+  short = omega (arith, whole.short, length-last coeffs a);
+  coefficients = λ i h. subst (λ (z : ℤ). IsNumber z) (get_or_append_left coeffs (a ∷ []) (pos 0) i h) (whole.coefficients i (omega (arith, length-last coeffs a)));
+  limit_in_range = whole.limit_in_range;
+}
+
+pub linear-last : (coeffs : List ℤ) (vars : List ℕ) (a : ℤ) (x : ℕ) (limit : ℤ) → IsLinear (coeffs ++ a ∷ []) (vars ++ x ∷ []) limit → IsNumber a
+linear-last coeffs vars a x limit whole =
+    subst (λ (z : ℤ). IsNumber z) (get_or-append_seam coeffs a [] (pos 0)) (whole.coefficients (length coeffs) (omega (arith, length-last coeffs a)))
+
+pub variables-front : (count : ℕ) (vars : List ℕ) (x : ℕ) → AreVariables count (vars ++ x ∷ []) → AreVariables count vars
+variables-front count vars x whole = record {
+  each = λ i h. subst (λ (v : ℕ). v < count) (get_or_append_left vars (x ∷ []) 0 i h) (whole.each i (omega (arith, length-last vars x)));
+}
+
+pub variables-last : (count : ℕ) (vars : List ℕ) (x : ℕ) → AreVariables count (vars ++ x ∷ []) → x < count
+variables-last count vars x whole = subst (λ (v : ℕ). v < count) (get_or-append_seam vars x [] 0) (whole.each (length vars) (omega (arith, length-last vars x)))
+
+pub proper-front : (b : Bounds) (vars : List ℕ) (x : ℕ) → IsProperIn (vars ++ x ∷ []) b → IsProperIn vars b
+proper-front b vars x whole = λ i h. subst (λ (v : ℕ). low_of b v ≤ℤ high_of b v) (get_or_append_left vars (x ∷ []) 0 i h) (whole i (omega (arith, length-last vars x)))
+
+pub proper-last : (b : Bounds) (vars : List ℕ) (x : ℕ) → IsProperIn (vars ++ x ∷ []) b → low_of b x ≤ℤ high_of b x
+proper-last b vars x whole = subst (λ (v : ℕ). low_of b v ≤ℤ high_of b v) (get_or-append_seam vars x [] 0) (whole (length vars) (omega (arith, length-last vars x)))
+
+-- ---- the sums of the front, with the last term, are those of the whole
+
+pub parted_sums : (b : Bounds) (coeffs : List ℤ) (vars : List ℕ) (a : ℤ) (x : ℕ) (before s : Sums) (t : SmallTerm) → length coeffs ≡ length vars
+    → AreShortSums b coeffs vars before → IsTermOf b a x t → HasOneMore before t s → AreShortSums b (coeffs ++ a ∷ []) (vars ++ x ∷ []) s
+parted_sums b coeffs vars a x before s t same front term more =
+    let least_step = sum_over-parted (least_of b) coeffs vars a x same in
+    let greatest_step = sum_over-parted (greatest_of b) coeffs vars a x same in
+    let B : ℤ → ℕ → Type 0 = λ c y. HasBounds b y in
+    let W : ℤ → ℕ → Type 0 = λ c y. growth_of b c y ≤ℤ s.widest in
+    record {
+      sums = record {
+        least = omega (arith, ints, more.least, term.least, front.sums.least);
+        greatest = omega (arith, ints, more.greatest, term.greatest, front.sums.greatest);
+        above_zero = omega (arith, ints, more.wider, front.sums.above_zero);
+        bounds = each-last B coeffs vars a x same front.sums.bounds term.bounds;
+        within = each-last W coeffs vars a x same (λ k h. omega (arith, ints, more.wider, front.sums.within k h)) (omega (arith, ints, more.within, term.least, term.greatest));
+      };
+      least_in_range = more.least_in_range;
+      greatest_in_range = more.greatest_in_range;
+    }
+
+-- they are so where one more term gives sums at all
+pub parted_option : (b : Bounds) (coeffs : List ℤ) (vars : List ℕ) (a : ℤ) (x : ℕ) (before : Sums) (t : SmallTerm) (o : Option Sums) → length coeffs ≡ length vars
+    → AreShortSums b coeffs vars before → IsTermOf b a x t → MatchOption o (Unit {0}) (λ s. HasOneMore before t s)
+    → MatchOption o (Unit {0}) (λ s. AreShortSums b (coeffs ++ a ∷ []) (vars ++ x ∷ []) s)
+parted_option b coeffs vars a x before t None same front term more = more
+parted_option b coeffs vars a x before t (Some s) same front term more = parted_sums b coeffs vars a x before s t same front term more

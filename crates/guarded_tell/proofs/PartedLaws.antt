@@ -1,9 +1,11 @@
 -- A sum whose last term stands apart: its terms are those of the front and the last one.
 use Rattle.std.proofs.Common.{◌≡◌, ℕ, zero, suc, ◌+◌, ◌<◌, ◌≤ℤ◌, Option, None, Some, MatchOption, List, [], ◌∷◌, ◌++◌, length, get_or, length-append, ℤ, pos, ◌+ℤ◌, refl, ap, subst, ◌∙◌, arith}
 use Rattle.std.proofs.lemmas.Int.{ints}
-use Rattle.std.proofs.lemmas.List.{get_or_append_left}
+use Rattle.std.proofs.lemmas.List.{get_or_append_left, append-nil}
+use Rattle.std.proofs.lemmas.Grind.{flat_map-append}
 use Rattle.std.proofs.Math.Seq.{get_or-append_seam}
-use Rattle.std.specs.List.{zip}
+use Rattle.std.specs.List.{zip, flat_map}
+use Rattle.guarded_tell.specs.declared.tell.Tell.{Tell}
 use Rattle.guarded_tell.specs.declared.short.Sums.{Sums}
 use Rattle.guarded_tell.specs.declared.short.SmallTerm.{SmallTerm}
 use Rattle.interval.specs.Limits.{IsNumber}
@@ -17,11 +19,11 @@ use Rattle.guarded_tell.specs.Short.{HasBounds, IsTermOf, HasOneMore, growth_of,
 pub length-last : {X : Type 0} (xs : List X) (x : X) → length (xs ++ x ∷ []) ≡ length xs + 1
 length-last xs x = length-append xs (x ∷ [])
 
-pub zip-last : (coeffs : List ℤ) (vars : List ℕ) (a : ℤ) (x : ℕ) → length coeffs ≡ length vars → zip (coeffs ++ a ∷ []) (vars ++ x ∷ []) ≡ zip coeffs vars ++ (a, x) ∷ []
-zip-last [] [] a x same = refl
-zip-last [] (y ∷ vars) a x same = absurd (omega arith)
-zip-last (c ∷ coeffs) [] a x same = absurd (omega arith)
-zip-last (c ∷ coeffs) (y ∷ vars) a x same = ap (λ (ts : List Term). (c, y) ∷ ts) (zip-last coeffs vars a x (omega arith))
+pub zip_last : (coeffs : List ℤ) (vars : List ℕ) (a : ℤ) (x : ℕ) → length coeffs ≡ length vars → zip (coeffs ++ a ∷ []) (vars ++ x ∷ []) ≡ zip coeffs vars ++ (a, x) ∷ []
+zip_last [] [] a x same = refl
+zip_last [] (y ∷ vars) a x same = absurd (omega arith)
+zip_last (c ∷ coeffs) [] a x same = absurd (omega arith)
+zip_last (c ∷ coeffs) (y ∷ vars) a x same = ap (λ (ts : List Term). (c, y) ∷ ts) (zip_last coeffs vars a x (omega arith))
 
 pub sum_over-last : (f : Term → ℤ) (ts : List Term) (t : Term) → sum_over f (ts ++ t ∷ []) ≡ sum_over f ts +ℤ f t
 unfolding sum_over
@@ -31,7 +33,7 @@ sum_over-last f (u ∷ ts) t = let rest = sum_over-last f ts t in omega (arith, 
 -- the sum over the terms of the front and the last one
 pub sum_over-parted : (f : Term → ℤ) (coeffs : List ℤ) (vars : List ℕ) (a : ℤ) (x : ℕ) → length coeffs ≡ length vars
     → sum_over f (zip (coeffs ++ a ∷ []) (vars ++ x ∷ [])) ≡ sum_over f (zip coeffs vars) +ℤ f (a, x)
-sum_over-parted f coeffs vars a x same = ap (sum_over f) (zip-last coeffs vars a x same) ∙ sum_over-last f (zip coeffs vars) (a, x)
+sum_over-parted f coeffs vars a x same = ap (sum_over f) (zip_last coeffs vars a x same) ∙ sum_over-last f (zip coeffs vars) (a, x)
 
 -- what holds of each term of the front and of the last one holds of each term
 pub each-last : (P : ℤ → ℕ → Type 0) (coeffs : List ℤ) (vars : List ℕ) (a : ℤ) (x : ℕ) → length coeffs ≡ length vars
@@ -99,3 +101,7 @@ pub parted_option : (b : Bounds) (coeffs : List ℤ) (vars : List ℕ) (a : ℤ)
     → MatchOption o (Unit {0}) (λ s. AreShortSums b (coeffs ++ a ∷ []) (vars ++ x ∷ []) s)
 parted_option b coeffs vars a x before t None same front term more = more
 parted_option b coeffs vars a x before t (Some s) same front term more = parted_sums b coeffs vars a x before s t same front term more
+
+-- what the terms tell, and then what the last one does
+pub flat_map_last : (f : Term → List Tell) (ts : List Term) (t : Term) → flat_map f (ts ++ t ∷ []) ≡ flat_map f ts ++ f t
+flat_map_last f ts t = flat_map-append f ts (t ∷ []) ∙ ap (λ us. flat_map f ts ++ us) (append-nil (f t))

@@ -8,6 +8,7 @@ pub mod Division
 pub mod Remainder
 pub mod Clause
 pub mod Literals
+pub mod Extended
 pub mod Extremes
 pub mod Maximum
 pub mod Minimum

@@ -17,17 +17,22 @@ use interval::BoxOf;
 
 /// What the sum is at least and at most, and the limit that it is to be.
 #[derive(Clone, Copy)]
-struct Equation {
-    sum: Range,
-    limit: i64,
+pub struct Equation {
+    /// What the sum is at least and at most.
+    pub sum: Range,
+    /// The limit.
+    pub limit: i64,
 }
 
 /// A term with what it is at least and at most.
 #[derive(Clone, Copy)]
-struct Term {
-    coeff: i64,
-    var: u32,
-    range: Range,
+pub struct Term {
+    /// The coefficient.
+    pub coeff: i64,
+    /// The variable.
+    pub var: u32,
+    /// What they are at least and at most.
+    pub range: Range,
 }
 
 /// Gives the tells of the equation to `h`, in order.
@@ -45,7 +50,7 @@ pub fn visit_eq<H: Hear>(lit: Lit, coeffs: &[i64], vars: &[u32], limit: i64, b: 
 }
 
 /// Tells the literal where the box decides the equation.
-fn tell_equation<H: Hear>(lit: Lit, equation: Equation, h: &mut H)
+pub fn tell_equation<H: Hear>(lit: Lit, equation: Equation, h: &mut H)
     requires { MayHearAll H.can_hear H.hears h.old
         (equality.equation_tells lit equation.limit equation.sum.least equation.sum.greatest) }
     ensures { HearsAll H.hears h.old
@@ -160,7 +165,7 @@ fn tell_where_out<H: Hear>(
 }
 
 /// Tells that the sum is the limit.
-fn tell_equal<H: Hear>(coeffs: &[i64], vars: &[u32], equation: Equation, b: &BoxOf, h: &mut H)
+pub fn tell_equal<H: Hear>(coeffs: &[i64], vars: &[u32], equation: Equation, b: &BoxOf, h: &mut H)
     requires linear { IsLinear coeffs.now vars.now equation.limit }
     requires variables { AreVariables (length b.now) vars.now }
     requires least_in_range { unsigned_abs equation.sum.least ≤ sum_limit }
@@ -177,7 +182,7 @@ fn tell_equal<H: Hear>(coeffs: &[i64], vars: &[u32], equation: Equation, b: &Box
 }
 
 /// Tells that the sum isn't the limit.
-fn tell_unequal<H: Hear>(coeffs: &[i64], vars: &[u32], equation: Equation, b: &BoxOf, h: &mut H)
+pub fn tell_unequal<H: Hear>(coeffs: &[i64], vars: &[u32], equation: Equation, b: &BoxOf, h: &mut H)
     requires linear { IsLinear coeffs.now vars.now equation.limit }
     requires variables { AreVariables (length b.now) vars.now }
     requires least_in_range { unsigned_abs equation.sum.least ≤ sum_limit }
@@ -194,7 +199,7 @@ fn tell_unequal<H: Hear>(coeffs: &[i64], vars: &[u32], equation: Equation, b: &B
 }
 
 /// The term of a coefficient and a variable.
-fn term_of(coeff: i64, var: u32, b: &BoxOf) -> Term
+pub fn term_of(coeff: i64, var: u32, b: &BoxOf) -> Term
     requires coefficient { IsNumber coeff }
     requires variable { var < length b.now }
     ensures coeff { result.coeff ≡ coeff }
@@ -209,7 +214,7 @@ fn term_of(coeff: i64, var: u32, b: &BoxOf) -> Term
 }
 
 /// Tells that the term is what the others leave of the limit.
-fn tell_equal_term<H: Hear>(term: Term, equation: Equation, h: &mut H)
+pub fn tell_equal_term<H: Hear>(term: Term, equation: Equation, h: &mut H)
     requires limit { IsNumber equation.limit }
     requires least_sum { unsigned_abs equation.sum.least ≤ sum_limit }
     requires greatest_sum { unsigned_abs equation.sum.greatest ≤ sum_limit }
@@ -229,7 +234,7 @@ fn tell_equal_term<H: Hear>(term: Term, equation: Equation, h: &mut H)
 }
 
 /// Tells that the term isn't what the others leave of the limit, where they are fixed.
-fn tell_unequal_term<H: Hear>(term: Term, equation: Equation, b: &BoxOf, h: &mut H)
+pub fn tell_unequal_term<H: Hear>(term: Term, equation: Equation, b: &BoxOf, h: &mut H)
     requires limit { IsNumber equation.limit }
     requires coefficient { IsNumber term.coeff }
     requires variable { term.var < length b.now }

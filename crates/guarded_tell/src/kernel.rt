@@ -3,7 +3,7 @@
 ghost use Rattle.std.specs.Prelude.{◌≡◌, ◌<◌, length, slice_index};
 
 use crate::clause::{clause_var, clause_var_count};
-use crate::{Lit, Literals};
+use crate::{Extended, Lit, Literals};
 use shared_list::SharedList;
 
 /// A relation over a box's variables that is run as a propagator.
@@ -25,9 +25,9 @@ pub enum Kernel {
         /// The literal.
         lit: Lit,
         /// One coefficient for each variable of `vars`.
-        coeffs: SharedList<i64>,
+        coeffs: Extended<i64>,
         /// The variables of the sum.
-        vars: SharedList<u32>,
+        vars: Extended<u32>,
         /// The limit.
         limit: i64,
     },
@@ -114,7 +114,8 @@ impl Kernel {
         ensures { result ≡ length (vars_of self.now) }
     {
         match self {
-            Kernel::Le { vars, .. } | Kernel::Eq { vars, .. } => vars.len() + 1,
+            Kernel::Le { vars, .. } => vars.len() + 1,
+            Kernel::Eq { vars, .. } => vars.len() + 1,
             Kernel::Times { .. } | Kernel::Div { .. } | Kernel::Mod { .. } => 3,
             Kernel::Abs { .. } => 2,
             Kernel::Max { xs, .. } | Kernel::Min { xs, .. } => xs.len() + 1,
@@ -131,11 +132,18 @@ impl Kernel {
         ensures { result ≡ slice_index (vars_of self.now) place }
     {
         match self {
-            Kernel::Le { lit, vars, .. } | Kernel::Eq { lit, vars, .. } => {
+            Kernel::Le { lit, vars, .. } => {
                 if place == 0 {
                     lit.var
                 } else {
                     vars.as_slice()[place - 1]
+                }
+            }
+            Kernel::Eq { lit, vars, .. } => {
+                if place == 0 {
+                    lit.var
+                } else {
+                    vars.at(place - 1)
                 }
             }
             Kernel::Times { x, y, z } | Kernel::Div { x, y, z } | Kernel::Mod { x, y, z } =>

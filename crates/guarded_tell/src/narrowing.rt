@@ -10,8 +10,9 @@ ghost use Rattle.guarded_tell.specs.Kernels.{vars_of, tells, IsKernel};
 ghost use Rattle.guarded_tell.specs.Narrowing.{narrowing, narrowing_tells};
 ghost use Rattle.guarded_tell.specs.Narrowing as words;
 
+use crate::parted::is_whole_equation_quiet;
 use crate::products::is_product_quiet;
-use crate::quiet::{Hint, is_at_most_quiet, is_clause_quiet, is_equation_quiet};
+use crate::quiet::{Hint, is_at_most_quiet, is_clause_quiet};
 use crate::{Hear, Kernel, Side, Tell, law_tell_place, visit_tells};
 use interval::{BoxOf, law_clamp_order, law_quotient_order};
 
@@ -46,7 +47,7 @@ pub fn is_quiet(k: &Kernel, b: &BoxOf, hint: &mut Hint) -> bool
             coeffs,
             vars,
             limit,
-        } => is_equation_quiet(*lit, coeffs.as_slice(), vars.as_slice(), *limit, b, hint),
+        } => is_whole_equation_quiet(*lit, coeffs, vars, *limit, b, hint),
         Kernel::Clause { lits } => is_clause_quiet(lits, b, hint),
         Kernel::Times { x, y, z } => is_product_quiet(*x, *y, *z, b),
         _ => false,

@@ -29,6 +29,8 @@ pub fn sum_range(coeffs: &[i64], vars: &[u32], b: &BoxOf) -> Range
     ensures greatest { result.greatest ≡ sum_over (greatest_of b.now) (zip coeffs.now vars.now) }
     ensures least_in_range { unsigned_abs result.least ≤ sum_limit }
     ensures greatest_in_range { unsigned_abs result.greatest ≤ sum_limit }
+    ensures least_small { unsigned_abs result.least ≤ length coeffs.now * product_limit }
+    ensures greatest_small { unsigned_abs result.greatest ≤ length coeffs.now * product_limit }
 {
     let mut sum = Range {
         least: 0,
@@ -43,7 +45,7 @@ pub fn sum_range(coeffs: &[i64], vars: &[u32], b: &BoxOf) -> Range
 
 /// The sum with one more term.
 #[tactic(auto, unfolding(crate::specs::Linear::sum_limit, crate::specs::Linear::term_limit, crate::specs::Linear::product_limit, interval::specs::Limits::bound_limit, interval::specs::Limits::largest_number))]
-fn sum_with(sum: Range, term: Range) -> Range
+pub fn sum_with(sum: Range, term: Range) -> Range
     requires sum_least { unsigned_abs sum.least ≤ sum_limit }
     requires sum_greatest { unsigned_abs sum.greatest ≤ sum_limit }
     requires term_least { unsigned_abs term.least ≤ product_limit }

@@ -9,11 +9,11 @@ use crate::absolute::visit_abs;
 use crate::clause::visit_clause;
 use crate::division::visit_div;
 use crate::element::visit_element;
-use crate::equality::visit_eq;
 use crate::in_set::visit_in_set;
 use crate::linear::visit_le;
 use crate::maximum::visit_max;
 use crate::minimum::visit_min;
+use crate::parted::visit_equation;
 use crate::remainder::visit_mod;
 use crate::times::visit_times;
 use crate::{Hear, Kernel};
@@ -39,7 +39,7 @@ pub fn visit_tells<H: Hear>(k: &Kernel, b: &BoxOf, h: &mut H)
             coeffs,
             vars,
             limit,
-        } => visit_eq(*lit, coeffs.as_slice(), vars.as_slice(), *limit, b, h),
+        } => visit_equation(*lit, coeffs, vars, *limit, b, h),
         Kernel::Times { x, y, z } => visit_times(*x, *y, *z, b, h),
         Kernel::Div { x, y, z } => visit_div(*x, *y, *z, b, h),
         Kernel::Mod { x, y, z } => visit_mod(*x, *y, *z, b, h),

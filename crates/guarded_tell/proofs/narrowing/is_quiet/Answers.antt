@@ -13,10 +13,8 @@ is_at_most_quiet-requires-clause-proper c =
     let same : c.as_slice-in-Le.result.now ≡ c.in-Le.vars = cc in
     subst P (sym same) (subst Q c.in-Le.is c.requires.proper)
 
-pub is_equation_quiet-requires-clause-proper : goal.is_equation_quiet-requires-clause-proper
+pub is_whole_equation_quiet-requires-clause-proper : goal.is_whole_equation_quiet-requires-clause-proper
 unfolding vars_of
-is_equation_quiet-requires-clause-proper c =
-    let P : List ℕ → Type 0 = λ vs. IsProperIn (c.in-Eq.lit.var ∷ vs) c.args.b.now in
+is_whole_equation_quiet-requires-clause-proper c =
     let Q : Kernel → Type 0 = λ k. IsProperIn (vars_of k) c.args.b.now in
-    let same : c.as_slice-in-Eq-2.result.now ≡ c.in-Eq.vars = cc in
-    subst P (sym same) (subst Q c.in-Eq.is c.requires.proper)
+    subst Q c.in-Eq.is c.requires.proper

@@ -10,3 +10,4 @@ pub mod AskLaws
 pub mod JoinedLaws
 pub mod ListLaws
 pub mod ClauseLists
+pub mod EquationLists

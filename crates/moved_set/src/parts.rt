@@ -1,12 +1,12 @@
 //! Kernels' variables in two parts: a list that a kernel may have with others, and those before and behind it, which are
 //! its own. What is kept for each variable of a list is then kept once, however many kernels have the list.
 
-ghost use Rattle.std.specs.Prelude.{◌≡◌, ◌≢◌, ◌<◌, ◌≤◌, ◌++◌, [], ◌∷◌, length, slice_index_or, slice_range, All, IsTrue, IfOk, OnOk, IfSome};
+ghost use Rattle.std.specs.Prelude.{ℕ, ◌≡◌, ◌≢◌, ◌<◌, ◌≤◌, ◌++◌, [], ◌∷◌, length, slice_index_or, slice_range, All, IsTrue, IfOk, OnOk, IfSome};
 ghost use Rattle.guarded_tell.specs.Clause.{clause_vars};
 ghost use Rattle.guarded_tell.specs.Kernels.{vars_of, IsKernel, HasNumbers};
 ghost use Rattle.moved_set.specs.Parts.{HasList, IsPart, AreLists, AreParts, own_at, Grows, GrowsBy};
 
-use guarded_tell::{Kernel, Literals};
+use guarded_tell::{Extended, Kernel, Literals};
 use shared_list::SharedList;
 use std::alloc::{AllocError, Global};
 use std::collections::BTreeMap;
@@ -43,12 +43,22 @@ fn long_list(kernel: &Kernel) -> Option<(usize, &SharedList<u32>)>
     ensures { IfSome result (λ found. HasList (vars_of kernel.now) found.0 found.1.now) }
 {
     match kernel {
-        Kernel::Le { vars, .. } | Kernel::Eq { vars, .. } => Some((1, vars)),
+        Kernel::Le { vars, .. } => Some((1, vars)),
+        Kernel::Eq { vars, .. } => Some((1, long_list_of_equation(vars))),
         Kernel::Max { xs, .. } | Kernel::Min { xs, .. } => Some((1, xs)),
         Kernel::Element { entries, .. } => Some((2, entries)),
         Kernel::Clause { lits } => long_list_of_clause(lits),
         _ => None,
     }
+}
+
+/// The same of an equation: its variables, or all but the last of them.
+#[tactic(auto, using(crate::proofs::EquationLists::has_list))]
+fn long_list_of_equation(vars: &Extended<u32>) -> &SharedList<u32>
+    ensures { (v : ℕ) → HasList (v ∷ vars.now) 1 result.now }
+{
+    let (list, _) = vars.parts();
+    list
 }
 
 /// The same of a clause: the variables of its positive literals, where these have another owner, or those of its negative

@@ -1,33 +1,20 @@
 -- Which arguments a constraint takes, and what stands at them.
-use Rattle.std.specs.Prelude.{◌≡◌, ℕ, ◌+◌, ℤ, pos, List, [], ◌∷◌, ◌++◌, length, take, map, Bool, true, false, not, ◌&&◌, cond, nat_eq, flat_map, find, Option, Some, unwrap_or, if◌then◌else◌, bytes_eq}
+use Rattle.std.specs.Prelude.{◌≡◌, ℕ, ◌+◌, ℤ, pos, List, [], ◌∷◌, ◌++◌, length, take, map, Bool, true, false, ◌&&◌, cond, nat_eq, flat_map, find, Option, Some, unwrap_or, if◌then◌else◌, bytes_eq}
 use Rattle.std.specs.List.{list_all, list_any}
 use Rattle.std.specs.Ordering.{int_eq}
 use Rattle.constraint_model.specs.declared.model.Term.{Term}
 use Rattle.constraint_model.specs.declared.model.Operand.{Operand}
 use Rattle.constraint_model.specs.declared.model.Constraint.{Constraint}
 use Rattle.constraint_model.specs.declared.model.Goal.{Goal}
-use Rattle.constraint_model.specs.declared.meanings.Scalar.{Scalar}
 use Rattle.constraint_model.specs.declared.meanings.Meaning.{Meaning}
 use Rattle.constraint_model.specs.declared.table.ConstraintName.{ConstraintName}
 use Rattle.constraint_model.specs.declared.table.Letter.{Letter}
 use Rattle.constraint_model.specs.Table.{names, spelled, signatures}
+pub use Rattle.constraint_model.specs.Kinds.{is_constant, is_integer, is_boolean}
 
 -- the constraint of this name, where it is known
 unfoldable pub named : List ℕ → Option ConstraintName
 named word = find (λ name. bytes_eq (spelled name) word) names
-
-abbrev pub is_constant : Scalar → Bool
-is_constant s = is_number s.term
-  where
-    is_number : Term → Bool
-    is_number (Term.Number n) = true
-    is_number (Term.Var v) = false
-
-abbrev pub is_integer : Scalar → Bool
-is_integer s = not s.is_bool
-
-abbrev pub is_boolean : Scalar → Bool
-is_boolean s = s.is_bool
 
 -- an array fits by its entries, not by its declared type; an empty one fits every array type
 abbrev pub fits : Letter → Meaning → Bool

@@ -8,3 +8,4 @@ pub mod Searches
 pub mod Table
 pub mod WellFormed
 pub mod Entries
+pub mod Kinds

@@ -1,8 +1,11 @@
 //! The entries of an array.
 
 ghost use Rattle.std.specs.Prelude.{◌≡◌, length, map, IfOk};
+ghost use Rattle.std.specs.List.{list_all};
 ghost use Rattle.constraint_model.specs.Entries.{variables_in};
+ghost use Rattle.constraint_model.specs.Kinds.{is_constant, is_integer, is_boolean};
 
+use crate::kinds::Kinds;
 use crate::meanings::Scalar;
 use crate::model::Term;
 use shared_list::SharedList;
@@ -10,24 +13,27 @@ use std::alloc::{AllocError, Global};
 use std::marker::Model;
 
 /// The entries of an array, seen by contracts as the list of what they stand for. Beside them stand their terms alone,
-/// which the constraints that name the array share, and their variables, which search annotations share.
+/// which the constraints that name the array share, their variables, which search annotations share, and what each of them
+/// is, so that a constraint that names the array needn't go through them.
 #[derive(Drop)]
 pub struct Entries {
     scalars: SharedList<Scalar>,
     terms: SharedList<Term>,
     variables: SharedList<u32>,
+    kinds: Kinds,
 }
 
 impl Model for Entries {
     ghost use Rattle.std.specs.Prelude.{◌≡◌, List, map};
     ghost use Rattle.constraint_model.specs.declared.meanings.Scalar.{Scalar};
     ghost use Rattle.constraint_model.specs.Entries.{variables_in};
+    ghost use Rattle.constraint_model.specs.Kinds.{kinds_of};
 
     ghost Value = { List Scalar };
 
     ghost view = { λ e. e.scalars };
 
-    ghost invariant = { λ e. (e.terms ≡ map (λ s. s.term) e.scalars) × (e.variables ≡ variables_in e.scalars) };
+    ghost invariant = { λ e. (e.terms ≡ map (λ s. s.term) e.scalars) × (e.variables ≡ variables_in e.scalars) × (e.kinds ≡ kinds_of e.scalars) };
 }
 
 /// The terms of scalars.
@@ -54,10 +60,12 @@ impl Entries {
     {
         let terms = SharedList::with_mark(terms_of(alloc, scalars.as_slice())?, mark)?;
         let variables = SharedList::from_vec(variables_of(alloc, scalars.as_slice())?)?;
+        let kinds = Kinds::of(scalars.as_slice());
         Ok(Entries {
             scalars: SharedList::from_vec(scalars)?,
             terms,
             variables,
+            kinds,
         })
     }
 
@@ -83,7 +91,29 @@ impl Entries {
             scalars: self.scalars.share(alloc)?,
             terms: self.terms.share(alloc)?,
             variables: self.variables.share(alloc)?,
+            kinds: self.kinds,
         })
+    }
+
+    /// Whether each is an integer.
+    pub(crate) fn are_integers(&self) -> bool
+        ensures { result ≡ list_all is_integer self.now }
+    {
+        self.kinds.all_integers
+    }
+
+    /// Whether each is a boolean.
+    pub(crate) fn are_booleans(&self) -> bool
+        ensures { result ≡ list_all is_boolean self.now }
+    {
+        self.kinds.all_booleans
+    }
+
+    /// Whether each is a constant.
+    pub(crate) fn are_constants(&self) -> bool
+        ensures { result ≡ list_all is_constant self.now }
+    {
+        self.kinds.all_constants
     }
 
     /// Their terms for another owner. Of a long array none is copied.
@@ -108,6 +138,7 @@ impl Entries {
             scalars: _,
             terms,
             variables: _,
+            kinds: _,
         } = self;
         terms
     }

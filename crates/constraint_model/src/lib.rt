@@ -6,6 +6,7 @@ mod constant_set;
 mod counted_rows;
 mod entries;
 mod kernels;
+mod kinds;
 pub mod meanings;
 pub mod model;
 mod numbers;

@@ -2,11 +2,11 @@
 
 ghost use Rattle.std.specs.Prelude.{◌≡◌, map, find, bytes_eq, MatchOption, None, Some, is_some};
 ghost use Rattle.constraint_model.specs.Table.{spelled, signatures};
-ghost use Rattle.constraint_model.specs.Fits.{named, is_constant, is_integer, is_boolean, fits, all_fit, has_equal_lengths, fits_row, row_for, NamesAreFound, LettersAreThose};
-ghost use Rattle.std.specs.List.{list_all};
+ghost use Rattle.constraint_model.specs.Fits.{named, fits, all_fit, has_equal_lengths, fits_row, row_for, NamesAreFound, LettersAreThose};
 
+use crate::entries::Entries;
+use crate::kinds::is_constant;
 use crate::meanings::{Meaning, Scalar};
-use crate::model::Term;
 
 /// The name of a constraint of FlatZinc.
 #[derive(Debug, Clone, Copy, PartialEq, Eq)]
@@ -315,13 +315,6 @@ impl ConstraintName {
     }
 }
 
-/// Whether it is a constant.
-fn is_constant(scalar: Scalar) -> bool
-    ensures { result ≡ is_constant scalar }
-{
-    matches!(scalar.term, Term::Number(_))
-}
-
 /// Whether a boolean or an integer may stand at such an argument.
 fn scalar_fits(letter: Letter, scalar: Scalar) -> bool
     ensures { result ≡ fits letter (Meaning.One scalar) }
@@ -334,33 +327,15 @@ fn scalar_fits(letter: Letter, scalar: Scalar) -> bool
     }
 }
 
-fn are_integers(entries: &[Scalar]) -> bool
-    ensures { result ≡ list_all is_integer entries.now }
-{
-    entries.iter().all(|entry| !entry.is_bool)
-}
-
-fn are_booleans(entries: &[Scalar]) -> bool
-    ensures { result ≡ list_all is_boolean entries.now }
-{
-    entries.iter().all(|entry| entry.is_bool)
-}
-
-fn are_constants(entries: &[Scalar]) -> bool
-    ensures { result ≡ list_all is_constant entries.now }
-{
-    entries.iter().all(|entry| is_constant(*entry))
-}
-
 /// Whether an array of these entries may.
-fn row_fits(letter: Letter, entries: &[Scalar]) -> bool
+fn row_fits(letter: Letter, entries: &Entries) -> bool
     ensures { result ≡ fits letter (Meaning.Row entries.now) }
 {
     match letter {
-        Letter::Integers => are_integers(entries),
-        Letter::Booleans => are_booleans(entries),
-        Letter::Coefficients | Letter::Numbers => are_integers(entries) && are_constants(entries),
-        Letter::Truths => are_booleans(entries) && are_constants(entries),
+        Letter::Integers => entries.are_integers(),
+        Letter::Booleans => entries.are_booleans(),
+        Letter::Coefficients | Letter::Numbers => entries.are_integers() && entries.are_constants(),
+        Letter::Truths => entries.are_booleans() && entries.are_constants(),
         _ => false,
     }
 }
@@ -371,7 +346,7 @@ pub fn fits(letter: Letter, meaning: &Meaning) -> bool
 {
     match meaning {
         Meaning::One(scalar) => scalar_fits(letter, *scalar),
-        Meaning::Row(entries) => row_fits(letter, entries.as_slice()),
+        Meaning::Row(entries) => row_fits(letter, entries),
         Meaning::Set(_) => matches!(letter, Letter::Set),
     }
 }

@@ -1,0 +1,28 @@
+-- What the entries of an array are alike in.
+use Rattle.std.specs.Prelude.{List, Bool, true, false, not}
+use Rattle.std.specs.List.{list_all}
+use Rattle.constraint_model.specs.declared.model.Term.{Term}
+use Rattle.constraint_model.specs.declared.meanings.Scalar.{Scalar}
+use Rattle.constraint_model.specs.declared.kinds.Kinds.{Kinds}
+
+abbrev pub is_constant : Scalar → Bool
+is_constant s = is_number s.term
+  where
+    is_number : Term → Bool
+    is_number (Term.Number n) = true
+    is_number (Term.Var v) = false
+
+abbrev pub is_integer : Scalar → Bool
+is_integer s = not s.is_bool
+
+abbrev pub is_boolean : Scalar → Bool
+is_boolean s = s.is_bool
+
+-- what each of these entries is
+abbrev pub kinds_of : List Scalar → Kinds
+kinds_of entries =
+    record {
+      all_integers = list_all is_integer entries;
+      all_booleans = list_all is_boolean entries;
+      all_constants = list_all is_constant entries;
+    }

@@ -1,0 +1,57 @@
+//! What the entries of an array are alike in.
+
+ghost use Rattle.std.specs.Prelude.{◌≡◌};
+ghost use Rattle.std.specs.List.{list_all};
+ghost use Rattle.constraint_model.specs.Kinds.{is_constant, is_integer, is_boolean, kinds_of};
+
+use crate::meanings::Scalar;
+use crate::model::Term;
+
+/// What each entry of an array is. Each constraint that names the array asks for it, so it is found once.
+#[derive(Clone, Copy)]
+pub(crate) struct Kinds {
+    /// Whether each is an integer.
+    pub(crate) all_integers: bool,
+    /// Whether each is a boolean.
+    pub(crate) all_booleans: bool,
+    /// Whether each is a constant.
+    pub(crate) all_constants: bool,
+}
+
+/// Whether it is a constant.
+pub(crate) fn is_constant(scalar: Scalar) -> bool
+    ensures { result ≡ is_constant scalar }
+{
+    matches!(scalar.term, Term::Number(_))
+}
+
+fn are_integers(entries: &[Scalar]) -> bool
+    ensures { result ≡ list_all is_integer entries.now }
+{
+    entries.iter().all(|entry| !entry.is_bool)
+}
+
+fn are_booleans(entries: &[Scalar]) -> bool
+    ensures { result ≡ list_all is_boolean entries.now }
+{
+    entries.iter().all(|entry| entry.is_bool)
+}
+
+fn are_constants(entries: &[Scalar]) -> bool
+    ensures { result ≡ list_all is_constant entries.now }
+{
+    entries.iter().all(|entry| is_constant(*entry))
+}
+
+impl Kinds {
+    /// What each of these entries is.
+    pub(crate) fn of(entries: &[Scalar]) -> Kinds
+        ensures { result ≡ kinds_of entries.now }
+    {
+        Kinds {
+            all_integers: are_integers(entries),
+            all_booleans: are_booleans(entries),
+            all_constants: are_constants(entries),
+        }
+    }
+}

@@ -18,7 +18,7 @@ pub(crate) fn number(term: Term) -> i64
 }
 
 /// Adds the numbers of coefficients.
-pub(crate) fn add_numbers(terms: &[Term], numbers: &mut Vec<i64>) -> Result<(), AllocError>
+fn add_numbers(terms: &[Term], numbers: &mut Vec<i64>) -> Result<(), AllocError>
     ensures { OnOk result (numbers.new.items ≡ numbers.old.items ++ map number_of terms.now) }
 {
     for term in terms {

@@ -102,11 +102,7 @@ impl Places {
     }
 
     /// Adds the variables of terms.
-    pub(crate) fn add_variables(
-        &self,
-        terms: &[Term],
-        variables: &mut Vec<u32>,
-    ) -> Result<(), AllocError>
+    fn add_variables(&self, terms: &[Term], variables: &mut Vec<u32>) -> Result<(), AllocError>
         requires { All (IsDeclared self.now.count) terms.now }
         ensures { OnOk result (variables.new.items ≡ variables.old.items ++ variables_of self.now terms.now) }
     {

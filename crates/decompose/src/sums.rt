@@ -1,15 +1,15 @@
 //! The kernels of sums.
 
-ghost use Rattle.std.specs.Prelude.{◌≡◌, ◌++◌, [], ◌∷◌, map, negsuc, All, IfOk, OnOk};
+ghost use Rattle.std.specs.Prelude.{◌≡◌, ◌++◌, All, OnOk};
 ghost use Rattle.constraint_model.specs.declared.table.ConstraintName.{ConstraintName};
-ghost use Rattle.decompose.specs.Kernels.{number_of, variables_of, on_sum, on_reified_sum, row_of};
+ghost use Rattle.decompose.specs.Kernels.{on_sum, on_reified_sum, row_of};
 ghost use Rattle.decompose.specs.Places.{IsDeclared, HasDeclared};
 ghost use Rattle.decompose.specs.Rows.{literal_at, sum_kernel, linear_kernel};
 
-use crate::coefficients::{add_numbers, number};
+use crate::coefficients::number;
 use crate::places::{ALWAYS, Places};
 use constraint_model::{Operand, Term};
-use guarded_tell::{Kernel, Lit};
+use guarded_tell::{Extended, Kernel, Lit};
 use list_of::ListOf;
 use shared_list::SharedList;
 use std::alloc::{AllocError, Global};
@@ -53,8 +53,8 @@ impl LinearComparison {
             },
             Relation::Equal => Kernel::Eq {
                 lit,
-                coeffs,
-                vars,
+                coeffs: Extended::from_list(coeffs),
+                vars: Extended::from_list(vars),
                 limit,
             },
         }
@@ -181,33 +181,6 @@ pub(crate) fn plus(
     }
 }
 
-/// The numbers of coefficients, and then -1.
-fn numbers_and_minus_one(alloc: Global, terms: &[Term]) -> Result<SharedList<i64>, AllocError>
-    ensures { IfOk result (λ numbers. numbers ≡ map number_of terms.now ++ negsuc 0 ∷ []) }
-{
-    let mut numbers = Vec::with_capacity(alloc, terms.len() + 1)?;
-    add_numbers(terms, &mut numbers)?;
-    numbers.push(-1)?;
-    SharedList::from_vec(numbers)
-}
-
-/// The variables of terms, and then that of one more.
-fn variables_and_one(
-    alloc: Global,
-    places: &Places,
-    terms: &[Term],
-    last: Term,
-) -> Result<SharedList<u32>, AllocError>
-    requires declared { All (IsDeclared places.now.count) terms.now }
-    requires declared_last { IsDeclared places.now.count last }
-    ensures { IfOk result (λ vars. vars ≡ variables_of places.now (terms.now ++ last ∷ [])) }
-{
-    let mut variables = Vec::with_capacity(alloc, terms.len() + 1)?;
-    places.add_variables(terms, &mut variables)?;
-    variables.push(places.variable(last))?;
-    SharedList::from_vec(variables)
-}
-
 /// Adds the kernel of a sum that equals a term: the sum less the term is 0.
 #[tactic(auto, unfolding(crate::specs::Kernels::row_of))]
 pub(crate) fn sum_equal(
@@ -225,12 +198,12 @@ pub(crate) fn sum_equal(
             Operand::Row(terms),
             Operand::One(total),
         ] => {
-            let coeffs = numbers_and_minus_one(alloc, coefficients.as_slice())?;
-            let vars = variables_and_one(alloc, places, terms.as_slice(), *total)?;
+            let coeffs = places.numbers_of_row(alloc, coefficients)?;
+            let vars = places.variables_of_row(alloc, terms)?;
             kernels.push(Kernel::Eq {
                 lit: ALWAYS,
-                coeffs,
-                vars,
+                coeffs: Extended::with_last(coeffs, -1),
+                vars: Extended::with_last(vars, places.variable(*total)),
                 limit: 0,
             })?;
             Ok(())

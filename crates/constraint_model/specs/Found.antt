@@ -10,7 +10,7 @@ use Rattle.constraint_model.specs.Fits.{constant_of}
 pub record Finds (places : BTreeMap ℤ ℕ) (numbers : List ℤ) : Type 0 where
   pub at_first : (n : ℤ) → list_any (int_eq n) numbers ≡ true → get int_cmp places n ≡ Some (position_or_len (int_eq n) numbers)
 
--- the constants of these terms are among the numbers
+-- the constants of these terms other than 1 are among the numbers
 abbrev pub HasConstants : List ℤ → List Term → Type 0
 HasConstants numbers terms = All (Contains numbers) (flat_map constant_of terms)
 

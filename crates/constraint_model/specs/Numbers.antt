@@ -5,5 +5,6 @@ use Rattle.std.specs.Prelude.{ℕ, ◌≤◌, ℤ, unsigned_abs}
 unfoldable pub largest : ℕ
 largest = 140737488355327
 
+-- a number that a model may have
 abbrev pub IsInProfile : ℤ → Type 0
 IsInProfile z = unsigned_abs z ≤ largest

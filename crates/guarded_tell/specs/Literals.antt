@@ -1,4 +1,4 @@
--- The literals of a clause, wherever they stand.
+-- The literals of a clause, whether they are listed or its variables are, by their signs.
 use Rattle.std.specs.Prelude.{ℕ, Bool, true, false, List, ◌++◌, map}
 use Rattle.guarded_tell.specs.declared.tell.Lit.{Lit}
 use Rattle.guarded_tell.specs.declared.literal_list.Form.{Form}
@@ -11,7 +11,7 @@ literal positive v = record { var = v; positive = positive }
 abbrev pub literals_by_sign : List ℕ → List ℕ → List Lit
 literals_by_sign positives negatives = map (literal true) positives ++ map (literal false) negatives
 
--- the literals in order
+-- the listed literals, or the positive ones and behind them the negative ones
 abbrev pub literals : Form → List Lit
 literals (Form.Listed lits) = lits
 literals (Form.BySign positives negatives) = literals_by_sign positives negatives

@@ -21,7 +21,8 @@ pub record HasList (vars : List ℕ) (before : ℕ) (list : List ℕ) : Type 0 w
   pub within : before + length list ≤ length vars
   pub parted : vars ≡ take before vars ++ list ++ drop (before + length list) vars
 
--- among the variables stands the list at the part's place
+-- the part's list is one of the lists, and stands right behind the first `before` of the variables. Where it is the empty
+-- one, all variables are the kernel's own
 pub record IsPart (vars : List ℕ) (lists : List (List ℕ)) (part : Part) : Type 0 where
   pub there : part.list < length lists
   pub has : HasList vars part.before (list_at lists part.list)
@@ -32,12 +33,12 @@ pub record AreLists (count : ℕ) (lists : List (List ℕ)) : Type 0 where
   pub empty : list_at lists 0 ≡ []
   pub variables : (l v : ℕ) → Contains (list_at lists l) v → v < count
 
--- the kernels before a place have these parts
+-- the first kernels, so many of them, have these parts
 pub record AreParts (kernels : List Kernel) (to : ℕ) (lists : List (List ℕ)) (parts : List Part) : Type 0 where
   pub same_length : length parts ≡ to
   pub each : (j : ℕ) → j < to → IsPart (vars_at kernels j) lists (part_at parts j)
 
--- the variables before the part's list and those behind it
+-- the variables before the part's list and those behind it; one of them may stand in the list too
 abbrev pub own_of : List ℕ → List (List ℕ) → Part → List ℕ
 own_of vars lists part = take part.before vars ++ drop (part.before + length (list_at lists part.list)) vars
 

@@ -217,3 +217,43 @@ const BOOLEAN_SUMS: &[(&str, &str)] = &[
 fn sums_of_booleans(rt: HostRuntime) -> Result<(), Fail> {
     assert_answers(&rt, rt.alloc(), BOOLEAN_SUMS)
 }
+
+/// Sums of 70 booleans, 40 a + 20 b - 10 c, that equal two numbers: a text with its least solution, then one with none.
+const LONG_SUMS: &[(&str, &str)] = &[
+    (
+        "var bool: a :: output_var; var bool: b :: output_var; var bool: c :: output_var; \
+         var {45, 50, 60}: s :: output_var; var -99..99: t :: output_var; \
+         array [1..70] of int: weights = [ \
+         1, 1, 1, 1, 1, 1, 1, 1, 1, 1, 1, 1, 1, 1, 1, 1, 1, 1, 1, 1, \
+         1, 1, 1, 1, 1, 1, 1, 1, 1, 1, 1, 1, 1, 1, 1, 1, 1, 1, 1, 1, \
+         1, 1, 1, 1, 1, 1, 1, 1, 1, 1, 1, 1, 1, 1, 1, 1, 1, 1, 1, 1, \
+         -1, -1, -1, -1, -1, -1, -1, -1, -1, -1]; \
+         array [1..70] of var bool: list = [ \
+         a, a, a, a, a, a, a, a, a, a, a, a, a, a, a, a, a, a, a, a, \
+         a, a, a, a, a, a, a, a, a, a, a, a, a, a, a, a, a, a, a, a, \
+         b, b, b, b, b, b, b, b, b, b, b, b, b, b, b, b, b, b, b, b, \
+         c, c, c, c, c, c, c, c, c, c]; \
+         constraint bool_lin_eq(weights, list, s); constraint bool_lin_eq(weights, list, t); solve satisfy;",
+        "a = true;\nb = true;\nc = false;\ns = 60;\nt = 60;\n----------\n",
+    ),
+    (
+        "var bool: a; var bool: b; var bool: c; var -99..40: s; var 45..99: t; \
+         array [1..70] of int: weights = [ \
+         1, 1, 1, 1, 1, 1, 1, 1, 1, 1, 1, 1, 1, 1, 1, 1, 1, 1, 1, 1, \
+         1, 1, 1, 1, 1, 1, 1, 1, 1, 1, 1, 1, 1, 1, 1, 1, 1, 1, 1, 1, \
+         1, 1, 1, 1, 1, 1, 1, 1, 1, 1, 1, 1, 1, 1, 1, 1, 1, 1, 1, 1, \
+         -1, -1, -1, -1, -1, -1, -1, -1, -1, -1]; \
+         array [1..70] of var bool: list = [ \
+         a, a, a, a, a, a, a, a, a, a, a, a, a, a, a, a, a, a, a, a, \
+         a, a, a, a, a, a, a, a, a, a, a, a, a, a, a, a, a, a, a, a, \
+         b, b, b, b, b, b, b, b, b, b, b, b, b, b, b, b, b, b, b, b, \
+         c, c, c, c, c, c, c, c, c, c]; \
+         constraint bool_lin_eq(weights, list, s); constraint bool_lin_eq(weights, list, t); solve satisfy;",
+        "=====UNSATISFIABLE=====\n",
+    ),
+];
+
+#[test]
+fn long_sums_of_booleans(rt: HostRuntime) -> Result<(), Fail> {
+    assert_answers(&rt, rt.alloc(), LONG_SUMS)
+}

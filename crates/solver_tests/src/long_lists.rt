@@ -7,16 +7,18 @@ use crate::programs::model_of;
 use crate::propagators::DECLARATIONS;
 use constraint_model::{FznModel, Operand, Term};
 use decompose::compile;
-use guarded_tell::Kernel;
+use guarded_tell::{Extended, Kernel};
 use list_of::ListOf;
 use shared_list::SharedList;
 use std::alloc::{AllocError, Global};
 use std::test::Fail;
 
-/// A propagator on lists of 100 like entries: each entry, and the mark of its list.
+/// A propagator on lists of 100 like entries: each entry, and the mark of its list. An equation says that a sum of these
+/// is one more variable.
 #[derive(Clone, Copy)]
 enum Shape {
     Le((i64, Option<usize>), (u32, Option<usize>)),
+    Eq((i64, Option<usize>), (u32, Option<usize>), u32),
     Max(u32, (u32, Option<usize>)),
     Element(u32, (u32, Option<usize>), u32),
 }
@@ -94,7 +96,19 @@ fn are_variables(places: &SharedList<u32>, all: (u32, Option<usize>)) -> bool {
         && places.mark_if_shared() == all.1
 }
 
-/// Whether the kernel is this one; a sum is at most 7.
+/// Whether the coefficients are 100 of this number, in a list of this mark, and -1.
+fn are_numbers_and_minus_one(coeffs: &Extended<i64>, all: (i64, Option<usize>)) -> bool {
+    let (front, last) = coeffs.parts();
+    are_numbers(front, all) && last == Some(-1)
+}
+
+/// Whether the variables are 100 times this one, in a list of this mark, and one more.
+fn are_variables_and_one(vars: &Extended<u32>, all: (u32, Option<usize>), total: u32) -> bool {
+    let (front, last) = vars.parts();
+    are_variables(front, all) && last == Some(total)
+}
+
+/// Whether the kernel is this one; a sum is at most 7, and that of an equation is 0.
 fn is_kernel(kernel: &Kernel, shape: Shape) -> bool {
     match (kernel, shape) {
         (
@@ -106,6 +120,17 @@ fn is_kernel(kernel: &Kernel, shape: Shape) -> bool {
             },
             Shape::Le(number, place),
         ) => are_numbers(coeffs, number) && are_variables(vars, place),
+        (
+            Kernel::Eq {
+                coeffs,
+                vars,
+                limit: 0,
+                ..
+            },
+            Shape::Eq(number, place, total),
+        ) => {
+            are_numbers_and_minus_one(coeffs, number) && are_variables_and_one(vars, place, total)
+        }
         (Kernel::Max { m, xs }, Shape::Max(extreme, place)) => {
             *m == extreme && are_variables(xs, place)
         }
@@ -125,7 +150,8 @@ fn are_kernels(kernels: &[Kernel], shapes: (Shape, Shape)) -> bool {
 }
 
 /// A list of coefficients or of variables; an array as both; two lists that stand in the text after as many names, so that
-/// they have one mark in the model and are told apart by their entries; an entry and an extreme of one array.
+/// they have one mark in the model and are told apart by their entries; an entry and an extreme of one array; a sum that
+/// equals two variables; a sum that has a limit and equals a variable.
 const TEXTS: &[(&str, (Shape, Shape))] = &[
     (
         "array [1..100] of int: threes = [#3#]; array [1..100] of int: fours = [#4#]; \
@@ -149,6 +175,22 @@ const TEXTS: &[(&str, (Shape, Shape))] = &[
         (
             Shape::Max(1, (2, Some(1))),
             Shape::Element(1, (2, Some(1)), 3),
+        ),
+    ),
+    (
+        "array [1..100] of int: twos = [#2#]; array [1..100] of var bool: list = [#b#]; \
+         constraint bool_lin_eq(twos, list, x); constraint bool_lin_eq(twos, list, z);",
+        (
+            Shape::Eq((2, Some(1)), (5, Some(2)), 1),
+            Shape::Eq((2, Some(1)), (5, Some(2)), 3),
+        ),
+    ),
+    (
+        "array [1..100] of int: twos = [#2#]; array [1..100] of var bool: list = [#b#]; \
+         constraint bool_lin_le(twos, list, 7); constraint bool_lin_eq(twos, list, y);",
+        (
+            Shape::Le((2, Some(1)), (5, Some(2))),
+            Shape::Eq((2, Some(1)), (5, Some(2)), 2),
         ),
     ),
 ];

@@ -3,7 +3,7 @@
 //! the variables from 7 on, in the order in which they stand.
 
 use crate::programs::program_of;
-use guarded_tell::{Kernel, Lit, Literals};
+use guarded_tell::{Extended, Kernel, Lit, Literals};
 use list_of::ListOf;
 use std::alloc::{AllocError, Global};
 use std::process::Abort;
@@ -25,6 +25,24 @@ pub(crate) enum Shape {
     InSet(Lit, u32, &'static [(i64, i64)]),
 }
 
+/// Whether an equation's coefficients are these.
+fn are_numbers(coeffs: &Extended<i64>, numbers: &[i64]) -> bool {
+    match (coeffs.split_last(), numbers.split_last()) {
+        (Some((front, last)), Some((end, others))) => front == others && last == *end,
+        (None, None) => true,
+        _ => false,
+    }
+}
+
+/// Whether its variables are these.
+fn are_variables(vars: &Extended<u32>, places: &[u32]) -> bool {
+    match (vars.split_last(), places.split_last()) {
+        (Some((front, last)), Some((end, others))) => front == others && last == *end,
+        (None, None) => true,
+        _ => false,
+    }
+}
+
 /// Whether the kernel is this sum.
 fn is_sum(kernel: &Kernel, shape: &Shape) -> bool {
     match (kernel, *shape) {
@@ -36,20 +54,25 @@ fn is_sum(kernel: &Kernel, shape: &Shape) -> bool {
                 limit,
             },
             Shape::Le(literal, numbers, places, most),
-        )
-        | (
+        ) => {
+            *lit == literal
+                && coeffs.as_slice() == numbers
+                && vars.as_slice() == places
+                && *limit == most
+        }
+        (
             Kernel::Eq {
                 lit,
                 coeffs,
                 vars,
                 limit,
             },
-            Shape::Eq(literal, numbers, places, most),
+            Shape::Eq(literal, numbers, places, sum),
         ) => {
             *lit == literal
-                && coeffs.as_slice() == numbers
-                && vars.as_slice() == places
-                && *limit == most
+                && are_numbers(coeffs, numbers)
+                && are_variables(vars, places)
+                && *limit == sum
         }
         _ => false,
     }

@@ -11,7 +11,7 @@ use crate::four_variables::{
     LARGEST, PAST, Pairs, Told, expect_bounds, expect_tells, narrowing_told, number, tell_on_each,
 };
 use guarded_tell::Side::{High, Low};
-use guarded_tell::{Hint, Kernel, Lit};
+use guarded_tell::{Extended, Hint, Kernel, Lit};
 use interval::NoMemory;
 use shared_list::SharedList;
 use std::alloc::{AllocError, Global};
@@ -39,26 +39,79 @@ fn are_numbers(numbers: &[i64]) -> bool
     numbers.iter().all(|z| -LARGEST <= *z && *z <= LARGEST)
 }
 
+/// Which lists of an equation have their last item apart.
+#[derive(Clone, Copy)]
+struct Apart {
+    coeffs: bool,
+    vars: bool,
+}
+
+/// Each way in which the lists of an equation may stand. In the first they are in one piece.
+static WAYS: [Apart; 4] = [
+    Apart {
+        coeffs: false,
+        vars: false,
+    },
+    Apart {
+        coeffs: true,
+        vars: true,
+    },
+    Apart {
+        coeffs: true,
+        vars: false,
+    },
+    Apart {
+        coeffs: false,
+        vars: true,
+    },
+];
+
+/// The ways in which the lists of a sum may stand. Those of an inequality are in one piece.
+fn ways(relation: Relation) -> &'static [Apart] {
+    match relation {
+        AtMost => &WAYS[..1],
+        Equal => &WAYS,
+    }
+}
+
+/// The variables of the terms.
+static VARIABLES: [u32; 3] = [1, 2, 3];
+
 /// The terms with these coefficients: the coefficients, and as many of variables 1, 2 and 3.
 #[tactic(auto, unfolding(guarded_tell::specs::Linear::term_limit, interval::specs::Limits::largest_number))]
-fn terms(
-    rt: &impl Abort,
-    alloc: Global,
-    coeffs: &[i64],
-) -> Result<(SharedList<i64>, SharedList<u32>), AllocError>
-    ensures linear { IfOk result (λ t. IsLinear t.0 t.1 (pos 0)) }
-    ensures variables { IfOk result (λ t. AreVariables 4 (0 ∷ t.1)) }
+fn terms<'a>(rt: &impl Abort, coeffs: &'a [i64]) -> (&'a [i64], &'a [u32])
+    ensures linear { IsLinear result.0.now result.1.now (pos 0) }
+    ensures variables { AreVariables 4 (0 ∷ result.1.now) }
 {
     assert!(rt; coeffs.len() <= 3);
     assert!(rt; are_numbers(coeffs));
-    let own = SharedList::from_vec(Vec::from_slice(alloc, coeffs)?)?;
-    let vars = SharedList::from_vec(Vec::from_slice(alloc, &[1u32, 2, 3][..coeffs.len()])?)?;
-    Ok((own, vars))
+    (coeffs, &VARIABLES[..coeffs.len()])
 }
 
-/// The kernel of the sum.
+/// These items in one piece.
+fn whole<T: Copy + Drop>(alloc: Global, items: &[T]) -> Result<SharedList<T>, AllocError>
+    ensures { IfOk result (λ list. list ≡ items.now) }
+{
+    SharedList::from_vec(Vec::from_slice(alloc, items)?)
+}
+
+/// These items, with the last one apart if that is wanted and there is one.
+fn parted<T: Copy + Drop>(
+    alloc: Global,
+    items: &[T],
+    is_apart: bool,
+) -> Result<Extended<T>, AllocError>
+    ensures { IfOk result (λ list. list ≡ items.now) }
+{
+    match items.split_last() {
+        Some((last, front)) if is_apart => Ok(Extended::with_last(whole(alloc, front)?, *last)),
+        _ => Ok(Extended::from_list(whole(alloc, items)?)),
+    }
+}
+
+/// The kernel of the sum, where the lists of an equation stand in this way.
 #[tactic(auto, unfolding(guarded_tell::specs::Kernels::vars_of, guarded_tell::specs::Kernels::HasNumbers))]
-fn linear(rt: &impl Abort, alloc: Global, sum: &Sum) -> Result<Kernel, AllocError>
+fn linear(rt: &impl Abort, alloc: Global, sum: &Sum, apart: Apart) -> Result<Kernel, AllocError>
     ensures { IfOk result (IsKernel 4) }
 {
     let lit = Lit {
@@ -66,18 +119,18 @@ fn linear(rt: &impl Abort, alloc: Global, sum: &Sum) -> Result<Kernel, AllocErro
         positive: sum.1,
     };
     let limit = number(rt, sum.3);
-    let (coeffs, vars) = terms(rt, alloc, sum.2)?;
+    let (coeffs, vars) = terms(rt, sum.2);
     Ok(match sum.0 {
         AtMost => Kernel::Le {
             lit,
-            coeffs,
-            vars,
+            coeffs: whole(alloc, coeffs)?,
+            vars: whole(alloc, vars)?,
             limit,
         },
         Equal => Kernel::Eq {
             lit,
-            coeffs,
-            vars,
+            coeffs: parted(alloc, coeffs, apart.coeffs)?,
+            vars: parted(alloc, vars, apart.vars)?,
             limit,
         },
     })
@@ -125,8 +178,10 @@ static SUMS: [(&[i64], i64); 13] = [
 /// Visits the kernels of the sums with this relation on the boxes round their limits.
 fn told_of_sums(rt: &impl Abort, alloc: Global, relation: Relation) -> Result<(), NoMemory> {
     for (coeffs, limit) in &SUMS {
-        let kernel = linear(rt, alloc, &(relation, true, coeffs, *limit))?;
-        tell_on_each(rt, alloc, kernel, &NEAR)?;
+        for apart in ways(relation) {
+            let kernel = linear(rt, alloc, &(relation, true, coeffs, *limit), *apart)?;
+            tell_on_each(rt, alloc, kernel, &NEAR)?;
+        }
     }
     Ok(())
 }
@@ -143,28 +198,34 @@ fn equations_give_just_what_narrows(rt: HostRuntime) -> Result<(), Fail> {
     Ok(())
 }
 
-/// Asserts that the kernels of these sums give just these tells on the boxes of these bounds, in this order.
+/// Asserts that the kernels of these sums give just these tells on the boxes of these bounds, in this order, in whichever
+/// way their lists stand.
 fn expect_linear_tells(
     rt: &impl Abort,
     alloc: Global,
     cases: &[(Sum, Pairs, &[Told])],
 ) -> Result<(), NoMemory> {
     for (sum, pairs, tells) in cases {
-        let kernel = linear(rt, alloc, sum)?;
-        expect_tells(rt, alloc, kernel, &[(*pairs, *tells)])?;
+        for apart in ways(sum.0) {
+            let kernel = linear(rt, alloc, sum, *apart)?;
+            expect_tells(rt, alloc, kernel, &[(*pairs, *tells)])?;
+        }
     }
     Ok(())
 }
 
-/// Asserts of the kernels of these sums that these are the bounds once the kernel has told.
+/// Asserts of the kernels of these sums, in whichever way their lists stand, that these are the bounds once the kernel has
+/// told.
 fn expect_linear_bounds(
     rt: &impl Abort,
     alloc: Global,
     cases: &[(Sum, Pairs, Pairs)],
 ) -> Result<(), NoMemory> {
     for (sum, pairs, after) in cases {
-        let kernel = linear(rt, alloc, sum)?;
-        expect_bounds(rt, alloc, kernel, &[(pairs, after)])?;
+        for apart in ways(sum.0) {
+            let kernel = linear(rt, alloc, sum, *apart)?;
+            expect_bounds(rt, alloc, kernel, &[(pairs, after)])?;
+        }
     }
     Ok(())
 }
@@ -277,7 +338,7 @@ fn the_inequality_tells_what_is_worked_out_by_hand(rt: HostRuntime) -> Result<()
 }
 
 /// Equations, the bounds of the literal's variable and of the terms', and the tells.
-static EQUATION_TELLS: [(Sum, Pairs, &[Told]); 5] = [
+static EQUATION_TELLS: [(Sum, Pairs, &[Told]); 7] = [
     (
         (Equal, true, &[2, -3], 1),
         [(1, 1), (-5, 5), (0, 2), (0, 0)],
@@ -297,6 +358,24 @@ static EQUATION_TELLS: [(Sum, Pairs, &[Told]); 5] = [
             (1, Low, 1),
             (2, Low, 3),
             (2, High, 3),
+        ],
+    ),
+    // One term, and three.
+    (
+        (Equal, true, &[2], 7),
+        [(1, 1), (0, 5), (0, 0), (0, 0)],
+        &[(1, High, 3), (1, Low, 4)],
+    ),
+    (
+        (Equal, true, &[1, 1, -1], 0),
+        [(1, 1), (1, 3), (2, 2), (0, 9)],
+        &[
+            (1, High, 7),
+            (1, Low, -2),
+            (2, High, 8),
+            (2, Low, -3),
+            (3, Low, 3),
+            (3, High, 5),
         ],
     ),
     // At both ends of the range.
@@ -423,7 +502,7 @@ fn only_what_narrows_the_box_is_given(rt: HostRuntime) -> Result<(), Fail> {
     let alloc = rt.alloc();
     let mut hint = Hint::new();
     for (sum, pairs, tells) in &NARROWING {
-        let kernel = linear(&rt, alloc, sum)?;
+        let kernel = linear(&rt, alloc, sum, WAYS[0])?;
         let narrowing = narrowing_told(&rt, alloc, kernel, pairs, &mut hint)?;
         assert_eq!(rt; narrowing.as_slice(&rt), *tells);
     }

@@ -1,5 +1,5 @@
 -- Sums of two terms.
-use Rattle.std.proofs.Common.{◌≡◌, ℕ, zero, suc, ◌<◌, ◌≤◌, List, [], ◌∷◌, length, get_or, ℤ, pos, negsuc, ◌+ℤ◌, ◌-ℤ◌, ◌*ℤ◌, ◌≤ℤ◌, ◌<ℤ◌, ◌⊎◌, inl, inr, ⊎_elim, unsigned_abs, to_z, of_z, w64, subst, sym, arith}
+use Rattle.std.proofs.Common.{◌≡◌, ℕ, zero, suc, ◌<◌, ◌≤◌, List, [], ◌∷◌, length, get_or, ℤ, pos, negsuc, ◌+ℤ◌, ◌-ℤ◌, ◌≤ℤ◌, ◌⊎◌, inl, inr, ⊎_elim, unsigned_abs, to_z, of_z, w64, arith}
 use Rattle.std.proofs.lemmas.Int.{ints, clamps}
 use Rattle.std.specs.Int.{int_max}
 use Rattle.std.specs.Int.RustNames.{int_le}
@@ -9,7 +9,7 @@ use Rattle.guarded_tell.specs.declared.tell.Lit.{Lit}
 use Rattle.guarded_tell.specs.declared.short.SmallTerm.{SmallTerm}
 use Rattle.guarded_tell.specs.declared.pairs.Pair.{Pair}
 use Rattle.guarded_tell.specs.Linear.{sum_over, least_of, greatest_of}
-use Rattle.guarded_tell.specs.Short.{small_limit, small_product_limit, HasBounds, IsSmallTerm, IsTermOf, AreSums, sums_of_two, growth_of, IsAtMostQuiet, IsUnequalQuiet, IsEquationQuiet, IsPairAtMostQuiet, IsPairUnequalQuiet, IsPairEquationQuiet}
+use Rattle.guarded_tell.specs.Short.{small_limit, small_product_limit, HasBounds, IsTermOf, AreSums, sums_of_two, growth_of, IsAtMostQuiet, IsUnequalQuiet, IsEquationQuiet, IsPairAtMostQuiet, IsPairUnequalQuiet, IsPairEquationQuiet}
 use Rattle.guarded_tell.proofs.ShortLaws.{bound_of}
 use Rattle.guarded_tell.proofs.LiteralLaws.{by_bool}
 

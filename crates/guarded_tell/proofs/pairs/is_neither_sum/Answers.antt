@@ -1,5 +1,5 @@
 -- Neither sum is the limit.
-use Rattle.std.proofs.Common.{◌≡◌, ◌+ℤ◌, FitsSigned, arith, rules}
+use Rattle.std.proofs.Common.{◌+ℤ◌, FitsSigned, arith, rules}
 use Rattle.std.proofs.lemmas.Bool.{OnTrue_at, OnTrue_from}
 use Rattle.std.proofs.lemmas.Int.{ints}
 use mir.Syntax.{w64}

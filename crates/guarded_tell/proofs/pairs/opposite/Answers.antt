@@ -1,6 +1,4 @@
 -- The opposites of its bounds.
-use Rattle.std.proofs.Common.{arith}
-use Rattle.std.proofs.lemmas.Int.{ints}
 use Rattle.guarded_tell.proofs.PairLaws.{opposite_term}
 use Rattle.guarded_tell.proofs.pairs.opposite.Goals as goal
 

@@ -1,7 +1,4 @@
 -- Its bounds.
-use Rattle.std.proofs.Common.{arith}
-use Rattle.std.proofs.lemmas.Int.{ints}
-use Rattle.interval.specs.Boxes.{low_of, high_of}
 use Rattle.guarded_tell.proofs.PairLaws.{plain_term}
 use Rattle.guarded_tell.proofs.pairs.plain.Goals as goal
 

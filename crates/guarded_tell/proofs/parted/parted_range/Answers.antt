@@ -1,5 +1,5 @@
 -- The last term joins the sums of the front, and all terms are few.
-use Rattle.std.proofs.Common.{◌≡◌, ◌+◌, ◌≤◌, ◌∙◌, sym, ap, ℤ, pos, length, unsigned_abs, arith}
+use Rattle.std.proofs.Common.{◌+◌, ◌≤◌, ◌∙◌, sym, ap, ℤ, pos, length, arith}
 use Rattle.std.proofs.lemmas.Int.{ints}
 use Rattle.std.specs.List.{zip}
 use Rattle.guarded_tell.specs.Linear.{least_of, greatest_of}

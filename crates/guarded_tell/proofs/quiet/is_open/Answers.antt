@@ -1,5 +1,5 @@
 -- The coefficient isn't 0 and the low is below the high.
-use Rattle.std.proofs.Common.{ℤ, pos, ◌<ℤ◌, to_z, of_z, arith}
+use Rattle.std.proofs.Common.{◌<ℤ◌, to_z, of_z, arith}
 use Rattle.std.proofs.lemmas.Bool.{OnTrue_from}
 use Rattle.std.proofs.lemmas.Int.{ints}
 use mir.Syntax.{w64}

@@ -1,6 +1,5 @@
 -- The lesser and the greater product are the least and the greatest value.
-use Rattle.std.proofs.Common.{◌∙◌, arith}
-use Rattle.std.proofs.lemmas.Int.{ints}
+use Rattle.std.proofs.Common.{◌∙◌}
 use Rattle.std.specs.Int.{int_min, int_max}
 use Rattle.interval.specs.Boxes.{low_of, high_of}
 use Rattle.guarded_tell.specs.Linear.{least_of, greatest_of}

@@ -59,6 +59,10 @@ module _ (l : Lit) (coeffs : List ℤ) (vars : List ℕ) (limit z : ℤ) (e : z 
   unfolding vars_of HasNumbers
   equal_made = subst (λ (y : ℤ). IsKernel 40 (Eq l coeffs vars y)) (sym e) (record { variables = are_variables (l.var ∷ vars) (more l.var vars h below); numbers = linear coeffs vars limit small n m k })
 
+-- the kernel of an equation with its lists as they stand
+pub parted_made : (l : Lit) (coeffs cs : List ℤ) (vars vs : List ℕ) (z : ℤ) → cs ≡ coeffs → vs ≡ vars → IsKernel 40 (Eq l coeffs vars z) → IsKernel 40 (Eq l cs vs z)
+parted_made l coeffs cs vars vs z e f made = subst (λ (xs : List ℕ). IsKernel 40 (Eq l cs xs z)) (sym f) (subst (λ (xs : List ℤ). IsKernel 40 (Eq l xs vars z)) (sym e) made)
+
 module _ (x y z : ℕ) (p : x < 40) (q : y < 40) (r : z < 40) where
   three_variables : AreVariables 40 (x ∷ y ∷ z ∷ [])
   three_variables = are_variables (x ∷ y ∷ z ∷ []) (more x (y ∷ z ∷ []) p (more y (z ∷ []) q (more z [] r none)))

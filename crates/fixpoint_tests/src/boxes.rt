@@ -5,7 +5,7 @@ ghost use Rattle.std.specs.List.{All};
 ghost use Rattle.guarded_tell.specs.Kernels.{IsKernel};
 ghost use Rattle.fixpoint_tests.specs.Small.{is_small, are_small, are_below_four};
 
-use guarded_tell::{Kernel, Lit};
+use guarded_tell::{Extended, Kernel, Lit};
 use interval::{BoxOf, NoMemory};
 use shared_list::SharedList;
 use std::alloc::{AllocError, Global};
@@ -88,8 +88,8 @@ pub(crate) fn equal(
     let variables = SharedList::from_vec(Vec::from_slice(alloc, vars)?)?;
     Ok(Kernel::Eq {
         lit: TRUE,
-        coeffs: numbers,
-        vars: variables,
+        coeffs: Extended::from_list(numbers),
+        vars: Extended::from_list(variables),
         limit,
     })
 }

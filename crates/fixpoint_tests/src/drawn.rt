@@ -6,7 +6,7 @@ ghost use Rattle.guarded_tell.specs.declared.tell.Lit.{Lit};
 ghost use Rattle.guarded_tell.specs.InSet.{IsSet};
 ghost use Rattle.guarded_tell.specs.Kernels.{IsKernel};
 
-use guarded_tell::{Kernel, Lit, Literals};
+use guarded_tell::{Extended, Kernel, Lit, Literals};
 use interval::{BoxOf, NoMemory};
 use shared_list::SharedList;
 use std::alloc::{AllocError, Global};
@@ -94,6 +94,23 @@ fn three_lits(alloc: Global, draws: &mut Draws) -> Result<SharedList<Lit>, Alloc
     SharedList::from_vec(vec![in alloc; x, y, z]?)
 }
 
+/// This list, in one piece or with its last item apart.
+fn drawn_apart<T: Copy + Drop>(
+    alloc: Global,
+    draws: &mut Draws,
+    list: SharedList<T>,
+) -> Result<Extended<T>, AllocError>
+    ensures { IfOk result (λ whole. whole ≡ list) }
+{
+    match list.as_slice().split_last() {
+        Some((last, front)) if draws.below(2) == 0 => {
+            let others = SharedList::from_vec(Vec::from_slice(alloc, front)?)?;
+            Ok(Extended::with_last(others, *last))
+        }
+        _ => Ok(Extended::from_list(list)),
+    }
+}
+
 /// A sum that is a limit, or at most one.
 fn sum(alloc: Global, draws: &mut Draws, is_equation: bool) -> Result<Kernel, AllocError>
     ensures { IfOk result (IsKernel 40) }
@@ -103,10 +120,12 @@ fn sum(alloc: Global, draws: &mut Draws, is_equation: bool) -> Result<Kernel, Al
     let coeffs = three_numbers(alloc, draws)?;
     let vars = three_vars(alloc, draws)?;
     if is_equation {
+        let numbers = drawn_apart(alloc, draws, coeffs)?;
+        let variables = drawn_apart(alloc, draws, vars)?;
         Ok(Kernel::Eq {
             lit,
-            coeffs,
-            vars,
+            coeffs: numbers,
+            vars: variables,
             limit,
         })
     } else {

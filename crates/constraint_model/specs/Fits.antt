@@ -22,11 +22,11 @@ fits Letter.Integer (Meaning.One s) = is_integer s
 fits Letter.Boolean (Meaning.One s) = is_boolean s
 fits Letter.Constant (Meaning.One s) = is_integer s && is_constant s
 fits Letter.Set (Meaning.Set ranges) = true
-fits Letter.Integers (Meaning.Row entries) = list_all is_integer entries
-fits Letter.Booleans (Meaning.Row entries) = list_all is_boolean entries
-fits Letter.Coefficients (Meaning.Row entries) = list_all is_integer entries && list_all is_constant entries
-fits Letter.Numbers (Meaning.Row entries) = list_all is_integer entries && list_all is_constant entries
-fits Letter.Truths (Meaning.Row entries) = list_all is_boolean entries && list_all is_constant entries
+fits Letter.Integers (Meaning.Row array) = list_all is_integer array.entries
+fits Letter.Booleans (Meaning.Row array) = list_all is_boolean array.entries
+fits Letter.Coefficients (Meaning.Row array) = list_all is_integer array.entries && list_all is_constant array.entries
+fits Letter.Numbers (Meaning.Row array) = list_all is_integer array.entries && list_all is_constant array.entries
+fits Letter.Truths (Meaning.Row array) = list_all is_boolean array.entries && list_all is_constant array.entries
 fits _ _ = false
 
 -- each argument fits its letter, and there is one for each
@@ -37,7 +37,7 @@ all_fit _ _ = false
 
 -- a linear constraint has as many coefficients as variables
 abbrev pub has_equal_lengths : List Letter → List Meaning → Bool
-has_equal_lengths (Letter.Coefficients ∷ ls) (Meaning.Row coefficients ∷ Meaning.Row variables ∷ ms) = nat_eq (length coefficients) (length variables)
+has_equal_lengths (Letter.Coefficients ∷ ls) (Meaning.Row coefficients ∷ Meaning.Row variables ∷ ms) = nat_eq (length coefficients.entries) (length variables.entries)
 has_equal_lengths _ _ = true
 
 abbrev pub fits_row : List Meaning → List Letter → Bool
@@ -50,7 +50,7 @@ row_for name meanings = find (fits_row meanings) (signatures name)
 -- what stands at an argument
 abbrev pub operand_of : Meaning → Operand
 operand_of (Meaning.One s) = Operand.One s.term
-operand_of (Meaning.Row entries) = Operand.Row (map (λ s. s.term) entries)
+operand_of (Meaning.Row array) = Operand.Row (record { terms = map (λ s. s.term) array.entries; number = array.number })
 operand_of (Meaning.Set ranges) = Operand.Set ranges
 
 abbrev pub constraint_on : ConstraintName → List Meaning → Constraint
@@ -70,7 +70,7 @@ constant_of (Term.Var v) = []
 
 abbrev pub constants_of_operand : Operand → List ℤ
 constants_of_operand (Operand.One t) = constant_of t
-constants_of_operand (Operand.Row ts) = flat_map constant_of ts
+constants_of_operand (Operand.Row row) = flat_map constant_of row.terms
 constants_of_operand (Operand.Set ranges) = []
 
 -- the constants that stand where variables may, in order
@@ -106,9 +106,9 @@ kernels_of c = count c.name c.operands
     count : ConstraintName → List Operand → ℕ
     count ConstraintName.BoolAnd _ = 3
     count ConstraintName.BoolOr _ = 3
-    count ConstraintName.ArrayBoolAnd (Operand.Row ts ∷ _) = length ts + 1
-    count ConstraintName.ArrayBoolOr (Operand.Row ts ∷ _) = length ts + 1
-    count ConstraintName.BoolClauseReif (Operand.Row ps ∷ Operand.Row ns ∷ _) = length ps + length ns + 1
+    count ConstraintName.ArrayBoolAnd (Operand.Row row ∷ _) = length row.terms + 1
+    count ConstraintName.ArrayBoolOr (Operand.Row row ∷ _) = length row.terms + 1
+    count ConstraintName.BoolClauseReif (Operand.Row positive ∷ Operand.Row negative ∷ _) = length positive.terms + length negative.terms + 1
     count _ _ = 1
 
 -- each name is found by its spelling

@@ -1,10 +1,16 @@
--- Where numbers are found, and the rows of terms whose constants are among them.
-use Rattle.std.specs.Prelude.{◌≡◌, ℕ, ℤ, List, true, Some, All, Contains, flat_map}
+-- Where numbers are found, and the declared arrays whose constants are among them.
+use Rattle.std.specs.Prelude.{◌≡◌, ◌<◌, ℕ, ℤ, List, length, true, Some, All, Contains, flat_map, slice_get}
 use Rattle.std.specs.List.{list_any, position_or_len}
-use Rattle.std.specs.Ordering.{int_eq, int_cmp}
+use Rattle.std.specs.Ordering.{int_eq, int_cmp, nat_cmp}
 use Rattle.std.specs.BTreeMap.{BTreeMap, get}
+use Rattle.std.specs.BTreeSet.{BTreeSet, contains}
 use Rattle.constraint_model.specs.declared.model.Term.{Term}
 use Rattle.constraint_model.specs.Fits.{constant_of}
+
+-- numbers, each once, and the terms of the declared arrays
+pub record KnownConstants : Type 0 where
+  pub numbers : List ℤ
+  pub arrays : List (List Term)
 
 -- each of the numbers is found at its first place; what else is found may be anywhere
 pub record Finds (places : BTreeMap ℤ ℕ) (numbers : List ℤ) : Type 0 where
@@ -14,7 +20,12 @@ pub record Finds (places : BTreeMap ℤ ℕ) (numbers : List ℤ) : Type 0 where
 abbrev pub HasConstants : List ℤ → List Term → Type 0
 HasConstants numbers terms = All (Contains numbers) (flat_map constant_of terms)
 
--- the numbers are found, and the constants of the rows that were counted are among them
-pub record AreConstants (places : BTreeMap ℤ ℕ) (numbers : List ℤ) (rows : List (List Term)) : Type 0 where
+-- the declared arrays of these places have their constants among the numbers
+pub record AreCounted (numbers : List ℤ) (arrays : List (List Term)) (marked : BTreeSet ℕ) : Type 0 where
+  pub inside : (n : ℕ) → contains nat_cmp marked n ≡ true → n < length arrays
+  pub there : (n : ℕ) (terms : List Term) → contains nat_cmp marked n ≡ true → slice_get arrays n ≡ Some terms → HasConstants numbers terms
+
+-- the numbers are found, and the constants of the arrays that were counted are among them
+pub record AreConstants (places : BTreeMap ℤ ℕ) (numbers : List ℤ) (arrays : List (List Term)) (marked : BTreeSet ℕ) : Type 0 where
   pub found : Finds places numbers
-  pub counted : All (HasConstants numbers) rows
+  pub counted : AreCounted numbers arrays marked

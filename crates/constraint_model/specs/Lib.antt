@@ -9,3 +9,4 @@ pub mod Table
 pub mod WellFormed
 pub mod Entries
 pub mod Kinds
+pub mod Arrays

@@ -31,23 +31,23 @@ One3 R a (Operand.One x ∷ Operand.One y ∷ Operand.One z ∷ []) = R (value a
 One3 R a _ = ⊥
 
 abbrev pub OneRow : (ℤ → List ℤ → Type 0) → List ℤ → List Operand → Type 0
-OneRow R a (Operand.One x ∷ Operand.Row ys ∷ []) = R (value a x) (map (value a) ys)
+OneRow R a (Operand.One x ∷ Operand.Row ys ∷ []) = R (value a x) (map (value a) ys.terms)
 OneRow R a _ = ⊥
 
 abbrev pub RowOne : (List ℤ → ℤ → Type 0) → List ℤ → List Operand → Type 0
-RowOne R a (Operand.Row xs ∷ Operand.One y ∷ []) = R (map (value a) xs) (value a y)
+RowOne R a (Operand.Row xs ∷ Operand.One y ∷ []) = R (map (value a) xs.terms) (value a y)
 RowOne R a _ = ⊥
 
 abbrev pub Row2 : (List ℤ → List ℤ → Type 0) → List ℤ → List Operand → Type 0
-Row2 R a (Operand.Row xs ∷ Operand.Row ys ∷ []) = R (map (value a) xs) (map (value a) ys)
+Row2 R a (Operand.Row xs ∷ Operand.Row ys ∷ []) = R (map (value a) xs.terms) (map (value a) ys.terms)
 Row2 R a _ = ⊥
 
 abbrev pub Row2One : (List ℤ → List ℤ → ℤ → Type 0) → List ℤ → List Operand → Type 0
-Row2One R a (Operand.Row xs ∷ Operand.Row ys ∷ Operand.One z ∷ []) = R (map (value a) xs) (map (value a) ys) (value a z)
+Row2One R a (Operand.Row xs ∷ Operand.Row ys ∷ Operand.One z ∷ []) = R (map (value a) xs.terms) (map (value a) ys.terms) (value a z)
 Row2One R a _ = ⊥
 
 abbrev pub OneRowOne : (ℤ → List ℤ → ℤ → Type 0) → List ℤ → List Operand → Type 0
-OneRowOne R a (Operand.One x ∷ Operand.Row ys ∷ Operand.One z ∷ []) = R (value a x) (map (value a) ys) (value a z)
+OneRowOne R a (Operand.One x ∷ Operand.Row ys ∷ Operand.One z ∷ []) = R (value a x) (map (value a) ys.terms) (value a z)
 OneRowOne R a _ = ⊥
 
 abbrev pub OneSet : (ℤ → List Range → Type 0) → List ℤ → List Operand → Type 0

@@ -1,5 +1,5 @@
 -- What holds of the model of every text: declared bounds and numbers are in the profile, terms are declared variables of
--- the right type, each constraint has arguments that fit it, the search has all declared variables and no others, and no
+-- the right type, each constraint has arguments that fit it, and of these the declared arrays their numbers, the search has all declared variables and no others, and no
 -- limit is passed.
 use Rattle.std.specs.Prelude.{◌≡◌, ◌⊎◌, ℕ, ◌≤◌, ◌<◌, ℤ, pos, List, [], ◌++◌, length, fold, flat_map, sum_by, slice_index_or, All, Bool, false, IsTrue, IsSome}
 use Rattle.constraint_model.specs.declared.model.Term.{Term}
@@ -11,6 +11,7 @@ use Rattle.constraint_model.specs.declared.model.FznModel.{FznModel}
 use Rattle.constraint_model.specs.declared.meanings.Scalar.{Scalar}
 use Rattle.constraint_model.specs.declared.meanings.Meaning.{Meaning}
 use Rattle.constraint_model.specs.Numbers.{IsInProfile}
+use Rattle.constraint_model.specs.Arrays.{HasNumber}
 use Rattle.constraint_model.specs.Ranges.{Range, AreApart}
 use Rattle.constraint_model.specs.Fits.{row_for, constraint_on, constants_in, goal_constants, add_once, kernels_of}
 use Rattle.constraint_model.specs.Searches.{IsSearchOf}
@@ -38,7 +39,7 @@ IsScalarOf vars s = IsTermOf vars s.is_bool s.term
 -- what stands at an argument: an array or a set isn't too long, and has terms, or numbers of the profile
 abbrev pub IsMeaningOf : List VarDecl → Meaning → Type 0
 IsMeaningOf vars (Meaning.One s) = IsScalarOf vars s
-IsMeaningOf vars (Meaning.Row entries) = (length entries ≤ most_entries) × All (IsScalarOf vars) entries
+IsMeaningOf vars (Meaning.Row array) = (length array.entries ≤ most_entries) × All (IsScalarOf vars) array.entries
 IsMeaningOf vars (Meaning.Set ranges) =
     (length ranges ≤ most_entries) × AreApart ranges × All (λ (r : Range). IsInProfile r.0 × IsInProfile r.1) ranges
 
@@ -70,6 +71,7 @@ constants_of model = fold add_once [] (flat_map constants_in model.constraints +
 pub record IsWellFormed (model : FznModel) : Type 0 where
   pub vars : All IsDeclaration model.vars
   pub constraints : All (IsConstraintOf model.vars) model.constraints
+  pub numbered : All (λ c. All (HasNumber model.arrays) c.operands) model.constraints
   pub search : IsSearchOf model
   pub objective : IsGoalOf model.vars model.goal
   pub outputs : All (IsOutputOf model.vars) model.output

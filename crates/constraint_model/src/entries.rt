@@ -54,11 +54,11 @@ fn variables_of(alloc: Global, scalars: &[Scalar]) -> Result<Vec<u32>, AllocErro
 }
 
 impl Entries {
-    /// These entries, with a mark by which their list of terms is told from others.
-    pub fn new(alloc: Global, scalars: Vec<Scalar>, mark: usize) -> Result<Entries, AllocError>
+    /// These entries.
+    pub fn new(alloc: Global, scalars: Vec<Scalar>) -> Result<Entries, AllocError>
         ensures { IfOk result (λ entries. entries ≡ scalars.items) }
     {
-        let terms = SharedList::with_mark(terms_of(alloc, scalars.as_slice())?, mark)?;
+        let terms = SharedList::from_vec(terms_of(alloc, scalars.as_slice())?)?;
         let variables = SharedList::from_vec(variables_of(alloc, scalars.as_slice())?)?;
         let kinds = Kinds::of(scalars.as_slice());
         Ok(Entries {

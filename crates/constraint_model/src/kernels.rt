@@ -1,12 +1,13 @@
 //! What a constraint counts for: its propagators, and the constants that it needs places for.
 
 ghost use Rattle.std.specs.Prelude.{◌≡◌, ◌≤◌, length, OnOk, OnErr, fold, flat_map, cond, []};
+ghost use Rattle.std.specs.List.{All};
+ghost use Rattle.constraint_model.specs.Arrays.{IsNumbered, HasNumber};
 ghost use Rattle.constraint_model.specs.Fits.{IsFront, add_once, constants_in, constant_of, constants_of_operand, takes_variables, letters_of, constants_at, kernels_of};
 
 use crate::constant_set::Constants;
-use crate::model::{Constraint, Operand, Term};
+use crate::model::{ArrayTerms, Constraint, Operand, Term};
 use crate::table::{ConstraintName, Letter};
-use shared_list::SharedList;
 use std::alloc::AllocError;
 
 /// How many propagators a constraint is run as.
@@ -18,13 +19,13 @@ pub fn kernel_count(constraint: &Constraint) -> u64
         ConstraintName::BoolAnd | ConstraintName::BoolOr => 3,
         ConstraintName::ArrayBoolAnd | ConstraintName::ArrayBoolOr => {
             match constraint.operands.as_slice() {
-                [Operand::Row(terms), ..] => terms.as_slice().len() as u64 + 1,
+                [Operand::Row(row), ..] => row.terms.as_slice().len() as u64 + 1,
                 _ => 1,
             }
         }
         ConstraintName::BoolClauseReif => match constraint.operands.as_slice() {
             [Operand::Row(positive), Operand::Row(negative), ..] => {
-                positive.as_slice().len() as u64 + negative.as_slice().len() as u64 + 1
+                positive.terms.as_slice().len() as u64 + negative.terms.as_slice().len() as u64 + 1
             }
             _ => 1,
         },
@@ -59,8 +60,9 @@ fn letters_of(constraint: &Constraint) -> &'static [Letter]
 /// Adds the number of a term, where it is one other than 1, to those found so far. Where memory is refused, these are as
 /// before.
 pub fn add_constant(found: &mut Constants, term: Term) -> Result<(), AllocError>
-    ensures added { OnOk result (found.new ≡ fold add_once found.old (constant_of term)) }
-    ensures unchanged { OnErr result (found.new ≡ found.old) }
+    ensures added { OnOk result (found.new.numbers ≡ fold add_once found.old.numbers (constant_of term)) }
+    ensures unchanged { OnErr result (found.new.numbers ≡ found.old.numbers) }
+    ensures arrays { found.new.arrays ≡ found.old.arrays }
 {
     match term {
         Term::Number(number) if number != 1 => found.add(number),
@@ -71,8 +73,9 @@ pub fn add_constant(found: &mut Constants, term: Term) -> Result<(), AllocError>
 /// Adds those of these terms.
 #[tactic(auto, using(crate::proofs::ConstantLaws::front_laws))]
 fn add_terms(found: &mut Constants, terms: &[Term]) -> Result<(), AllocError>
-    ensures kept { OnErr result (IsFront found.old found.new) }
-    ensures added { OnOk result (found.new ≡ fold add_once found.old (flat_map constant_of terms.now)) }
+    ensures kept { OnErr result (IsFront found.old.numbers found.new.numbers) }
+    ensures added { OnOk result (found.new.numbers ≡ fold add_once found.old.numbers (flat_map constant_of terms.now)) }
+    ensures arrays { found.new.arrays ≡ found.old.arrays }
 {
     for term in terms {
         add_constant(found, *term)?;
@@ -80,30 +83,35 @@ fn add_terms(found: &mut Constants, terms: &[Term]) -> Result<(), AllocError>
     Ok(())
 }
 
-/// Adds those of the entries of an array. One that was counted before is passed over, since its constants are all there.
-fn add_row(found: &mut Constants, row: &SharedList<Term>) -> Result<(), AllocError>
-    ensures kept { OnErr result (IsFront found.old found.new) }
-    ensures added { OnOk result (found.new ≡ fold add_once found.old (flat_map constant_of row.now)) }
+/// Adds those of the entries of an array. A declared one that was counted before is passed over, since its constants are all
+/// there.
+fn add_row(found: &mut Constants, row: &ArrayTerms) -> Result<(), AllocError>
+    requires { IsNumbered found.old.arrays row.now }
+    ensures kept { OnErr result (IsFront found.old.numbers found.new.numbers) }
+    ensures added { OnOk result (found.new.numbers ≡ fold add_once found.old.numbers (flat_map constant_of row.now.terms)) }
+    ensures arrays { found.new.arrays ≡ found.old.arrays }
 {
     if found.has_counted(row) {
         return Ok(());
     }
-    add_terms(found, row.as_slice())?;
+    add_terms(found, row.terms.as_slice())?;
     found.keep_row(row)
 }
 
 /// Adds those of an argument, where variables may stand there.
 #[tactic(auto, using(crate::proofs::ConstantLaws::front_laws))]
 fn add_argument(found: &mut Constants, letter: Letter, operand: &Operand) -> Result<(), AllocError>
-    ensures kept { OnErr result (IsFront found.old found.new) }
-    ensures added { OnOk result (found.new ≡ fold add_once found.old (cond (takes_variables letter) (constants_of_operand operand.now) [])) }
+    requires { HasNumber found.old.arrays operand.now }
+    ensures kept { OnErr result (IsFront found.old.numbers found.new.numbers) }
+    ensures added { OnOk result (found.new.numbers ≡ fold add_once found.old.numbers (cond (takes_variables letter) (constants_of_operand operand.now) [])) }
+    ensures arrays { found.new.arrays ≡ found.old.arrays }
 {
     if !takes_variables(letter) {
         return Ok(());
     }
     match operand {
         Operand::One(term) => add_constant(found, *term),
-        Operand::Row(terms) => add_row(found, terms),
+        Operand::Row(row) => add_row(found, row),
         Operand::Set(_) => Ok(()),
     }
 }
@@ -111,8 +119,10 @@ fn add_argument(found: &mut Constants, letter: Letter, operand: &Operand) -> Res
 /// Adds the constants of a constraint to those found so far. Where memory is refused, these are as before.
 #[tactic(auto, using(crate::proofs::ConstantLaws::front_laws), unfolding(crate::specs::Fits::constants_in))]
 pub fn add_constants(found: &mut Constants, constraint: &Constraint) -> Result<(), AllocError>
-    ensures added { OnOk result (found.new ≡ fold add_once found.old (constants_in constraint.now)) }
-    ensures unchanged { OnErr result (found.new ≡ found.old) }
+    requires { All (HasNumber found.old.arrays) constraint.now.operands }
+    ensures added { OnOk result (found.new.numbers ≡ fold add_once found.old.numbers (constants_in constraint.now)) }
+    ensures unchanged { OnErr result (found.new.numbers ≡ found.old.numbers) }
+    ensures arrays { found.new.arrays ≡ found.old.arrays }
 {
     let count = found.len();
     let letters = letters_of(constraint);
@@ -132,8 +142,10 @@ fn add_arguments(
     letters: &[Letter],
     operands: &[Operand],
 ) -> Result<(), AllocError>
-    ensures kept { OnErr result (IsFront found.old found.new) }
-    ensures added { OnOk result (found.new ≡ fold add_once found.old (constants_at letters.now operands.now)) }
+    requires { All (HasNumber found.old.arrays) operands.now }
+    ensures kept { OnErr result (IsFront found.old.numbers found.new.numbers) }
+    ensures added { OnOk result (found.new.numbers ≡ fold add_once found.old.numbers (constants_at letters.now operands.now)) }
+    ensures arrays { found.new.arrays ≡ found.old.arrays }
 {
     for (place, letter) in letters.iter().enumerate() {
         if place >= operands.len() {

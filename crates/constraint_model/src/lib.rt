@@ -3,7 +3,6 @@
 #![tactic(auto)]
 
 mod constant_set;
-mod counted_rows;
 mod entries;
 mod kernels;
 mod kinds;
@@ -16,9 +15,9 @@ pub mod table;
 pub use constant_set::Constants;
 pub use entries::Entries;
 pub use kernels::{add_constant, add_constants, kernel_count};
-pub use meanings::{Meaning, Scalar};
+pub use meanings::{Array, Meaning, Scalar};
 pub use model::{
-    Constraint, FznModel, Goal, Operand, Output, Phase, Term, ValSel, VarDecl, VarSel,
+    ArrayTerms, Constraint, FznModel, Goal, Operand, Output, Phase, Term, ValSel, VarDecl, VarSel,
 };
 pub use numbers::LARGEST;
 pub use ranges::{law_ranges, range_of, ranges_of};

@@ -13,13 +13,22 @@ pub struct Scalar {
     pub term: Term,
 }
 
+/// What an array stands for.
+#[derive(Drop)]
+pub struct Array {
+    /// Its entries.
+    pub entries: Entries,
+    /// Its place among the declared arrays, where it is one of them.
+    pub number: Option<usize>,
+}
+
 /// What a name or an expression stands for.
 #[derive(Drop)]
 pub enum Meaning {
     /// A boolean or an integer.
     One(Scalar),
     /// An array of these.
-    Row(Entries),
+    Row(Array),
     /// A set of integers, as its sorted greatest ranges.
     Set(SharedList<(i64, i64)>),
 }

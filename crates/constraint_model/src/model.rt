@@ -29,13 +29,23 @@ impl Term {
     }
 }
 
+/// An array that stands at an argument of a constraint.
+#[derive(Drop)]
+pub struct ArrayTerms {
+    /// The terms of its entries, in order.
+    pub terms: SharedList<Term>,
+    /// Its place among the arrays of the model, where it is a declared one. So two uses of one array are told by their
+    /// numbers, and no term is compared.
+    pub number: Option<usize>,
+}
+
 /// What stands at an argument of a constraint.
 #[derive(Drop)]
 pub enum Operand {
     /// A number or a variable.
     One(Term),
-    /// The entries of an array.
-    Row(SharedList<Term>),
+    /// An array.
+    Row(ArrayTerms),
     /// A set, as its sorted greatest ranges.
     Set(SharedList<(i64, i64)>),
 }
@@ -142,6 +152,8 @@ pub enum Output {
 pub struct FznModel {
     /// The declared variables, in the order of their declarations.
     pub vars: ListOf<VarDecl>,
+    /// The terms of the declared arrays, in the order of their declarations.
+    pub arrays: ListOf<SharedList<Term>>,
     /// The constraints in the order of the text, those that declarations add at the place of these.
     pub constraints: ListOf<Constraint>,
     /// The phases of the search, the text's own and then one of all variables.

@@ -4,9 +4,8 @@ ghost use Rattle.std.specs.Prelude.{◌≡◌, map, find, bytes_eq, MatchOption,
 ghost use Rattle.constraint_model.specs.Table.{spelled, signatures};
 ghost use Rattle.constraint_model.specs.Fits.{named, fits, all_fit, has_equal_lengths, fits_row, row_for, NamesAreFound, LettersAreThose};
 
-use crate::entries::Entries;
 use crate::kinds::is_constant;
-use crate::meanings::{Meaning, Scalar};
+use crate::meanings::{Array, Meaning, Scalar};
 
 /// The name of a constraint of FlatZinc.
 #[derive(Debug, Clone, Copy, PartialEq, Eq)]
@@ -327,10 +326,11 @@ fn scalar_fits(letter: Letter, scalar: Scalar) -> bool
     }
 }
 
-/// Whether an array of these entries may.
-fn row_fits(letter: Letter, entries: &Entries) -> bool
-    ensures { result ≡ fits letter (Meaning.Row entries.now) }
+/// Whether an array may.
+fn row_fits(letter: Letter, array: &Array) -> bool
+    ensures { result ≡ fits letter (Meaning.Row array.now) }
 {
+    let entries = &array.entries;
     match letter {
         Letter::Integers => entries.are_integers(),
         Letter::Booleans => entries.are_booleans(),
@@ -346,7 +346,7 @@ pub fn fits(letter: Letter, meaning: &Meaning) -> bool
 {
     match meaning {
         Meaning::One(scalar) => scalar_fits(letter, *scalar),
-        Meaning::Row(entries) => row_fits(letter, entries),
+        Meaning::Row(array) => row_fits(letter, array),
         Meaning::Set(_) => matches!(letter, Letter::Set),
     }
 }
@@ -374,7 +374,7 @@ fn has_equal_lengths(letters: &[Letter], meanings: &[Meaning]) -> bool
     match letters {
         [Letter::Coefficients, ..] => match meanings {
             [Meaning::Row(coefficients), Meaning::Row(variables), ..] => {
-                coefficients.len() == variables.len()
+                coefficients.entries.len() == variables.entries.len()
             }
             _ => true,
         },

@@ -1,0 +1,14 @@
+-- Which of the declared arrays an argument is.
+use Rattle.std.specs.Prelude.{◌≡◌, List, Some, IfSome, slice_get}
+use Rattle.constraint_model.specs.declared.model.Term.{Term}
+use Rattle.constraint_model.specs.declared.model.ArrayTerms.{ArrayTerms}
+use Rattle.constraint_model.specs.declared.model.Operand.{Operand}
+
+-- an array of a number has the terms of the declared array at that place
+abbrev pub IsNumbered : List (List Term) → ArrayTerms → Type 0
+IsNumbered arrays row = IfSome row.number (λ n. slice_get arrays n ≡ Some row.terms)
+
+abbrev pub HasNumber : List (List Term) → Operand → Type 0
+HasNumber arrays (Operand.One t) = Unit {0}
+HasNumber arrays (Operand.Row row) = IsNumbered arrays row
+HasNumber arrays (Operand.Set ranges) = Unit {0}

@@ -1,4 +1,4 @@
-use Rattle.std.proofs.Common.{◌∙◌, flat_map, refl}
+use Rattle.std.proofs.Common.{ap, ◌∙◌, flat_map, refl}
 use Rattle.std.specs.Prelude.{Result, Ok, Err, OnErr}
 use Rattle.constraint_model.specs.Fits.{constant_of}
 use Rattle.constraint_model.proofs.ConstantLaws.{front_same, front_found}
@@ -11,15 +11,15 @@ at_error (Ok a) p = tt
 at_error (Err e) p = p
 
 pub returns-then-has_counted-clause-added : goal.returns-then-has_counted-clause-added
-returns-then-has_counted-clause-added c = row_there c.args.found.now c.args.row.now (c.has_counted.ensures c.if-has_counted.true)
+returns-then-has_counted-clause-added c = row_there c.args.found.now.numbers c.args.row.now.terms (c.has_counted.ensures c.if-has_counted.true)
 
-pub keep_row-requires : goal.keep_row-requires
-keep_row-requires c =
-    row_added c.args.found.now c.add_terms.new.found c.args.row.now (rw c.as_slice.ensures at c.in_ok-add_terms.ensures.added)
+pub keep_row-requires-clause-there : goal.keep_row-requires-clause-there
+keep_row-requires-clause-there c =
+    row_added c.args.found.now.numbers c.add_terms.new.found.numbers c.args.row.now.terms (rw c.as_slice.ensures at c.in_ok-add_terms.ensures.added)
 
 pub returns-clause-kept : goal.returns-clause-kept
 returns-clause-kept c =
-    let found = c.args.found.now in
+    let found = c.args.found.now.numbers in
     at_error c.keep_row.result
-    (front_found found found c.keep_row.new.self (flat_map constant_of c.args.row.now) (front_same found found refl)
-    (c.keep_row.ensures ∙ rw c.as_slice.ensures at c.in_ok-add_terms.ensures.added))
+    (front_found found found c.keep_row.new.self.numbers (flat_map constant_of c.args.row.now.terms) (front_same found found refl)
+    (ap (λ v. v.numbers) c.keep_row.ensures ∙ rw c.as_slice.ensures at c.in_ok-add_terms.ensures.added))

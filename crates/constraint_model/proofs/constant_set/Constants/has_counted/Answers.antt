@@ -1,10 +1,13 @@
-use Rattle.std.proofs.Common.{subst}
-use Rattle.std.proofs.lemmas.List.Elements.{All-contains}
+use Rattle.std.proofs.Common.{ap, sym, subst, ◌∙◌}
+use Rattle.std.specs.Prelude.{slice_get, Some}
 use Rattle.constraint_model.specs.Found.{HasConstants}
+use Rattle.constraint_model.proofs.CountedLaws.{view_numbers, view_arrays, numbered_at}
 use Rattle.constraint_model.proofs.constant_set.Constants.has_counted.Goals as goal
 
-pub returns : goal.returns
-returns c t =
-    let inside = c.self.inside in
-    subst (λ numbers. HasConstants numbers c.args.row.now) c.self.view_is
-    (All-contains (HasConstants inside.numbers.items) inside.counted c.args.row.now c.self.invariant.counted (c.has.ensures t))
+pub returns-in-Some : goal.returns-in-Some
+returns-in-Some c counted =
+    let terms = c.args.row.now.terms in
+    let number = c.in-Some.number in
+    let at = ap (λ arrays. slice_get arrays number) (view_arrays c.self.view_is) ∙ numbered_at c.args.self.now.arrays c.args.row.now number c.in-Some.is c.requires in
+    subst (λ numbers. HasConstants numbers terms) (view_numbers c.self.view_is)
+    (c.self.invariant.counted.there number terms (sym c.contains.ensures ∙ counted) at)

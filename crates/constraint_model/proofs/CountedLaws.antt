@@ -1,5 +1,5 @@
 -- An array whose constants are all there adds none.
-use Rattle.std.proofs.Common.{◌≡◌, ◌<◌, ℕ, zero, suc, ℤ, List, [], ◌∷◌, ◌++◌, Bool, true, false, cond, length, take, drop, fold, All, Contains, Some, slice_get, nat_eq, refl, ap, ◌∙◌, sym, subst, arith}
+use Rattle.std.proofs.Common.{◌≡◌, ◌<◌, ℕ, zero, suc, ℤ, List, [], ◌∷◌, ◌++◌, Bool, true, false, cond, length, take, drop, fold, All, Contains, Some, slice_get, refl, ap, ◌∙◌, sym, subst, arith}
 use Rattle.std.specs.Prelude.{flat_map, Option, None, IfSome}
 use Rattle.std.specs.BTreeMap.{BTreeMap, is_at}
 use Rattle.std.specs.BTreeSet.{BTreeSet, contains, Updates}

@@ -19,13 +19,13 @@ pub fn kernel_count(constraint: &Constraint) -> u64
         ConstraintName::BoolAnd | ConstraintName::BoolOr => 3,
         ConstraintName::ArrayBoolAnd | ConstraintName::ArrayBoolOr => {
             match constraint.operands.as_slice() {
-                [Operand::Row(row), ..] => row.terms.len() as u64 + 1,
+                [Operand::Row(row), ..] => row.terms.as_slice().len() as u64 + 1,
                 _ => 1,
             }
         }
         ConstraintName::BoolClauseReif => match constraint.operands.as_slice() {
             [Operand::Row(positive), Operand::Row(negative), ..] => {
-                positive.terms.len() as u64 + negative.terms.len() as u64 + 1
+                positive.terms.as_slice().len() as u64 + negative.terms.as_slice().len() as u64 + 1
             }
             _ => 1,
         },

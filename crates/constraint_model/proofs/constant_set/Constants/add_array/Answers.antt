@@ -1,4 +1,4 @@
-use Rattle.std.proofs.Common.{[], ◌++◌, ◌∷◌, sym, subst}
+use Rattle.std.proofs.Common.{sym, subst}
 use Rattle.constraint_model.specs.Found.{AreConstants}
 use Rattle.constraint_model.proofs.CountedLaws.{array_more}
 use Rattle.constraint_model.proofs.constant_set.Constants.add_array.Goals as goal

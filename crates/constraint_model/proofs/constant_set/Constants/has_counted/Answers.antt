@@ -1,5 +1,5 @@
 use Rattle.std.proofs.Common.{ap, sym, subst, ◌∙◌}
-use Rattle.std.specs.Prelude.{slice_get, Some}
+use Rattle.std.specs.Prelude.{slice_get}
 use Rattle.constraint_model.specs.Found.{HasConstants}
 use Rattle.constraint_model.proofs.CountedLaws.{view_numbers, view_arrays, numbered_at}
 use Rattle.constraint_model.proofs.constant_set.Constants.has_counted.Goals as goal

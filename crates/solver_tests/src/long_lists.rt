@@ -53,8 +53,8 @@ fn add_owners(
     owners: &mut Vec<SharedList<Term>>,
 ) -> Result<(), AllocError> {
     for operand in operands {
-        if let Operand::Row(terms) = operand {
-            owners.push(terms.share(alloc)?)?;
+        if let Operand::Row(row) = operand {
+            owners.push(row.terms.share(alloc)?)?;
         }
     }
     Ok(())
@@ -149,9 +149,9 @@ fn are_kernels(kernels: &[Kernel], shapes: (Shape, Shape)) -> bool {
     }
 }
 
-/// A list of coefficients or of variables; an array as both; two lists that stand in the text after as many names, so that
-/// they have one mark in the model and are told apart by their entries; an entry and an extreme of one array; a sum that
-/// equals two variables; a sum that has a limit and equals a variable.
+/// A list of coefficients or of variables; an array as both; lists that are written out, which no other propagator has; two
+/// arrays that are alike, which have lists of their own; an entry and an extreme of one array; a sum that equals two variables;
+/// a sum that has a limit and equals a variable.
 const TEXTS: &[(&str, (Shape, Shape))] = &[
     (
         "array [1..100] of int: threes = [#3#]; array [1..100] of int: fours = [#4#]; \
@@ -167,6 +167,14 @@ const TEXTS: &[(&str, (Shape, Shape))] = &[
         (
             Shape::Le((1, Some(1)), (1, None)),
             Shape::Le((1, Some(1)), (2, None)),
+        ),
+    ),
+    (
+        "array [1..100] of int: ones = [#1#]; array [1..100] of var int: one = [#x#]; array [1..100] of var int: other = [#x#]; \
+         constraint int_lin_le(ones, one, 7); constraint int_lin_le(ones, other, 7);",
+        (
+            Shape::Le((1, Some(1)), (1, None)),
+            Shape::Le((1, Some(1)), (1, None)),
         ),
     ),
     (
@@ -200,21 +208,6 @@ fn long_lists_are_shared_and_told_apart(rt: HostRuntime) -> Result<(), Fail> {
     for (written, shapes) in TEXTS {
         let kernels = kernels_of(rt.alloc(), written)?;
         assert!(rt; are_kernels(kernels.as_slice(), *shapes), "at {written}");
-    }
-    Ok(())
-}
-
-#[test]
-fn lists_after_as_many_names_have_one_mark(rt: HostRuntime) -> Result<(), Fail> {
-    let text = text_of(
-        rt.alloc(),
-        "constraint int_lin_le([#1#], [#x#], 7); constraint int_lin_le([#1#], [#y#], 7);",
-    )?;
-    let model = model_of(rt.alloc(), &text)?;
-    let owners = owners_of(rt.alloc(), &model)?;
-    assert_eq!(rt; owners.len(), 4);
-    for terms in &owners {
-        assert_eq!(rt; terms.mark_if_shared(), Some(6));
     }
     Ok(())
 }

@@ -64,6 +64,7 @@ fn model_of(alloc: Global, lines: &[Line]) -> Result<FznModel, AllocError> {
     let output = outputs_of(alloc, lines)?;
     Ok(FznModel {
         vars: ListOf::new(alloc),
+        arrays: ListOf::new(alloc),
         constraints: ListOf::new(alloc),
         search: ListOf::new(alloc),
         goal: Goal::Satisfy,

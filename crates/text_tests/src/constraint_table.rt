@@ -1,8 +1,11 @@
 //! The table of constraints: spellings, what each takes, and what it counts for.
 
+ghost use Rattle.std.specs.Prelude.{[], All, IfOk};
+ghost use Rattle.constraint_model.specs.Arrays.{HasNumber};
+
 use constraint_model::{
-    Constants, Constraint, ConstraintName, Entries, Meaning, Operand, Scalar, Term, add_constants,
-    fits_some_row, kernel_count,
+    Array, ArrayTerms, Constants, Constraint, ConstraintName, Entries, Meaning, Operand, Scalar,
+    Term, add_constants, fits_some_row, kernel_count,
 };
 use list_of::ListOf;
 use shared_list::SharedList;
@@ -168,9 +171,13 @@ const CASES: &[Case] = &[
     },
 ];
 
-/// The entries of an array.
-fn array(alloc: Global, entries: &[Scalar]) -> Result<Entries, AllocError> {
-    Entries::new(alloc, Vec::from_slice(alloc, entries)?, 0)
+/// An array of these entries.
+fn array(alloc: Global, entries: &[Scalar]) -> Result<Array, AllocError> {
+    let entries = Entries::new(alloc, Vec::from_slice(alloc, entries)?)?;
+    Ok(Array {
+        entries,
+        number: None,
+    })
 }
 
 /// What an argument stands for.
@@ -206,19 +213,28 @@ fn arguments_fit_or_do_not(rt: HostRuntime) -> Result<(), Fail> {
 }
 
 /// The entries of a row.
-fn row(alloc: Global, terms: &[Term]) -> Result<Operand, AllocError> {
+fn row(alloc: Global, terms: &[Term]) -> Result<Operand, AllocError>
+    ensures { IfOk result (λ operand. HasNumber [] operand) }
+{
     let terms = SharedList::from_vec(Vec::from_slice(alloc, terms)?)?;
-    Ok(Operand::Row(terms))
+    Ok(Operand::Row(ArrayTerms {
+        terms,
+        number: None,
+    }))
 }
 
 /// A list of a row and a term.
-fn row_and_term(alloc: Global, terms: &[Term], term: Term) -> Result<ListOf<Operand>, AllocError> {
+fn row_and_term(alloc: Global, terms: &[Term], term: Term) -> Result<ListOf<Operand>, AllocError>
+    ensures { IfOk result (λ operands. All (HasNumber []) operands) }
+{
     let row = row(alloc, terms)?;
     Ok(ListOf::from_vec(vec![in alloc; row, Operand::One(term)]?))
 }
 
 /// The disjunction of a row of 0, a variable, 1 and 0, that is as 5 says.
-fn disjunction(alloc: Global) -> Result<Constraint, AllocError> {
+fn disjunction(alloc: Global) -> Result<Constraint, AllocError>
+    ensures { IfOk result (λ constraint. All (HasNumber []) constraint.operands) }
+{
     let row = [
         Term::Number(0),
         Term::Var(3),

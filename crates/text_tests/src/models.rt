@@ -1,7 +1,8 @@
 //! The parts of the models of a few texts, written out.
 
 use crate::resolved::resolved;
-use constraint_model::{Constraint, FznModel, Goal, Operand, Output, Phase, Term, VarDecl};
+use constraint_model::{ArrayTerms, Constraint, FznModel, Goal, Operand, Output, Phase, Term, VarDecl};
+use shared_list::SharedList;
 use std::alloc::{AllocError, Global};
 use std::test::Fail;
 
@@ -28,6 +29,14 @@ fn show_terms(out: &mut String, terms: &[Term]) -> Result<(), AllocError> {
     out.push_str("] ")
 }
 
+fn show_arrays(out: &mut String, arrays: &[SharedList<Term>]) -> Result<(), AllocError> {
+    for terms in arrays {
+        show_terms(out, terms.as_slice())?;
+        out.push_str("\n")?;
+    }
+    Ok(())
+}
+
 fn show_ranges(out: &mut String, ranges: &[(i64, i64)]) -> Result<(), AllocError> {
     for (low, high) in ranges {
         write!(out, "{low}..{high} ")?;
@@ -43,10 +52,19 @@ fn show_variables(out: &mut String, vars: &[VarDecl]) -> Result<(), AllocError> 
     Ok(())
 }
 
+/// The terms, and behind a mark the number of a declared array.
+fn show_row(out: &mut String, row: &ArrayTerms) -> Result<(), AllocError> {
+    show_terms(out, row.terms.as_slice())?;
+    match row.number {
+        Some(number) => write!(out, "@{number} "),
+        None => Ok(()),
+    }
+}
+
 fn show_operand(out: &mut String, operand: &Operand) -> Result<(), AllocError> {
     match operand {
         Operand::One(term) => show_term(out, *term),
-        Operand::Row(terms) => show_terms(out, terms.as_slice()),
+        Operand::Row(row) => show_row(out, row),
         Operand::Set(ranges) => show_ranges(out, ranges.as_slice()),
     }
 }
@@ -132,6 +150,7 @@ fn show_search(out: &mut String, phases: &[Phase]) -> Result<(), AllocError> {
 #[derive(Clone, Copy)]
 enum Part {
     Variables,
+    Arrays,
     Constraints,
     /// The variables and then the constraints.
     Declared,
@@ -143,6 +162,7 @@ enum Part {
 fn show_part(out: &mut String, model: &FznModel, part: Part) -> Result<(), AllocError> {
     match part {
         Part::Variables => show_variables(out, model.vars.as_slice()),
+        Part::Arrays => show_arrays(out, model.arrays.as_slice()),
         Part::Constraints => show_constraints(out, model.constraints.as_slice()),
         Part::Declared => {
             show_variables(out, model.vars.as_slice())?;
@@ -192,13 +212,34 @@ const CONSTRAINTS: &[Case] = &[Case {
         constraint bool_lin_le([0o17], [b], 2); constraint int_lin_le([], [], 0); solve satisfy;",
     shown: "int_le #0 7 \n\
                     int_lt_reif 1 #0 #1 \n\
-                    int_lin_le [ -2 7 ] [ #0 5 ] -4 \n\
+                    int_lin_le [ -2 7 ] @0 [ #0 5 ] @1 -4 \n\
                     int_lin_le_reif [ 1 -1 ] [ #0 7 ] 7 1 \n\
                     bool_le 0 #1 \n\
                     bool_lt_reif #1 1 #1 \n\
                     bool_lin_le [ 15 ] [ #1 ] 2 \n\
                     int_lin_le [ ] [ ] 0 \n",
 }];
+
+/// Arrays have their places in the order of their declarations, whatever stands between, also one that no constraint names;
+/// of two that are alike each has its own, and one that is written out has none.
+const ARRAYS: &[Case] = &[
+    Case {
+        part: Part::Arrays,
+        text: "array [1..1] of int: a = [3]; var int: x; array [1..2] of var int: b = [x, 4]; set of int: s = {1}; \
+        array [1..0] of bool: e = []; array [1..1] of int: c = [3]; constraint int_lin_le(a, [x], 3); solve satisfy;",
+        shown: "[ 3 ] \n[ #0 4 ] \n[ ] \n[ 3 ] \n",
+    },
+    Case {
+        part: Part::Constraints,
+        text: "array [1..1] of int: a = [3]; var int: x; array [1..2] of var int: b = [x, 4]; set of int: s = {1}; \
+        array [1..0] of bool: e = []; array [1..1] of int: c = [3]; constraint int_lin_le(c, a, 3); \
+        constraint int_lin_le([3], a, 3); constraint array_int_maximum(x, b); constraint int_lin_le(e, [], 0); solve satisfy;",
+        shown: "int_lin_le [ 3 ] @3 [ 3 ] @0 3 \n\
+                    int_lin_le [ 3 ] [ 3 ] @0 3 \n\
+                    array_int_maximum #0 [ #0 4 ] @1 \n\
+                    int_lin_le [ ] @2 [ ] 0 \n",
+    },
+];
 
 /// Declarations add constraints in their order.
 const ADDED: &[Case] = &[
@@ -382,7 +423,15 @@ const GOALS: &[Case] = &[
 
 #[test]
 fn models_have_these_parts(rt: HostRuntime) -> Result<(), Fail> {
-    for table in [VARIABLES, CONSTRAINTS, ADDED, OUTPUTS, SEARCHES, GOALS] {
+    for table in [
+        VARIABLES,
+        ARRAYS,
+        CONSTRAINTS,
+        ADDED,
+        OUTPUTS,
+        SEARCHES,
+        GOALS,
+    ] {
         for case in table {
             let part = shown(rt.alloc(), case.part, case.text)?;
             assert_eq!(rt; part.as_str(), case.shown, "at {}", case.text);

@@ -1,6 +1,6 @@
 -- After any items the arrays of a number are the declared ones at that place: those that names stand for, and those that
 -- stand in constraints.
-use Rattle.std.proofs.Common.{◌≡◌, ℕ, zero, suc, List, [], ◌∷◌, ◌++◌, length, map, Bool, true, false, cond, Option, Some, None, refl, subst, sym}
+use Rattle.std.proofs.Common.{◌≡◌, ℕ, zero, suc, List, [], ◌∷◌, ◌++◌, length, map, Bool, true, false, cond, Option, Some, None, refl}
 use Rattle.std.specs.Prelude.{fold, flat_map, option_map, option_to_list, slice_get}
 use Rattle.std.specs.List.{AllByRecursion as Each, All, cons_option}
 use Rattle.std.specs.Option.{IfSome}
@@ -24,8 +24,8 @@ use Rattle.constraint_model.specs.Arrays.{HasNumber}
 use Rattle.constraint_model.specs.Fits.{named, operand_of, constraint_on}
 use Rattle.constraint_model.specs.Ranges.{Range}
 use Rattle.fzn_model.specs.declared.effect.Effect.{Effect}
-use Rattle.fzn_model.specs.Scopes.{Scope, AreNumbered, meaning_of, entry_at, all_some, array_literal, simple_at, expr_meaning}
-use Rattle.fzn_model.specs.Effects.{Reading, nothing, numbered, with_number, arrays_in, array_terms, joined, membership, equality, domain_constraints, value_constraints, element_constraints, is_bool_shape, declares_variable, term_in, terms_in, value_of, variable_effect, parameter_effect, scalar_effect, meanings_of, no_effect, constraint_alone, effect_of, with_item, reading_of}
+use Rattle.fzn_model.specs.Scopes.{Scope, AreNumbered, entry_at, all_some, array_literal, simple_at, expr_meaning}
+use Rattle.fzn_model.specs.Effects.{Reading, nothing, numbered, with_number, arrays_in, array_terms, membership, equality, domain_constraints, value_constraints, element_constraints, is_bool_shape, declares_variable, term_in, terms_in, value_of, variable_effect, parameter_effect, scalar_effect, meanings_of, no_effect, constraint_alone, effect_of, with_item, reading_of}
 use Rattle.fzn_model.specs.Drafts.{HaveNumbers}
 use Rattle.fzn_model.proofs.MeaningLaws.{each_append, each_weaker, found}
 

@@ -78,7 +78,7 @@ pub value_equal : (vars : List VarDecl) (shape : Shape) (x : Term) (value : Opti
     → IfSome value (IsMeaningOf vars) → IfSome value (λ m. fits_scalar_type shape m ≡ true) → Each (IsConstraintOf vars) (value_constraints shape x value)
 value_equal vars shape x None h k f = tt
 value_equal vars shape x (Some (Meaning.One s)) h k f = (equal vars (is_bool_shape shape) x s.term h (subst (λ b. IsTermOf vars b s.term) (same_type shape s f) k), tt)
-value_equal vars shape x (Some (Meaning.Row entries)) h k f = tt
+value_equal vars shape x (Some (Meaning.Row array)) h k f = tt
 value_equal vars shape x (Some (Meaning.Set ranges)) h k f = tt
 
 -- ---- elements
@@ -95,5 +95,5 @@ pub elements_fit : (laws : SetLaws) (vars : List VarDecl) (text : List ℕ) (sha
 elements_fit laws vars text (Shape.VarIn s) None l h f = tt
 elements_fit laws vars text (Shape.VarIn s) (Some (Meaning.One x)) l h f = tt
 elements_fit laws vars text (Shape.VarIn s) (Some (Meaning.Set ranges)) l h f = tt
-elements_fit laws vars text (Shape.VarIn s) (Some (Meaning.Row entries)) l h f = entries_fit laws vars text s entries l (recursion_from_All (IsScalarOf vars) entries h.1) f
+elements_fit laws vars text (Shape.VarIn s) (Some (Meaning.Row array)) l h f = entries_fit laws vars text s array.entries l (recursion_from_All (IsScalarOf vars) array.entries h.1) f
 elements_fit laws vars text shape value l h f = tt

@@ -160,7 +160,7 @@ search_stays vars phases h = subst (λ (xs : List VarDecl). IsSearch (length xs)
 objective_is : (vars : List VarDecl) (o : Option Meaning) → IfSome o (IsMeaningOf vars) → if_some (fits Letter.Integer) o ≡ true → IsTermOf vars false (unwrap_or (term_in o) (Term.Number (pos 0)))
 objective_is vars None k e = absurd (false≢true e)
 objective_is vars (Some (Meaning.One s)) k e = subst (λ b. IsTermOf vars b s.term) (not-true s.is_bool e) k
-objective_is vars (Some (Meaning.Row entries)) k e = absurd (false≢true e)
+objective_is vars (Some (Meaning.Row array)) k e = absurd (false≢true e)
 objective_is vars (Some (Meaning.Set ranges)) k e = absurd (false≢true e)
 
 goal_fits : (laws : SetLaws) (vars : List VarDecl) (text : List ℕ) (scope : Scope) → AreNames vars scope → (e : Expr) → not (value_fits text scope (fits Letter.Integer) e) ≡ false → list_any expr_is_long (e ∷ []) ≡ false

@@ -1,4 +1,5 @@
 pub mod AddedLaws
+pub mod ArrayLaws
 pub mod EffectLaws
 pub mod FaultLaws
 pub mod MeaningLaws

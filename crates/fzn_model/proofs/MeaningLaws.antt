@@ -21,7 +21,7 @@ use Rattle.constraint_model.specs.declared.meanings.Meaning.{Meaning}
 use Rattle.constraint_model.specs.Numbers.{largest, IsInProfile}
 use Rattle.fzn_model.specs.Literals.{is_numeral, number_in, natural_of, number_of}
 use Rattle.constraint_model.specs.Ranges.{Range, AreApart, insert_number, rising, ranges_on, ranges_of_rising, ranges_of, range_of, HaveRanges, IntervalsHold}
-use Rattle.fzn_model.specs.Scopes.{Scope, meaning_of, number_at, set_at, scalar_of, entry_at, all_some, simple_at, expr_meaning, boolean, integer}
+use Rattle.fzn_model.specs.Scopes.{Scope, meaning_of, number_at, set_at, scalar_of, entry_at, all_some, array_literal, simple_at, expr_meaning, boolean, integer}
 use Rattle.constraint_model.specs.Limits.{most_entries}
 use Rattle.fzn_model.specs.Faults.{set_is_long, elem_is_long, expr_is_long}
 use Rattle.constraint_model.specs.WellFormed.{IsVariable, IsTermOf, IsScalarOf, IsMeaningOf, IsConstraintOf, IsOutputOf}
@@ -69,7 +69,7 @@ scalar_stays vars more s h = term_stays vars more s.is_bool s.term h
 
 pub meaning_stays : (vars more : List VarDecl) (m : Meaning) → IsMeaningOf vars m → IsMeaningOf (vars ++ more) m
 meaning_stays vars more (Meaning.One s) h = scalar_stays vars more s h
-meaning_stays vars more (Meaning.Row entries) h = (h.0, All-weaker (IsScalarOf vars) (IsScalarOf (vars ++ more)) (scalar_stays vars more) entries h.1)
+meaning_stays vars more (Meaning.Row array) h = (h.0, All-weaker (IsScalarOf vars) (IsScalarOf (vars ++ more)) (scalar_stays vars more) array.entries h.1)
 meaning_stays vars more (Meaning.Set ranges) h = h
 
 pub constraint_stays : (vars more : List VarDecl) (c : Constraint) → IsConstraintOf vars c → IsConstraintOf (vars ++ more) c
@@ -219,11 +219,11 @@ set_meaning laws vars text (SetLit.Braces values) e =
 abbrev pub AreNames : List VarDecl → Scope → Type 0
 AreNames vars scope = Each (λ (e : List ℕ × Meaning). IsMeaningOf vars e.1) scope
 
-pub found : (vars : List VarDecl) (scope : Scope) (name : List ℕ) → AreNames vars scope → IfSome (meaning_of scope name) (IsMeaningOf vars)
-found vars [] name h = tt
-found vars (e ∷ es) name h = by (bytes_eq name e.0) (found vars es name h.1)
+pub found : (P : Meaning → Type 0) (scope : Scope) (name : List ℕ) → Each (λ (e : List ℕ × Meaning). P e.1) scope → IfSome (meaning_of scope name) P
+found P [] name h = tt
+found P (e ∷ es) name h = by (bytes_eq name e.0) (found P es name h.1)
   where
-    by : (b : Bool) → IfSome (meaning_of es name) (IsMeaningOf vars) → IfSome (option_map (λ (x : List ℕ × Meaning). x.1) (cond b (Some e) (find (λ (x : List ℕ × Meaning). bytes_eq name x.0) es))) (IsMeaningOf vars)
+    by : (b : Bool) → IfSome (meaning_of es name) P → IfSome (option_map (λ (x : List ℕ × Meaning). x.1) (cond b (Some e) (find (λ (x : List ℕ × Meaning). bytes_eq name x.0) es))) P
     by true k = h.0
     by false k = k
 
@@ -239,7 +239,7 @@ integer_scalar vars n h = (h, λ e. absurd (false≢true e))
 scalar_in : (vars : List VarDecl) (o : Option Meaning) → IfSome o (IsMeaningOf vars) → IfSome (option_and_then scalar_of o) (IsScalarOf vars)
 scalar_in vars None h = tt
 scalar_in vars (Some (Meaning.One s)) h = h
-scalar_in vars (Some (Meaning.Row entries)) h = tt
+scalar_in vars (Some (Meaning.Row array)) h = tt
 scalar_in vars (Some (Meaning.Set ranges)) h = tt
 
 entry_scalar : (vars : List VarDecl) (text : List ℕ) (scope : Scope) → AreNames vars scope → (e : Elem) → IfSome (entry_at text scope e) (IsScalarOf vars)
@@ -247,7 +247,7 @@ entry_scalar vars text scope h Elem.True = boolean_one vars
 entry_scalar vars text scope h Elem.False = boolean_zero vars
 entry_scalar vars text scope h (Elem.Int t) = integer_scalar vars (number_at text t) (number_in_profile text t)
 entry_scalar vars text scope h (Elem.Float t) = tt
-entry_scalar vars text scope h (Elem.Name t) = scalar_in vars (meaning_of scope (spelling text t)) (found vars scope (spelling text t) h)
+entry_scalar vars text scope h (Elem.Name t) = scalar_in vars (meaning_of scope (spelling text t)) (found (IsMeaningOf vars) scope (spelling text t) h)
 entry_scalar vars text scope h (Elem.Set s) = tt
 
 -- as many scalars as entries
@@ -267,7 +267,7 @@ simple_meaning laws vars text scope h Elem.True l = boolean_one vars
 simple_meaning laws vars text scope h Elem.False l = boolean_zero vars
 simple_meaning laws vars text scope h (Elem.Int t) l = integer_scalar vars (number_at text t) (number_in_profile text t)
 simple_meaning laws vars text scope h (Elem.Float t) l = tt
-simple_meaning laws vars text scope h (Elem.Name t) l = found vars scope (spelling text t) h
+simple_meaning laws vars text scope h (Elem.Name t) l = found (IsMeaningOf vars) scope (spelling text t) h
 simple_meaning laws vars text scope h (Elem.Set s) l = set_meaning laws vars text s l
 
 pub meaning : (laws : SetLaws) (vars : List VarDecl) (text : List ℕ) (scope : Scope) → AreNames vars scope → (e : Expr) → expr_is_long e ≡ false → IfSome (expr_meaning text scope e) (IsMeaningOf vars)
@@ -275,4 +275,4 @@ unfolding expr_meaning
 meaning laws vars text scope h (Expr.One e) l = simple_meaning laws vars text scope h e (each_false elem_is_long (e ∷ []) (or_parts (nat_lt most_entries 1) (list_any elem_is_long (e ∷ [])) l).1).0
 meaning laws vars text scope h (Expr.Row es) l =
     let few : length es ≤ most_entries = ltb-false most_entries (length es) (or_parts (nat_lt most_entries (length es)) (list_any elem_is_long es) l).0 in
-    mapped Meaning.Row (AreEntries vars es) (IsMeaningOf vars) (λ xs k. (omega (arith, few, k.0), All-from_recursion (IsScalarOf vars) xs k.1)) (all_some (map (entry_at text scope) es)) (entries_scalars vars text scope h es)
+    mapped array_literal (AreEntries vars es) (IsMeaningOf vars) (λ xs k. (omega (arith, few, k.0), All-from_recursion (IsScalarOf vars) xs k.1)) (all_some (map (entry_at text scope) es)) (entries_scalars vars text scope h es)

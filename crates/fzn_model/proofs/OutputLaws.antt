@@ -40,7 +40,7 @@ pub value_outputs : (vars : List VarDecl) (text : List ℕ) (notes : List AnnTre
 value_outputs vars text notes shape name None k f = tt
 value_outputs vars text notes shape name (Some (Meaning.One s)) k f =
     scalar_outputs vars text notes (is_bool_shape shape) name s.term (subst (λ b. IsTermOf vars b s.term) (same_type shape s f) k)
-value_outputs vars text notes shape name (Some (Meaning.Row entries)) k f = tt
+value_outputs vars text notes shape name (Some (Meaning.Row array)) k f = tt
 value_outputs vars text notes shape name (Some (Meaning.Set ranges)) k f = tt
 
 -- ---- index sets
@@ -120,8 +120,8 @@ value_terms : (vars : List VarDecl) (shape : Shape) (value : Option Meaning) →
 value_terms vars shape None k f = (omega arith, tt)
 value_terms vars shape (Some (Meaning.One s)) k f = (omega arith, tt)
 value_terms vars shape (Some (Meaning.Set ranges)) k f = (omega arith, tt)
-value_terms vars shape (Some (Meaning.Row entries)) k f =
-    (omega (arith, k.0, length-map entries (λ (e : Scalar). e.term)), entries_terms vars shape entries (recursion_from_All (IsScalarOf vars) entries k.1) f)
+value_terms vars shape (Some (Meaning.Row array)) k f =
+    (omega (arith, k.0, length-map array.entries (λ (e : Scalar). e.term)), entries_terms vars shape array.entries (recursion_from_All (IsScalarOf vars) array.entries k.1) f)
 
 array_written : (vars : List VarDecl) (is_bool : Bool) (name : List ℕ) (ts : List Term) (o : Option (List Range)) → AreTerms vars is_bool ts → IfSome o AreIndexSets → IfSome (option_map (λ ranges. Output.Array name is_bool ranges ts) o) (IsOutputOf vars)
 array_written vars is_bool name ts None h k = tt

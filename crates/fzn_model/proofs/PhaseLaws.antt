@@ -44,13 +44,13 @@ row_below : (vars : List VarDecl) (o : Option Meaning) → IfSome o (IsMeaningOf
 row_below vars None h = tt
 row_below vars (Some (Meaning.One s)) h = tt
 row_below vars (Some (Meaning.Set ranges)) h = tt
-row_below vars (Some (Meaning.Row entries)) h = variables_below vars entries (recursion_from_All (IsScalarOf vars) entries h.1)
+row_below vars (Some (Meaning.Row array)) h = variables_below vars array.entries (recursion_from_All (IsScalarOf vars) array.entries h.1)
 
 entry_below : (vars : List VarDecl) (o : Option Meaning) → IfSome o (IsMeaningOf vars) → IfSome (variables_of_entry o) (AreBelow (length vars))
 entry_below vars None h = tt
 entry_below vars (Some (Meaning.One s)) h = variables_below vars (s ∷ []) (h, tt)
 entry_below vars (Some (Meaning.Set ranges)) h = tt
-entry_below vars (Some (Meaning.Row entries)) h = tt
+entry_below vars (Some (Meaning.Row array)) h = tt
 
 both_below : (n : ℕ) (o q : Option (List ℕ)) → IfSome o (AreBelow n) → IfSome q (AreBelow n) → IfSome (option_map (λ (p : List ℕ × List ℕ). p.0 ++ p.1) (both o q)) (AreBelow n)
 both_below n None q h k = tt
@@ -66,7 +66,7 @@ chosen_below n true ps qs h k = h
 chosen_below n false ps qs h k = k
 
 arg_entry : (vars : List VarDecl) (text : List ℕ) (scope : Scope) → AreNames vars scope → (a : ArgTree) → IfSome (entry_variables text scope a) (AreBelow (length vars))
-arg_entry vars text scope h (note_arg (bare t)) = entry_below vars (meaning_of scope (spelling text t)) (found vars scope (spelling text t) h)
+arg_entry vars text scope h (note_arg (bare t)) = entry_below vars (meaning_of scope (spelling text t)) (found (IsMeaningOf vars) scope (spelling text t) h)
 arg_entry vars text scope h (note_arg (called t args)) = tt
 arg_entry vars text scope h (row_arg args) = tt
 arg_entry vars text scope h a = tt
@@ -76,7 +76,7 @@ arg_entries vars text scope h no_args = tt
 arg_entries vars text scope h (more_args a rest) = both_below (length vars) (entry_variables text scope a) (entries_variables text scope rest) (arg_entry vars text scope h a) (arg_entries vars text scope h rest)
 
 arg_variables : (vars : List VarDecl) (text : List ℕ) (scope : Scope) → AreNames vars scope → (a : ArgTree) → IfSome (phase_variables text scope a) (AreBelow (length vars))
-arg_variables vars text scope h (note_arg (bare t)) = row_below vars (meaning_of scope (spelling text t)) (found vars scope (spelling text t) h)
+arg_variables vars text scope h (note_arg (bare t)) = row_below vars (meaning_of scope (spelling text t)) (found (IsMeaningOf vars) scope (spelling text t) h)
 arg_variables vars text scope h (row_arg entries) = arg_entries vars text scope h entries
 arg_variables vars text scope h a = tt
 

@@ -1,6 +1,6 @@
 -- The model of every text is well-formed: each item without a fault keeps what stands before it so.
 use Rattle.std.proofs.Common.{◌≡◌, ℕ, zero, suc, ◌≤◌, ◌<◌, List, [], ◌∷◌, ◌++◌, length, take, get_or, Bool, false, ◌||◌, nat_lt, is_some, Option, Some, None, refl, sym, ap, subst, ◌∙◌, arith, ℤ}
-use Rattle.std.specs.Prelude.{fold, flat_map, sum_by, option_to_list}
+use Rattle.std.specs.Prelude.{fold, flat_map, sum_by, map, option_to_list}
 use Rattle.std.specs.List.{AllByRecursion as Each}
 use Rattle.std.specs.Option.{IfSome, option_or}
 use Rattle.std.proofs.Math.Seq.{take-suc}
@@ -19,15 +19,17 @@ use Rattle.constraint_model.specs.declared.model.FznModel.{FznModel}
 use Rattle.constraint_model.specs.declared.meanings.Meaning.{Meaning}
 use Rattle.fzn_model.specs.declared.effect.Effect.{Effect}
 use Rattle.constraint_model.specs.Fits.{constants_in, goal_constants, add_once, kernels_of}
-use Rattle.fzn_model.specs.Effects.{Reading, nothing, joined, effect_of, with_item, reading_of, solved_constants}
+use Rattle.fzn_model.specs.Effects.{Reading, nothing, numbered, with_number, joined, effect_of, with_item, reading_of, solved_constants}
 use Rattle.fzn_model.specs.Faults.{fault_of, has_long_list, is_too_large}
 use Rattle.constraint_model.specs.Limits.{most_vars, most_kernels, most_constants}
+use Rattle.fzn_model.specs.Drafts.{HaveNumbers}
 use Rattle.fzn_model.specs.Resolving.{AreLawful, IsModelOf, model_with}
 use Rattle.constraint_model.specs.WellFormed.{IsDeclaration, IsMeaningOf, IsConstraintOf, IsGoalOf, IsOutputOf, IsWellFormed}
 use Rattle.fzn_model.proofs.MeaningLaws.{SetLaws, each_append, each_weaker, each_option, meaning_stays, constraint_stays, output_stays, AreNames}
 use Rattle.fzn_model.proofs.PhaseLaws.{IsSearch, all_declared}
 use Rattle.fzn_model.proofs.EffectLaws.{Adds, passes, adds}
 use Rattle.fzn_model.proofs.Standing.{few_vars, few_kernels}
+use Rattle.fzn_model.proofs.ArrayLaws.{constraints_numbered}
 
 -- what holds of the reading of lawful items
 record Keeps (r : Reading) : Type 0 where
@@ -63,13 +65,24 @@ constants_joined cs ds None p k e same =
     ∙ sym (fold-append add_once [] (old ++ more) last)
     ∙ ap (λ x. fold add_once [] (x ++ last)) (sym (flat_map-append constants_in cs ds))
 
+-- with its number an array has the same entries
+meant : (vars : List VarDecl) (n : ℕ) (m : Meaning) → IsMeaningOf vars m → IsMeaningOf vars (with_number n m)
+meant vars n (Meaning.One s) h = h
+meant vars n (Meaning.Row array) h = h
+meant vars n (Meaning.Set ranges) h = h
+
+declared_meant : (vars : List VarDecl) (n : ℕ) (o : Option (List ℕ × Meaning)) → IfSome o (λ (d : List ℕ × Meaning). IsMeaningOf vars d.1) → AreNames vars (map (numbered n) (option_to_list o))
+declared_meant vars n None h = tt
+declared_meant vars n (Some d) h = (meant vars n d.1 h, tt)
+
 keeps_more : (r : Reading) (more : Effect) → Keeps r → is_some r.solved ≡ false → is_too_large (joined r more) ≡ false → Adds r.vars more → Keeps (joined r more)
 keeps_more r more h e f a =
     let vars : List VarDecl = option_to_list more.var in
     let P : List ℕ × Meaning → Type 0 = λ d. IsMeaningOf r.vars d.1 in
     let Q : List ℕ × Meaning → Type 0 = λ d. IsMeaningOf (r.vars ++ vars) d.1 in
     record {
-      scope = each_append Q r.scope (option_to_list more.declared) (each_weaker P Q (λ d k. meaning_stays r.vars vars d.1 k) r.scope h.scope) (each_option Q more.declared a.declared);
+      scope = each_append Q r.scope (map (numbered (length r.arrays)) (option_to_list more.declared)) (each_weaker P Q (λ d k. meaning_stays r.vars vars d.1 k) r.scope h.scope)
+          (declared_meant (r.vars ++ vars) (length r.arrays) more.declared a.declared);
       vars = each_append IsDeclaration r.vars vars h.vars (each_option IsDeclaration more.var a.var);
       constraints = each_append (IsConstraintOf (r.vars ++ vars)) r.constraints more.constraints
           (each_weaker (IsConstraintOf r.vars) (IsConstraintOf (r.vars ++ vars)) (constraint_stays r.vars vars) r.constraints h.constraints) a.constraints;
@@ -114,14 +127,15 @@ few_constants r e =
     let constants : Bool = nat_lt most_constants (length r.constants) in
     ltb-false most_constants (length r.constants) (or_parts (vars || kernels) constants e).1
 
-model_is_well_formed : (r : Reading) (asked : List Phase × Goal) → r.solved ≡ Some asked → Keeps r → IsWellFormed (model_with r asked)
-model_is_well_formed r asked e h =
+model_is_well_formed : (r : Reading) (asked : List Phase × Goal) → r.solved ≡ Some asked → HaveNumbers r.arrays r.constraints → Keeps r → IsWellFormed (model_with r asked)
+model_is_well_formed r asked e numbers h =
     let same : r.constants ≡ fold add_once [] (flat_map constants_in r.constraints ++ goal_constants asked.1) =
     h.constants ∙ ap (λ o. fold add_once [] (flat_map constants_in r.constraints ++ solved_constants o)) e in
     let phases : IsSearch (length r.vars) asked.0 = subst (λ o. IfSome o (λ (s : List Phase × Goal). IsSearch (length r.vars) s.0)) e h.search in
     record {
       vars = All-from_recursion IsDeclaration r.vars h.vars;
       constraints = All-from_recursion (IsConstraintOf r.vars) r.constraints h.constraints;
+      numbered = numbers;
       search = record { declared = all_declared (length r.vars) asked.0 phases.declared; front = phases.front; last = phases.last };
       objective = subst (λ o. IfSome o (λ (s : List Phase × Goal). IsGoalOf r.vars s.1)) e h.solved;
       outputs = All-from_recursion (IsOutputOf r.vars) r.output h.output;
@@ -134,4 +148,4 @@ pub well_formed : (laws : SetLaws) (text : List ℕ) (items : List ItemTree) (m 
 well_formed laws text items m h =
     let r : Reading = reading_of text items in
     let model = h.is_model in
-    subst IsWellFormed (sym model.is_model) (model_is_well_formed r model.asked model.solved (keeps_all laws text items h.lawful))
+    subst IsWellFormed (sym model.is_model) (model_is_well_formed r model.asked model.solved (constraints_numbered text items) (keeps_all laws text items h.lawful))

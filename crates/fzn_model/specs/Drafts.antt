@@ -1,20 +1,24 @@
 -- A draft of the model as what stands of the text after some of its items.
-use Rattle.std.specs.Prelude.{◌≡◌, ◌+◌, ◌++◌, fold, flat_map, sum_by, None, IfSome, option_to_list}
+use Rattle.std.specs.Prelude.{◌≡◌, ◌+◌, List, ◌++◌, All, length, map, fold, flat_map, sum_by, None, IfSome, option_to_list}
 use Rattle.std.specs.Option.{option_or}
+use Rattle.constraint_model.specs.declared.model.Term.{Term}
+use Rattle.constraint_model.specs.declared.model.Constraint.{Constraint}
 use Rattle.fzn_model.specs.declared.draft.Draft.{Draft}
 use Rattle.fzn_model.specs.declared.effect.Effect.{Effect}
+use Rattle.constraint_model.specs.Arrays.{HasNumber}
 use Rattle.constraint_model.specs.Fits.{add_once, constants_in, kernels_of}
 use Rattle.fzn_model.specs.Scopes.{Scope, meaning_of}
-use Rattle.fzn_model.specs.Effects.{Reading, solved_constants}
+use Rattle.fzn_model.specs.Effects.{Reading, numbered, arrays_in, solved_constants}
 
 abbrev pub seen : Draft → Reading
 seen d = record {
   scope = d.scope;
   vars = d.vars;
+  arrays = d.constants.arrays;
   constraints = d.constraints;
   output = d.output;
   solved = d.solved;
-  constants = d.constants;
+  constants = d.constants.numbers;
   kernels = d.kernels;
 }
 
@@ -23,6 +27,7 @@ abbrev pub counted : Reading → Effect → Reading
 counted before more = record {
   scope = before.scope;
   vars = before.vars;
+  arrays = before.arrays;
   constraints = before.constraints;
   output = before.output;
   solved = before.solved;
@@ -33,8 +38,9 @@ counted before more = record {
 -- what an item adds stands, and was counted before
 abbrev pub put : Reading → Effect → Reading
 put before more = record {
-  scope = before.scope ++ option_to_list more.declared;
+  scope = before.scope ++ map (numbered (length before.arrays)) (option_to_list more.declared);
   vars = before.vars ++ option_to_list more.var;
+  arrays = before.arrays ++ flat_map arrays_in (option_to_list more.declared);
   constraints = before.constraints ++ more.constraints;
   output = before.output ++ option_to_list more.output;
   solved = option_or before.solved more.solved;
@@ -45,3 +51,7 @@ put before more = record {
 -- an effect declares no name that was declared
 abbrev pub IsNew : Scope → Effect → Type 0
 IsNew scope more = IfSome more.declared (λ d. meaning_of scope d.0 ≡ None)
+
+-- what stands in constraints: an array of a number has the terms of the declared array at that place
+abbrev pub HaveNumbers : List (List Term) → List Constraint → Type 0
+HaveNumbers arrays constraints = All (λ c. All (HasNumber arrays) c.operands) constraints

@@ -32,6 +32,8 @@ use Rattle.fzn_model.specs.Searches.{phases_of}
 pub record Reading : Type 0 where
   pub scope : Scope
   pub vars : List VarDecl
+  -- the terms of the declared arrays, in the order of their declarations
+  pub arrays : List (List Term)
   pub constraints : List Constraint
   pub output : List Output
   pub solved : Option (List Phase × Goal)
@@ -41,18 +43,37 @@ pub record Reading : Type 0 where
   pub kernels : ℕ
 
 abbrev pub nothing : Reading
-nothing = record { scope = []; vars = []; constraints = []; output = []; solved = None; constants = []; kernels = 0 }
+nothing = record { scope = []; vars = []; arrays = []; constraints = []; output = []; solved = None; constants = []; kernels = 0 }
 
 -- the constant of what is asked for, where it has one
 abbrev pub solved_constants : Option (List Phase × Goal) → List ℤ
 solved_constants (Some s) = goal_constants s.1
 solved_constants None = []
 
--- what an item adds stands behind what stood before
+-- an array with this number; any other meaning as it is
+abbrev pub with_number : ℕ → Meaning → Meaning
+with_number n (Meaning.Row array) = Meaning.Row (record { entries = array.entries; number = Some n })
+with_number n meaning = meaning
+
+-- a declared name with what it stands for: an array gets this number
+abbrev pub numbered : ℕ → List ℕ × Meaning → List ℕ × Meaning
+numbered n d = (d.0, with_number n d.1)
+
+-- the terms of an array; no list for anything else
+abbrev pub array_terms : Meaning → List (List Term)
+array_terms (Meaning.Row array) = map (λ s. s.term) array.entries ∷ []
+array_terms meaning = []
+
+-- the terms of what a declared name stands for, where that is an array
+abbrev pub arrays_in : List ℕ × Meaning → List (List Term)
+arrays_in d = array_terms d.1
+
+-- what an item adds stands behind what stood before, and a declared array is numbered by how many there were
 abbrev pub joined : Reading → Effect → Reading
 joined before more = record {
-  scope = before.scope ++ option_to_list more.declared;
+  scope = before.scope ++ map (numbered (length before.arrays)) (option_to_list more.declared);
   vars = before.vars ++ option_to_list more.var;
+  arrays = before.arrays ++ flat_map arrays_in (option_to_list more.declared);
   constraints = before.constraints ++ more.constraints;
   output = before.output ++ option_to_list more.output;
   solved = option_or before.solved more.solved;
@@ -154,7 +175,7 @@ scalar_effect text place shape name notes value =
 
 -- the terms of an array's entries
 abbrev pub terms_in : Option Meaning → List Term
-terms_in (Some (Meaning.Row entries)) = map (λ s. s.term) entries
+terms_in (Some (Meaning.Row array)) = map (λ s. s.term) array.entries
 terms_in _ = []
 
 -- an array whose elements have a set of their own: each is in it

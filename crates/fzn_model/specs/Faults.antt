@@ -96,10 +96,10 @@ is_set_type _ = false
 abbrev pub fits_scalar_type : Shape → Meaning → Bool
 fits_scalar_type shape (Meaning.One s) = scalar_fits shape s
 fits_scalar_type shape (Meaning.Set ranges) = is_set_type shape
-fits_scalar_type shape (Meaning.Row entries) = false
+fits_scalar_type shape (Meaning.Row array) = false
 
 abbrev pub fits_array_type : Shape → Meaning → Bool
-fits_array_type shape (Meaning.Row entries) = list_all (scalar_fits shape) entries
+fits_array_type shape (Meaning.Row array) = list_all (scalar_fits shape) array.entries
 fits_array_type shape _ = false
 
 abbrev pub is_number : List ℕ → Token → ℕ → Bool

@@ -17,7 +17,7 @@ AreLawful text items = (k : ℕ) (d : ItemTree) → k < length items → fault_o
 
 -- the model that a reading makes, with what its solve item asks for
 abbrev pub model_with : Reading → List Phase × Goal → FznModel
-model_with r s = record { vars = r.vars; constraints = r.constraints; search = s.0; goal = s.1; output = r.output }
+model_with r s = record { vars = r.vars; arrays = r.arrays; constraints = r.constraints; search = s.0; goal = s.1; output = r.output }
 
 -- a reading with a solve item makes this model
 pub record IsModelWith (r : Reading) (model : FznModel) : Type 0 where

@@ -1,6 +1,6 @@
 -- What names and expressions stand for, against the declarations before them.
 -- (MiniZinc Handbook, FlatZinc: parameter and variable declarations, basic expressions.)
-use Rattle.std.specs.Prelude.{ℕ, ℤ, pos, List, [], ◌∷◌, map, true, false, bytes_eq, find, Option, Some, None, option_map, option_and_then, unwrap_or, Vec}
+use Rattle.std.specs.Prelude.{ℕ, ℤ, pos, List, [], ◌∷◌, map, true, false, bytes_eq, find, Option, Some, None, option_map, option_and_then, unwrap_or, Vec, All}
 use Rattle.std.specs.declared.alloc.Global.{Global}
 use Rattle.fzn_lexer.specs.declared.Token.{Token}
 use Rattle.fzn_parser.specs.declared.tree.SetLit.{SetLit}
@@ -12,6 +12,8 @@ use Rattle.constraint_model.specs.declared.meanings.Scalar.{Scalar}
 use Rattle.constraint_model.specs.declared.meanings.Meaning.{Meaning}
 use Rattle.fzn_model.specs.Literals.{number_of}
 use Rattle.constraint_model.specs.Ranges.{Range, ranges_of, range_of}
+use Rattle.constraint_model.specs.Fits.{operand_of}
+use Rattle.constraint_model.specs.Arrays.{HasNumber}
 
 -- the declared names in order, each with what it stands for
 abbrev pub Scope : Type 0
@@ -20,6 +22,10 @@ Scope = List (List ℕ × Meaning)
 -- the entries of a map from names, as such a list
 abbrev pub declared_in : List (Vec ℕ Global × Meaning) → Scope
 declared_in entries = map (λ entry. (entry.0.items, entry.1)) entries
+
+-- what names stand for: an array of a number has the terms of the declared array at that place
+abbrev pub AreNumbered : List (List Term) → Scope → Type 0
+AreNumbered arrays scope = All (λ d. HasNumber arrays (operand_of d.1)) scope
 
 -- what a name stands for, where it was declared
 abbrev pub meaning_of : Scope → List ℕ → Option Meaning
@@ -43,7 +49,7 @@ integer n = record { is_bool = false; term = Term.Number n }
 -- the boolean or the integer that something stands for
 abbrev pub scalar_of : Meaning → Option Scalar
 scalar_of (Meaning.One s) = Some s
-scalar_of (Meaning.Row entries) = None
+scalar_of (Meaning.Row array) = None
 scalar_of (Meaning.Set ranges) = None
 
 -- what an array's entry stands for, where it is a boolean or an integer
@@ -69,7 +75,11 @@ simple_at text scope (Elem.Float t) = None
 simple_at text scope (Elem.Name t) = meaning_of scope (spelling text t)
 simple_at text scope (Elem.Set s) = Some (Meaning.Set (set_at text s))
 
+-- an array that isn't a declared one
+abbrev pub array_literal : List Scalar → Meaning
+array_literal entries = Meaning.Row (record { entries = entries; number = None })
+
 -- what an expression stands for, where it is a boolean, an integer, an array of these or a set
 unfoldable pub expr_meaning : List ℕ → Scope → Expr → Option Meaning
 expr_meaning text scope (Expr.One e) = simple_at text scope e
-expr_meaning text scope (Expr.Row es) = option_map Meaning.Row (all_some (map (entry_at text scope) es))
+expr_meaning text scope (Expr.Row es) = option_map array_literal (all_some (map (entry_at text scope) es))

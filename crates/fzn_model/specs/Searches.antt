@@ -17,7 +17,7 @@ use Rattle.fzn_model.specs.Outputs.{is_spelled, both}
 abbrev pub variables_of_entry : Option Meaning → Option (List ℕ)
 variables_of_entry (Some (Meaning.One s)) = Some (variables_in (s ∷ []))
 variables_of_entry (Some (Meaning.Set ranges)) = Some []
-variables_of_entry (Some (Meaning.Row entries)) = None
+variables_of_entry (Some (Meaning.Row array)) = None
 variables_of_entry None = None
 
 -- the variables of one entry of an array literal; literals are passed over
@@ -32,7 +32,7 @@ entries_variables text scope no_args = Some []
 entries_variables text scope (more_args a rest) = option_map (λ p. p.0 ++ p.1) (both (entry_variables text scope a) (entries_variables text scope rest))
 
 abbrev pub variables_of_row : Option Meaning → Option (List ℕ)
-variables_of_row (Some (Meaning.Row entries)) = Some (variables_in entries)
+variables_of_row (Some (Meaning.Row array)) = Some (variables_in array.entries)
 variables_of_row _ = None
 
 -- the variables that the first argument names: an array by its name, or an array literal

@@ -99,7 +99,7 @@ fn terms_in(alloc: Global, value: &Option<Meaning>) -> Result<SharedList<Term>, 
     ensures { IfOk result (λ ts. ts ≡ effects.terms_in value.now) }
 {
     match value {
-        Some(Meaning::Row(entries)) => Ok(entries.share_terms(alloc)?),
+        Some(Meaning::Row(array)) => Ok(array.entries.share_terms(alloc)?),
         Some(Meaning::One(_)) | Some(Meaning::Set(_)) | None => Ok(SharedList::empty(alloc)),
     }
 }

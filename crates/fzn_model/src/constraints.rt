@@ -18,7 +18,7 @@ use crate::scope::Scope;
 use crate::searches::all_phases;
 use crate::stop::Stop;
 use constraint_model::{
-    Constraint, ConstraintName, Goal, Meaning, Operand, Phase, Term, fits_some_row,
+    ArrayTerms, Constraint, ConstraintName, Goal, Meaning, Operand, Phase, Term, fits_some_row,
 };
 use fzn_parser::tree::{Aim, Ann, Expr};
 use list_of::ListOf;
@@ -29,7 +29,10 @@ fn operand_of(meaning: Meaning) -> Operand
 {
     match meaning {
         Meaning::One(scalar) => Operand::One(scalar.term),
-        Meaning::Row(entries) => Operand::Row(entries.into_terms()),
+        Meaning::Row(array) => Operand::Row(ArrayTerms {
+            terms: array.entries.into_terms(),
+            number: array.number,
+        }),
         Meaning::Set(ranges) => Operand::Set(ranges),
     }
 }

@@ -1,12 +1,13 @@
 //! What stands of a text after some of its items.
 
-ghost use Rattle.std.specs.Prelude.{◌≡◌, ◌+◌, ◌<◌, ◌≤◌, ◌++◌, not, true, false, nat_lt, length, fold, flat_map, sum_by, option_to_list, MatchOption, IfOk, IfErr, OnOk};
+ghost use Rattle.std.specs.Prelude.{◌≡◌, ◌+◌, ◌<◌, ◌≤◌, ◌++◌, not, true, false, nat_lt, length, fold, flat_map, sum_by, option_to_list, MatchOption, IfOk, IfErr, IfSome, None, OnOk, map};
 ghost use Rattle.fzn_parser.specs.Items.{what_tree};
 ghost use Rattle.fzn_parser.specs.Parsing.{item_tree};
 ghost use Rattle.constraint_model.specs.Fits.{add_once, constants_in, kernels_of};
 ghost use Rattle.constraint_model.specs.Limits as limits;
 ghost use Rattle.fzn_model.specs.declared.fault_kinds.FaultKind.{FaultKind as Kind};
-ghost use Rattle.fzn_model.specs.Drafts.{seen, counted, put, IsNew};
+ghost use Rattle.fzn_model.specs.Drafts.{seen, counted, put, IsNew, HaveNumbers};
+ghost use Rattle.fzn_model.specs.Scopes.{AreNumbered, meaning_of};
 ghost use Rattle.fzn_model.specs.Effects as effects;
 ghost use Rattle.fzn_model.specs.Faults as faults;
 
@@ -18,7 +19,8 @@ use crate::reads::read_item;
 use crate::scope::Scope;
 use crate::stop::Stop;
 use constraint_model::{
-    Constants, Constraint, Goal, Output, Phase, VarDecl, add_constant, add_constants, kernel_count,
+    Array, Constants, Constraint, Goal, Meaning, Output, Phase, VarDecl, add_constant,
+    add_constants, kernel_count,
 };
 use fzn_parser::tree::{Item, What};
 use list_of::ListOf;
@@ -37,7 +39,7 @@ pub(crate) struct Draft {
     pub(crate) output: ListOf<Output>,
     /// The phases of the search and the goal, behind the solve item.
     pub(crate) solved: Option<(ListOf<Phase>, Goal)>,
-    /// The numbers other than 1 that stand where variables may.
+    /// The numbers other than 1 that stand where variables may, and the terms of the declared arrays.
     pub(crate) constants: Constants,
     /// How many propagators the constraints are run as.
     pub(crate) kernels: u64,
@@ -75,7 +77,9 @@ fn with_all_kernels(total: u64, constraints: &[Constraint]) -> Option<u64>
 }
 
 fn add_all_constants(found: &mut Constants, constraints: &[Constraint]) -> Result<(), AllocError>
-    ensures { OnOk result (found.new ≡ fold add_once found.old (flat_map constants_in constraints.now)) }
+    requires { HaveNumbers found.old.arrays constraints.now }
+    ensures added { OnOk result (found.new.numbers ≡ fold add_once found.old.numbers (flat_map constants_in constraints.now)) }
+    ensures arrays { found.new.arrays ≡ found.old.arrays }
 {
     for constraint in constraints {
         add_constants(found, constraint)?;
@@ -87,13 +91,51 @@ fn add_goal_constant(
     found: &mut Constants,
     solved: &Option<(ListOf<Phase>, Goal)>,
 ) -> Result<(), AllocError>
-    ensures { OnOk result (found.new ≡ fold add_once found.old (effects.solved_constants solved.now)) }
+    ensures added { OnOk result (found.new.numbers ≡ fold add_once found.old.numbers (effects.solved_constants solved.now)) }
+    ensures arrays { found.new.arrays ≡ found.old.arrays }
 {
     match solved {
         Some((_, Goal::Minimize(term))) => add_constant(found, *term),
         Some((_, Goal::Maximize(term))) => add_constant(found, *term),
         Some((_, Goal::Satisfy)) | None => Ok(()),
     }
+}
+
+/// What is declared, where it is an array with its number among the declared ones, whose terms are kept.
+fn numbered(alloc: Global, constants: &mut Constants, meaning: Meaning) -> Result<Meaning, Stop>
+    ensures number { IfOk result (λ m. m ≡ effects.with_number (length constants.old.arrays) meaning) }
+    ensures kept { OnOk result (constants.new ≡ record { numbers = constants.old.numbers; arrays = constants.old.arrays ++ effects.array_terms meaning }) }
+{
+    match meaning {
+        Meaning::Row(array) => {
+            let number = constants.array_count();
+            constants.add_array(array.entries.share_terms(alloc)?)?;
+            Ok(Meaning::Row(Array {
+                entries: array.entries,
+                number: Some(number),
+            }))
+        }
+        other => Ok(other),
+    }
+}
+
+/// Declares a name, where an item declares one.
+fn declare(
+    alloc: Global,
+    scope: &mut Scope,
+    constants: &mut Constants,
+    declared: Option<(ListOf<u8>, Meaning)>,
+) -> Result<(), Stop>
+    requires new { IfSome declared (λ d. meaning_of scope.old d.0 ≡ None) }
+    ensures names { OnOk result (scope.new ≡ scope.old ++ map (effects.numbered (length constants.old.arrays)) (option_to_list declared)) }
+    ensures kept { OnOk result (constants.new.arrays ≡ constants.old.arrays ++ flat_map effects.arrays_in (option_to_list declared)) }
+    ensures numbers { OnOk result (constants.new.numbers ≡ constants.old.numbers) }
+{
+    if let Some((name, meaning)) = declared {
+        let meaning = numbered(alloc, constants, meaning)?;
+        scope.declare(name.into_vec(), meaning)?;
+    }
+    Ok(())
 }
 
 /// Puts constraints behind others.
@@ -133,6 +175,7 @@ impl Draft {
     fn count(&mut self, effect: &Effect) -> Result<(), Stop>
         requires vars { length self.old.vars ≤ limits.most_vars }
         requires kernels { self.old.kernels ≤ limits.most_kernels }
+        requires numbers { HaveNumbers self.old.constants.arrays effect.now.constraints }
         ensures counted { OnOk result (seen self.new ≡ counted (seen self.old) effect.now) }
         ensures fits { OnOk result (faults.is_too_large (effects.joined (seen self.old) effect.now) ≡ false) }
         ensures large { IfErr result (faults.OnlyFault Kind.TooMany (faults.is_too_large (effects.joined (seen self.old) effect.now) ≡ true)) }
@@ -152,8 +195,8 @@ impl Draft {
         Ok(())
     }
 
-    /// Puts behind what stands what an item adds, which was counted.
-    fn put(&mut self, effect: Effect) -> Result<(), Stop>
+    /// Puts behind what stands what an item adds, which was counted. A declared array gets its number.
+    fn put(&mut self, alloc: Global, effect: Effect) -> Result<(), Stop>
         requires new { IsNew self.old.scope effect }
         ensures { OnOk result (seen self.new ≡ put (seen self.old) effect) }
     {
@@ -164,9 +207,7 @@ impl Draft {
             output,
             solved,
         } = effect;
-        if let Some((name, meaning)) = declared {
-            self.scope.declare(name.into_vec(), meaning)?;
-        }
+        declare(alloc, &mut self.scope, &mut self.constants, declared)?;
         if let Some(var) = var {
             self.vars.push(var)?;
         }
@@ -183,6 +224,7 @@ impl Draft {
     fn place(&mut self, what: &What, effect: &Effect) -> Result<(), Stop>
         requires vars { length self.old.vars ≤ limits.most_vars }
         requires kernels { self.old.kernels ≤ limits.most_kernels }
+        requires numbers { HaveNumbers self.old.constants.arrays effect.now.constraints }
         ensures counted { OnOk result (seen self.new ≡ counted (seen self.old) effect.now) }
         ensures lawful { OnOk result (faults.first_kind (faults.place_tests (seen self.old) (what_tree what.now) effect.now) ≡ None) }
         ensures fits { OnOk result (faults.is_too_large (effects.joined (seen self.old) effect.now) ≡ false) }
@@ -206,6 +248,7 @@ impl Draft {
     fn judge(&mut self, alloc: Global, text: &[u8], what: &What) -> Result<Effect, Stop>
         requires vars { length self.old.vars ≤ limits.most_vars }
         requires kernels { self.old.kernels ≤ limits.most_kernels }
+        requires numbers { AreNumbered self.old.constants.arrays self.old.scope }
         ensures effect { IfOk result (λ e. e ≡ effects.effect_of text.now self.old.scope (length self.old.vars) (what_tree what.now)) }
         ensures new { IfOk result (λ e. IsNew self.old.scope e) }
         ensures counted { IfOk result (λ e. seen self.new ≡ counted (seen self.old) e) }
@@ -228,6 +271,7 @@ impl Draft {
     pub(crate) fn add(&mut self, alloc: Global, text: &[u8], item: &Item) -> Result<(), Stop>
         requires vars { length self.old.vars ≤ limits.most_vars }
         requires kernels { self.old.kernels ≤ limits.most_kernels }
+        requires numbers { AreNumbered self.old.constants.arrays self.old.scope }
         ensures added { OnOk result (seen self.new ≡ effects.with_item text.now (seen self.old) (item_tree item.now)) }
         ensures fits { OnOk result (faults.is_too_large (effects.with_item text.now (seen self.old) (item_tree item.now)) ≡ false) }
         ensures lawful { OnOk result (faults.fault_of text.now (seen self.old) (what_tree item.now.what) ≡ None) }
@@ -237,7 +281,7 @@ impl Draft {
             Ok(effect) => effect,
             Err(stop) => return Err(stop),
         };
-        match self.put(effect) {
+        match self.put(alloc, effect) {
             Ok(()) => Ok(()),
             Err(_) => Err(Stop::NoMemory),
         }

@@ -1,12 +1,12 @@
 //! What expressions stand for, against the declarations before them.
 
-ghost use Rattle.std.specs.Prelude.{◌≡◌, IfOk, map};
+ghost use Rattle.std.specs.Prelude.{◌≡◌, IfOk, map, option_map};
 ghost use Rattle.fzn_parser.specs.Texts.{spelling};
-ghost use Rattle.fzn_model.specs.Scopes.{number_at, set_at, boolean, integer, scalar_of, entry_at, all_some, simple_at, expr_meaning};
+ghost use Rattle.fzn_model.specs.Scopes.{number_at, set_at, boolean, integer, scalar_of, entry_at, all_some, array_literal, simple_at, expr_meaning};
 
 use crate::numbers::number_of;
 use crate::scope::Scope;
-use constraint_model::{Entries, Meaning, Scalar, Term, range_of, ranges_of};
+use constraint_model::{Array, Entries, Meaning, Scalar, Term, range_of, ranges_of};
 use fzn_lexer::Token;
 use fzn_parser::tree::{Elem, Expr, SetLit};
 use list_of::ListOf;
@@ -61,7 +61,10 @@ pub(crate) fn share_meaning(alloc: Global, meaning: &Meaning) -> Result<Meaning,
 {
     match meaning {
         Meaning::One(scalar) => Ok(Meaning::One(*scalar)),
-        Meaning::Row(entries) => Ok(Meaning::Row(entries.share(alloc)?)),
+        Meaning::Row(array) => Ok(Meaning::Row(Array {
+            entries: array.entries.share(alloc)?,
+            number: array.number,
+        })),
         Meaning::Set(ranges) => Ok(Meaning::Set(ranges.share(alloc)?)),
     }
 }
@@ -126,18 +129,20 @@ fn entries_at(
     Ok(Some(scalars))
 }
 
-/// The array of these entries, where each is a boolean or an integer. It is told from those of other declarations by how
-/// many names stand before it.
+/// The array of these entries, where each is a boolean or an integer. It isn't a declared one, and has no number.
 fn row_at(
     alloc: Global,
     text: &[u8],
     scope: &Scope,
     entries: &[Elem],
-) -> Result<Option<Entries>, AllocError>
-    ensures { IfOk result (λ o. o ≡ all_some (map (entry_at text.now scope.now) entries.now)) }
+) -> Result<Option<Meaning>, AllocError>
+    ensures { IfOk result (λ o. o ≡ option_map array_literal (all_some (map (entry_at text.now scope.now) entries.now))) }
 {
     match entries_at(alloc, text, scope, entries)? {
-        Some(scalars) => Ok(Some(Entries::new(alloc, scalars.into_vec(), scope.len())?)),
+        Some(scalars) => Ok(Some(Meaning::Row(Array {
+            entries: Entries::new(alloc, scalars.into_vec())?,
+            number: None,
+        }))),
         None => Ok(None),
     }
 }
@@ -175,9 +180,6 @@ pub(crate) fn expr_meaning(
 {
     match expr {
         Expr::One(elem) => simple_at(alloc, text, scope, elem),
-        Expr::Row(entries) => match row_at(alloc, text, scope, entries.as_slice())? {
-            Some(entries) => Ok(Some(Meaning::Row(entries))),
-            None => Ok(None),
-        },
+        Expr::Row(entries) => row_at(alloc, text, scope, entries.as_slice()),
     }
 }

@@ -69,12 +69,13 @@ fn finished(draft: Draft, end: usize) -> Result<FznModel, ModelError>
         constraints,
         output,
         solved,
-        constants: _,
+        constants,
         kernels: _,
     } = draft;
     match solved {
         Some((search, goal)) => Ok(FznModel {
             vars,
+            arrays: constants.into_arrays(),
             constraints,
             search,
             goal,

@@ -1,6 +1,6 @@
 //! What the declared names stand for.
 
-ghost use Rattle.std.specs.Prelude.{◌≡◌, [], ◌∷◌, ◌++◌, None, is_some, length, OnOk, OnErr};
+ghost use Rattle.std.specs.Prelude.{◌≡◌, [], ◌∷◌, ◌++◌, None, is_some, OnOk, OnErr};
 ghost use Rattle.std.specs.Option.{option_copied};
 ghost use Rattle.fzn_model.specs.Scopes.{meaning_of};
 
@@ -32,13 +32,6 @@ impl Scope {
         Scope {
             entries: IndexMap::with_hasher(alloc, hash),
         }
-    }
-
-    /// How many names there are.
-    pub(crate) fn len(&self) -> usize
-        ensures { result ≡ length self.now }
-    {
-        self.entries.len()
     }
 
     /// What `name` stands for, where it was declared.

@@ -63,7 +63,7 @@ fn array_variables(
     ensures { IfOk result (λ o. o ≡ variables_of_row (meaning_of scope.now (spelling text.now name.now))) }
 {
     match scope.meaning(spelling(text, name)) {
-        Some(Meaning::Row(entries)) => Ok(Some(entries.share_variables(alloc)?)),
+        Some(Meaning::Row(array)) => Ok(Some(array.entries.share_variables(alloc)?)),
         _ => Ok(None),
     }
 }

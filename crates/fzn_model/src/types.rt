@@ -122,7 +122,7 @@ pub(crate) fn fits_array_type(shape: &Shape, meaning: &Meaning) -> bool
     ensures { result ≡ faults.fits_array_type shape.now meaning.now }
 {
     match meaning {
-        Meaning::Row(entries) => all_scalars_fit(shape, entries.as_slice()),
+        Meaning::Row(array) => all_scalars_fit(shape, array.entries.as_slice()),
         Meaning::One(_) | Meaning::Set(_) => false,
     }
 }

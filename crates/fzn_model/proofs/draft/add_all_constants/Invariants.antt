@@ -5,4 +5,5 @@ use Rattle.fzn_model.proofs.draft.add_all_constants.Given as goal
 
 -- the constants of the constraints so far
 abbrev pub invariant-loop-constraint : goal.invariant-loop-constraint
-invariant-loop-constraint l = l.found ≡ fold add_once l.initial.found (flat_map constants_in (take l.constraint-index l.constraints))
+invariant-loop-constraint l =
+    (l.found.numbers ≡ fold add_once l.initial.found.numbers (flat_map constants_in (take l.constraint-index l.constraints))) × (l.found.arrays ≡ l.initial.found.arrays)

@@ -1,13 +1,20 @@
-use Rattle.std.proofs.Common.{◌≡◌, ◌≤◌, ◌∙◌, ap, subst, sym, length, map, false, None, arith}
+use Rattle.std.proofs.Common.{◌≡◌, ◌≤◌, ◌∙◌, ap, subst, sym, length, map, take, false, None, arith}
 use Rattle.std.proofs.lemmas.List.{length-map}
 use Rattle.fzn_parser.specs.declared.tree.Item.{Item}
 use Rattle.fzn_parser.specs.Parsing.{item_tree}
 use Rattle.fzn_model.specs.Drafts.{seen}
-use Rattle.fzn_model.specs.Effects.{with_item}
+use Rattle.fzn_model.specs.Scopes.{AreNumbered}
+use Rattle.fzn_model.specs.Effects.{Reading, with_item}
 use Rattle.fzn_model.specs.Faults.{fault_of, is_too_large, Refuses}
 use Rattle.fzn_model.specs.Resolving.{IsCause, stopped_at}
+use Rattle.fzn_model.proofs.ArrayLaws.{names_numbered}
 use Rattle.fzn_model.proofs.Standing.{stands_more, cause_here, end_here}
 use Rattle.fzn_model.proofs.resolving.resolve.Goals as goal
+
+pub add-requires-clause-numbers : goal.add-requires-clause-numbers
+add-requires-clause-numbers c =
+    let front = take c.loop-item.item-index (map item_tree c.args.items.now) in
+    subst (λ (r : Reading). AreNumbered r.arrays r.scope) (sym c.loop-item.invariant.same) (names_numbered c.args.text.now front)
 
 pub returns-in-Err : goal.returns-in-Err
 returns-in-Err c =

@@ -1,11 +1,18 @@
-use Rattle.std.proofs.Common.{◌≡◌, ◌∙◌, ap, subst, ◌++◌, None, length}
+use Rattle.std.proofs.Common.{◌≡◌, ◌∙◌, ap, sym, subst, ◌++◌, None, length}
 use Rattle.fzn_parser.specs.Items.{what_tree}
 use Rattle.fzn_model.specs.declared.effect.Effect.{Effect}
-use Rattle.fzn_model.specs.Drafts.{seen}
+use Rattle.fzn_model.specs.Drafts.{seen, HaveNumbers}
 use Rattle.fzn_model.specs.Effects.{effect_of}
 use Rattle.fzn_model.specs.Faults.{fault_of, own_tests, place_tests, first_kind, Refuses}
+use Rattle.fzn_model.proofs.ArrayLaws.{effect_numbered}
 use Rattle.fzn_model.proofs.FaultLaws.{refused_own, refused_place}
 use Rattle.fzn_model.proofs.draft.Draft.judge.Goals as goal
+
+pub place-requires-clause-numbers : goal.place-requires-clause-numbers
+place-requires-clause-numbers c =
+    let before = seen c.args.self.now in
+    let P : Effect → Type 0 = λ more. HaveNumbers before.arrays more.constraints in
+    subst P (sym c.in-Ok.ensures.effect) (effect_numbered before.arrays c.args.text.now before.scope c.requires.numbers _ (what_tree c.args.what.now))
 
 pub returns-in-Err-place-clause-fault : goal.returns-in-Err-place-clause-fault
 unfolding fault_of

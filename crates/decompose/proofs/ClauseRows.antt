@@ -15,6 +15,7 @@ use Rattle.guarded_tell.specs.Clause.{clause_vars, literal_limit}
 use Rattle.guarded_tell.specs.Kernels.{vars_of, HasNumbers, IsKernel, Holds as KernelHolds}
 use Rattle.constraint_model.specs.declared.model.Term.{Term}
 use Rattle.constraint_model.specs.declared.model.VarDecl.{VarDecl}
+use Rattle.constraint_model.specs.declared.meanings.Array.{Array}
 use Rattle.constraint_model.specs.declared.meanings.Scalar.{Scalar}
 use Rattle.constraint_model.specs.declared.meanings.Meaning.{Meaning}
 use Rattle.constraint_model.specs.declared.table.ConstraintName.{ConstraintName}
@@ -324,15 +325,15 @@ module _ (vars : List VarDecl) (constants : List ℤ) where
   abbrev BooleanIs : Scalar → Type 0
   BooleanIs s = OneIs vars constants true s
 
-  abbrev ArrayIs : List Scalar → Type 0
-  ArrayIs es = RowIs vars constants es
+  abbrev ArrayIs : Array → Type 0
+  ArrayIs array = RowIs vars constants array
 
   abbrev Row : ConstraintName → List Meaning → Type 0
   Row name ms = RowMeans vars constants name ms
 
   -- an array and a boolean
   on_array : (name : ConstraintName)
-      → ((xs : List Scalar) (r : Scalar) → ArrayIs xs → BooleanIs r → Row name (Meaning.Row xs ∷ Meaning.One r ∷ []))
+      → ((xs : Array) (r : Scalar) → ArrayIs xs → BooleanIs r → Row name (Meaning.Row xs ∷ Meaning.One r ∷ []))
       → Law vars constants name (Letter.Booleans ∷ Letter.Boolean ∷ [])
   on_array name f ms h e =
       at_two vars constants Letter.Booleans Letter.Boolean (Row name)
@@ -343,7 +344,7 @@ module _ (vars : List VarDecl) (constants : List ℤ) where
 
   -- two arrays
   on_arrays : (name : ConstraintName)
-      → ((xs ys : List Scalar) → ArrayIs xs → ArrayIs ys → Row name (Meaning.Row xs ∷ Meaning.Row ys ∷ []))
+      → ((xs ys : Array) → ArrayIs xs → ArrayIs ys → Row name (Meaning.Row xs ∷ Meaning.Row ys ∷ []))
       → Law vars constants name (Letter.Booleans ∷ Letter.Booleans ∷ [])
   on_arrays name f ms h e =
       at_two vars constants Letter.Booleans Letter.Booleans (Row name)
@@ -354,7 +355,7 @@ module _ (vars : List VarDecl) (constants : List ℤ) where
 
   -- two arrays and a boolean
   on_reified_arrays : (name : ConstraintName)
-      → ((xs ys : List Scalar) (r : Scalar) → ArrayIs xs → ArrayIs ys → BooleanIs r → Row name (Meaning.Row xs ∷ Meaning.Row ys ∷ Meaning.One r ∷ []))
+      → ((xs ys : Array) (r : Scalar) → ArrayIs xs → ArrayIs ys → BooleanIs r → Row name (Meaning.Row xs ∷ Meaning.Row ys ∷ Meaning.One r ∷ []))
       → Law vars constants name (Letter.Booleans ∷ Letter.Booleans ∷ Letter.Boolean ∷ [])
   on_reified_arrays name f ms h e =
       at_three vars constants Letter.Booleans Letter.Booleans Letter.Boolean (Row name)
@@ -389,34 +390,34 @@ module _ (vars : List VarDecl) (constants : List ℤ) where
   pub array_bool_and : Law vars constants ConstraintName.ArrayBoolAnd (Letter.Booleans ∷ Letter.Boolean ∷ [])
   unfolding row_of kernels_of HoldsOn
   array_bool_and = on_array ConstraintName.ArrayBoolAnd (λ xs r hx hr. record {
-    can_run = conjunction_runs (terms_of xs) r.term (terms_short xs hx.short) hx.has hr.has;
-    count = some_of_count (opposite r.term) (map opposite (terms_of xs)) ∙ ap (λ n. n + 1) (length-map {B = Lit} (terms_of xs) opposite);
-    meaning = λ a w. conjunction_says a w (terms_of xs) r.term hx.has hr.has;
+    can_run = conjunction_runs (terms_of xs.entries) r.term (terms_short xs.entries hx.short) hx.has hr.has;
+    count = some_of_count (opposite r.term) (map opposite (terms_of xs.entries)) ∙ ap (λ n. n + 1) (length-map {B = Lit} (terms_of xs.entries) opposite);
+    meaning = λ a w. conjunction_says a w (terms_of xs.entries) r.term hx.has hr.has;
   })
 
   pub array_bool_or : Law vars constants ConstraintName.ArrayBoolOr (Letter.Booleans ∷ Letter.Boolean ∷ [])
   unfolding row_of kernels_of HoldsOn
   array_bool_or = on_array ConstraintName.ArrayBoolOr (λ xs r hx hr. record {
-    can_run = disjunction_runs (terms_of xs) r.term (terms_short xs hx.short) hx.has hr.has;
-    count = some_of_count (literal r.term) (map literal (terms_of xs)) ∙ ap (λ n. n + 1) (length-map {B = Lit} (terms_of xs) literal);
-    meaning = λ a w. disjunction_says a w (terms_of xs) r.term hx.has hr.has;
+    can_run = disjunction_runs (terms_of xs.entries) r.term (terms_short xs.entries hx.short) hx.has hr.has;
+    count = some_of_count (literal r.term) (map literal (terms_of xs.entries)) ∙ ap (λ n. n + 1) (length-map {B = Lit} (terms_of xs.entries) literal);
+    meaning = λ a w. disjunction_says a w (terms_of xs.entries) r.term hx.has hr.has;
   })
 
-  clause_length : (xs ys : List Scalar) → ArrayIs xs → ArrayIs ys → length (clause_literals (numbering_of vars constants) (terms_of xs) (terms_of ys)) ≤ 131072
+  clause_length : (xs ys : Array) → ArrayIs xs → ArrayIs ys → length (clause_literals (numbering_of vars constants) (terms_of xs.entries) (terms_of ys.entries)) ≤ 131072
   clause_length xs ys hx hy =
-      let e = clause_count (terms_of xs) (terms_of ys) in
-      let x = terms_short xs hx.short in
-      let y = terms_short ys hy.short in
+      let e = clause_count (terms_of xs.entries) (terms_of ys.entries) in
+      let x = terms_short xs.entries hx.short in
+      let y = terms_short ys.entries hy.short in
       omega arith
 
-  clause_is : (xs ys : List Scalar) → ArrayIs xs → ArrayIs ys
-      → MeansOne vars constants (λ a. IsClause (map (value a) (terms_of xs)) (map (value a) (terms_of ys))) (Kernel.Clause (clause_literals (numbering_of vars constants) (terms_of xs) (terms_of ys)))
+  clause_is : (xs ys : Array) → ArrayIs xs → ArrayIs ys
+      → MeansOne vars constants (λ a. IsClause (map (value a) (terms_of xs.entries)) (map (value a) (terms_of ys.entries))) (Kernel.Clause (clause_literals (numbering_of vars constants) (terms_of xs.entries) (terms_of ys.entries)))
   clause_is xs ys hx hy =
-      let lits : List Lit = clause_literals (numbering_of vars constants) (terms_of xs) (terms_of ys) in
+      let lits : List Lit = clause_literals (numbering_of vars constants) (terms_of xs.entries) (terms_of ys.entries) in
       let n = clause_length xs ys hx hy in
       record {
-        can_run = clause_runs (size_of vars constants) lits some_variable (clause_literals_placed (terms_of xs) (terms_of ys) hx.has hy.has) (few_literals (length lits) (omega arith));
-        meaning = λ a w. iff_through (clause_says (with_constants constants a) lits) (literals_hold a w (terms_of xs) (terms_of ys) hx.has hy.has);
+        can_run = clause_runs (size_of vars constants) lits some_variable (clause_literals_placed (terms_of xs.entries) (terms_of ys.entries) hx.has hy.has) (few_literals (length lits) (omega arith));
+        meaning = λ a w. iff_through (clause_says (with_constants constants a) lits) (literals_hold a w (terms_of xs.entries) (terms_of ys.entries) hx.has hy.has);
       }
 
   pub bool_clause : Law vars constants ConstraintName.BoolClause (Letter.Booleans ∷ Letter.Booleans ∷ [])
@@ -426,13 +427,13 @@ module _ (vars : List VarDecl) (constants : List ℤ) where
   pub bool_clause_reif : Law vars constants ConstraintName.BoolClauseReif (Letter.Booleans ∷ Letter.Booleans ∷ Letter.Boolean ∷ [])
   unfolding row_of kernels_of HoldsOn
   bool_clause_reif = on_reified_arrays ConstraintName.BoolClauseReif (λ xs ys r hx hy hr.
-      let lits : List Lit = clause_literals (numbering_of vars constants) (terms_of xs) (terms_of ys) in
+      let lits : List Lit = clause_literals (numbering_of vars constants) (terms_of xs.entries) (terms_of ys.entries) in
       record {
         can_run = some_of_runs (size_of vars constants) some_variable (literal r.term) lits (variable_inside vars constants r.term hr.has)
-            (clause_literals_placed (terms_of xs) (terms_of ys) hx.has hy.has) (clause_length xs ys hx hy);
-        count = some_of_count (literal r.term) lits ∙ ap (λ n. n + 1) (clause_count (terms_of xs) (terms_of ys));
+            (clause_literals_placed (terms_of xs.entries) (terms_of ys.entries) hx.has hy.has) (clause_length xs ys hx hy);
+        count = some_of_count (literal r.term) lits ∙ ap (λ n. n + 1) (clause_count (terms_of xs.entries) (terms_of ys.entries));
         meaning = λ a w.
             iff_through (some_of_says (with_constants constants a) (literal r.term) lits)
             (iff_through (ends_same _ _ _ _ (literal_says a w r.term hr.has) refl)
-            (truths_say (is_true (value a r.term)) (list_any (holds_here (with_constants constants a)) lits) (positive_true (value a r.term)) (literals_hold a w (terms_of xs) (terms_of ys) hx.has hy.has)));
+            (truths_say (is_true (value a r.term)) (list_any (holds_here (with_constants constants a)) lits) (positive_true (value a r.term)) (literals_hold a w (terms_of xs.entries) (terms_of ys.entries) hx.has hy.has)));
       })

@@ -10,6 +10,7 @@ use Rattle.guarded_tell.specs.Words.{value_of}
 use Rattle.guarded_tell.specs.Kernels.{vars_of, HasNumbers, Holds as KernelHolds}
 use Rattle.constraint_model.specs.declared.model.Term.{Term}
 use Rattle.constraint_model.specs.declared.model.VarDecl.{VarDecl}
+use Rattle.constraint_model.specs.declared.meanings.Array.{Array}
 use Rattle.constraint_model.specs.declared.meanings.Scalar.{Scalar}
 use Rattle.constraint_model.specs.declared.meanings.Meaning.{Meaning}
 use Rattle.constraint_model.specs.declared.table.Letter.{Letter}
@@ -90,8 +91,8 @@ module _ (vars : List VarDecl) (constants : List ℤ) where
   -- what a row of a place, an array and an entry owes
   abbrev EntryLaw : ConstraintName → Type 0
   EntryLaw name =
-      (s : Scalar) (es : List Scalar) (t : Scalar) → HasVariable vars constants s.term → RowIs vars constants es → HasVariable vars constants t.term
-      → RowMeans vars constants name (Meaning.One s ∷ Meaning.Row es ∷ Meaning.One t ∷ [])
+      (s : Scalar) (xs : Array) (t : Scalar) → HasVariable vars constants s.term → RowIs vars constants xs → HasVariable vars constants t.term
+      → RowMeans vars constants name (Meaning.One s ∷ Meaning.Row xs ∷ Meaning.One t ∷ [])
 
   -- a place, an array of this letter and an entry of this type
   by_entry : (name : ConstraintName) (l : Letter) (b : Bool) → IsRowLetter vars constants l → EntryLaw name → Law vars constants name (Letter.Integer ∷ l ∷ letter_of b ∷ [])
@@ -101,7 +102,7 @@ module _ (vars : List VarDecl) (constants : List ℤ) where
       at_integer vars constants (λ i. RowMeans vars constants name (i ∷ n ∷ o ∷ []))
       (λ s is.
       at_row vars constants (λ j. RowMeans vars constants name (Meaning.One s ∷ j ∷ o ∷ []))
-      (λ es row. at_scalar vars constants b (λ k. RowMeans vars constants name (Meaning.One s ∷ Meaning.Row es ∷ k ∷ [])) (λ t it. f s es t is.has row it.has) o ho)
+      (λ xs row. at_scalar vars constants b (λ k. RowMeans vars constants name (Meaning.One s ∷ Meaning.Row xs ∷ k ∷ [])) (λ t it. f s xs t is.has row it.has) o ho)
       l is_row n hn)
       m hm)
       ms served
@@ -110,22 +111,22 @@ module _ (vars : List VarDecl) (constants : List ℤ) where
   unfolding row_of kernels_of HoldsOn
   array_int_element =
       by_entry ConstraintName.ArrayIntElement Letter.Numbers false tt
-      (λ s es t hs row ht. alone vars constants refl (entry_is s.term (terms_of es) t.term hs row.has ht (entries_few vars constants es row.short)))
+      (λ s xs t hs row ht. alone vars constants refl (entry_is s.term (terms_of xs.entries) t.term hs row.has ht (entries_few vars constants xs.entries row.short)))
 
   pub array_var_int_element : Law vars constants ConstraintName.ArrayVarIntElement (Letter.Integer ∷ Letter.Integers ∷ Letter.Integer ∷ [])
   unfolding row_of kernels_of HoldsOn
   array_var_int_element =
       by_entry ConstraintName.ArrayVarIntElement Letter.Integers false tt
-      (λ s es t hs row ht. alone vars constants refl (entry_is s.term (terms_of es) t.term hs row.has ht (entries_few vars constants es row.short)))
+      (λ s xs t hs row ht. alone vars constants refl (entry_is s.term (terms_of xs.entries) t.term hs row.has ht (entries_few vars constants xs.entries row.short)))
 
   pub array_bool_element : Law vars constants ConstraintName.ArrayBoolElement (Letter.Integer ∷ Letter.Truths ∷ Letter.Boolean ∷ [])
   unfolding row_of kernels_of HoldsOn
   array_bool_element =
       by_entry ConstraintName.ArrayBoolElement Letter.Truths true tt
-      (λ s es t hs row ht. alone vars constants refl (entry_is s.term (terms_of es) t.term hs row.has ht (entries_few vars constants es row.short)))
+      (λ s xs t hs row ht. alone vars constants refl (entry_is s.term (terms_of xs.entries) t.term hs row.has ht (entries_few vars constants xs.entries row.short)))
 
   pub array_var_bool_element : Law vars constants ConstraintName.ArrayVarBoolElement (Letter.Integer ∷ Letter.Booleans ∷ Letter.Boolean ∷ [])
   unfolding row_of kernels_of HoldsOn
   array_var_bool_element =
       by_entry ConstraintName.ArrayVarBoolElement Letter.Booleans true tt
-      (λ s es t hs row ht. alone vars constants refl (entry_is s.term (terms_of es) t.term hs row.has ht (entries_few vars constants es row.short)))
+      (λ s xs t hs row ht. alone vars constants refl (entry_is s.term (terms_of xs.entries) t.term hs row.has ht (entries_few vars constants xs.entries row.short)))

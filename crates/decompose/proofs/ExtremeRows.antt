@@ -14,6 +14,7 @@ use Rattle.guarded_tell.specs.Words.{value_of}
 use Rattle.guarded_tell.specs.Kernels.{vars_of, HasNumbers, Holds as KernelHolds}
 use Rattle.constraint_model.specs.declared.model.Term.{Term}
 use Rattle.constraint_model.specs.declared.model.VarDecl.{VarDecl}
+use Rattle.constraint_model.specs.declared.meanings.Array.{Array}
 use Rattle.constraint_model.specs.declared.meanings.Scalar.{Scalar}
 use Rattle.constraint_model.specs.declared.meanings.Meaning.{Meaning}
 use Rattle.constraint_model.specs.declared.table.Letter.{Letter}
@@ -173,13 +174,13 @@ module _ (vars : List VarDecl) (constants : List ℤ) where
 
   -- a number, and an array of integers
   number_and_row : (name : ConstraintName)
-      → ((s : Scalar) (es : List Scalar) → HasVariable vars constants s.term → RowIs vars constants es → RowMeans vars constants name (Meaning.One s ∷ Meaning.Row es ∷ []))
+      → ((s : Scalar) (xs : Array) → HasVariable vars constants s.term → RowIs vars constants xs → RowMeans vars constants name (Meaning.One s ∷ Meaning.Row xs ∷ []))
       → Law vars constants name (Letter.Integer ∷ Letter.Integers ∷ [])
   number_and_row name f ms served lengths =
       at_two vars constants Letter.Integer Letter.Integers (RowMeans vars constants name)
       (λ m n hm hn.
       at_integer vars constants (λ i. RowMeans vars constants name (i ∷ n ∷ []))
-      (λ s is. at_row vars constants (λ j. RowMeans vars constants name (Meaning.One s ∷ j ∷ [])) (λ es row. f s es is.has row) Letter.Integers tt n hn)
+      (λ s is. at_row vars constants (λ j. RowMeans vars constants name (Meaning.One s ∷ j ∷ [])) (λ xs row. f s xs is.has row) Letter.Integers tt n hn)
       m hm)
       ms served
 
@@ -187,12 +188,12 @@ module _ (vars : List VarDecl) (constants : List ℤ) where
   unfolding row_of kernels_of HoldsOn
   array_int_maximum =
       number_and_row ConstraintName.ArrayIntMaximum
-      (λ s es has row. alone vars constants refl
-      (greatest_is s.term (terms_of es) has row.has (entries_few es row.short)))
+      (λ s xs has row. alone vars constants refl
+      (greatest_is s.term (terms_of xs.entries) has row.has (entries_few xs.entries row.short)))
 
   pub array_int_minimum : Law vars constants ConstraintName.ArrayIntMinimum (Letter.Integer ∷ Letter.Integers ∷ [])
   unfolding row_of kernels_of HoldsOn
   array_int_minimum =
       number_and_row ConstraintName.ArrayIntMinimum
-      (λ s es has row. alone vars constants refl
-      (least_is s.term (terms_of es) has row.has (entries_few es row.short)))
+      (λ s xs has row. alone vars constants refl
+      (least_is s.term (terms_of xs.entries) has row.has (entries_few xs.entries row.short)))

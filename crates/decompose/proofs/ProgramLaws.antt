@@ -41,7 +41,7 @@ module _ (vars : List VarDecl) where
 
   meaning_declared : (m : Meaning) → IsMeaningOf vars m → HasDeclared (length vars) (operand_of m)
   meaning_declared (Meaning.One s) h = term_declared s.is_bool s.term h
-  meaning_declared (Meaning.Row es) h = row_declared es h.1
+  meaning_declared (Meaning.Row array) h = row_declared array.entries h.1
   meaning_declared (Meaning.Set rs) h = tt
 
   arguments_declared : (ms : List Meaning) → All (IsMeaningOf vars) ms → All (HasDeclared (length vars)) (map operand_of ms)

@@ -8,6 +8,7 @@ use Rattle.std.proofs.lemmas.List.Sums.{AllPass-from_list_all}
 use Rattle.std.proofs.lemmas.List.Elements.{All-nil, All-cons, All-head, All-tail}
 use Rattle.constraint_model.specs.declared.model.Term.{Term}
 use Rattle.constraint_model.specs.declared.model.VarDecl.{VarDecl}
+use Rattle.constraint_model.specs.declared.meanings.Array.{Array}
 use Rattle.constraint_model.specs.declared.meanings.Scalar.{Scalar}
 use Rattle.constraint_model.specs.declared.meanings.Meaning.{Meaning}
 use Rattle.constraint_model.specs.declared.table.Letter.{Letter}
@@ -99,39 +100,39 @@ module _ (vars : List VarDecl) (constants : List ℤ) where
     pub typed : IsTermOf vars is_bool s.term
 
   -- an array of terms
-  pub record RowIs (es : List Scalar) : Type 0 where
-    pub short : length es ≤ most_entries
-    pub has : All (HasVariable vars constants) (terms_of es)
-    pub typed : All (IsScalarOf vars) es
+  pub record RowIs (array : Array) : Type 0 where
+    pub short : length array.entries ≤ most_entries
+    pub has : All (HasVariable vars constants) (terms_of array.entries)
+    pub typed : All (IsScalarOf vars) array.entries
 
   -- an array of coefficients
-  pub record AreCoefficients (es : List Scalar) : Type 0 where
-    pub short : length es ≤ most_entries
-    pub are : All IsConstant (terms_of es)
+  pub record AreCoefficients (array : Array) : Type 0 where
+    pub short : length array.entries ≤ most_entries
+    pub are : All IsConstant (terms_of array.entries)
 
   pub at_integer : (P : Meaning → Type 0) → ((s : Scalar) → OneIs false s → P (Meaning.One s)) → (m : Meaning) → IsServed Letter.Integer m → P m
   at_integer P f (Meaning.One s) h = f s (record { has = term_has s.is_bool s.term h.meaning h.there; typed = subst (λ b. IsTermOf vars b s.term) (integer_bool s h.fit) h.meaning })
-  at_integer P f (Meaning.Row es) h = untrue h.fit
+  at_integer P f (Meaning.Row array) h = untrue h.fit
   at_integer P f (Meaning.Set rs) h = untrue h.fit
 
   pub at_boolean : (P : Meaning → Type 0) → ((s : Scalar) → OneIs true s → P (Meaning.One s)) → (m : Meaning) → IsServed Letter.Boolean m → P m
   at_boolean P f (Meaning.One s) h = f s (record { has = term_has s.is_bool s.term h.meaning h.there; typed = subst (λ b. IsTermOf vars b s.term) h.fit h.meaning })
-  at_boolean P f (Meaning.Row es) h = untrue h.fit
+  at_boolean P f (Meaning.Row array) h = untrue h.fit
   at_boolean P f (Meaning.Set rs) h = untrue h.fit
 
   pub at_constant : (P : Meaning → Type 0) → ((s : Scalar) → IsConstant s.term → P (Meaning.One s)) → (m : Meaning) → IsServed Letter.Constant m → P m
   at_constant P f (Meaning.One s) h = f s (constant_is s.is_bool s.term (and_parts (is_integer s) (is_constant s) h.fit).1 h.meaning)
-  at_constant P f (Meaning.Row es) h = untrue h.fit
+  at_constant P f (Meaning.Row array) h = untrue h.fit
   at_constant P f (Meaning.Set rs) h = untrue h.fit
 
   pub at_set : (P : Meaning → Type 0) → ((rs : List Range) → IsMeaningOf vars (Meaning.Set rs) → P (Meaning.Set rs)) → (m : Meaning) → IsServed Letter.Set m → P m
   at_set P f (Meaning.Set rs) h = f rs h.meaning
-  at_set P f (Meaning.Row es) h = untrue h.fit
+  at_set P f (Meaning.Row array) h = untrue h.fit
   at_set P f (Meaning.One s) h = untrue h.fit
 
-  pub at_coefficients : (P : Meaning → Type 0) → ((es : List Scalar) → AreCoefficients es → P (Meaning.Row es)) → (m : Meaning) → IsServed Letter.Coefficients m → P m
-  at_coefficients P f (Meaning.Row es) h =
-      f es (record { short = h.meaning.0; are = constants_are es (AllPass-from_list_all is_constant es (and_parts (list_all is_integer es) (list_all is_constant es) h.fit).1) h.meaning.1 })
+  pub at_coefficients : (P : Meaning → Type 0) → ((array : Array) → AreCoefficients array → P (Meaning.Row array)) → (m : Meaning) → IsServed Letter.Coefficients m → P m
+  at_coefficients P f (Meaning.Row array) h =
+      f array (record { short = h.meaning.0; are = constants_are array.entries (AllPass-from_list_all is_constant array.entries (and_parts (list_all is_integer array.entries) (list_all is_constant array.entries) h.fit).1) h.meaning.1 })
   at_coefficients P f (Meaning.One s) h = untrue h.fit
   at_coefficients P f (Meaning.Set rs) h = untrue h.fit
 
@@ -143,14 +144,14 @@ module _ (vars : List VarDecl) (constants : List ℤ) where
   IsRowLetter Letter.Truths = Unit {0}
   IsRowLetter _ = ⊥
 
-  array_is : (es : List Scalar) → IsMeaningOf vars (Meaning.Row es) → AreThere (flat_map constant_of (terms_of es)) → RowIs es
-  array_is es h g = record { short = h.0; has = terms_have es h.1 g; typed = h.1 }
+  array_is : (array : Array) → IsMeaningOf vars (Meaning.Row array) → AreThere (flat_map constant_of (terms_of array.entries)) → RowIs array
+  array_is array h g = record { short = h.0; has = terms_have array.entries h.1 g; typed = h.1 }
 
-  pub at_row : (P : Meaning → Type 0) → ((es : List Scalar) → RowIs es → P (Meaning.Row es)) → (l : Letter) → IsRowLetter l → (m : Meaning) → IsServed l m → P m
-  at_row P f Letter.Integers r (Meaning.Row es) h = f es (array_is es h.meaning h.there)
-  at_row P f Letter.Booleans r (Meaning.Row es) h = f es (array_is es h.meaning h.there)
-  at_row P f Letter.Numbers r (Meaning.Row es) h = f es (array_is es h.meaning h.there)
-  at_row P f Letter.Truths r (Meaning.Row es) h = f es (array_is es h.meaning h.there)
+  pub at_row : (P : Meaning → Type 0) → ((array : Array) → RowIs array → P (Meaning.Row array)) → (l : Letter) → IsRowLetter l → (m : Meaning) → IsServed l m → P m
+  at_row P f Letter.Integers r (Meaning.Row array) h = f array (array_is array h.meaning h.there)
+  at_row P f Letter.Booleans r (Meaning.Row array) h = f array (array_is array h.meaning h.there)
+  at_row P f Letter.Numbers r (Meaning.Row array) h = f array (array_is array h.meaning h.there)
+  at_row P f Letter.Truths r (Meaning.Row array) h = f array (array_is array h.meaning h.there)
   at_row P f Letter.Integers r (Meaning.One s) h = untrue h.fit
   at_row P f Letter.Booleans r (Meaning.One s) h = untrue h.fit
   at_row P f Letter.Numbers r (Meaning.One s) h = untrue h.fit

@@ -44,7 +44,7 @@ module _ (vars : List VarDecl) where
 
   meaning_numbers : (m : Meaning) → IsMeaningOf vars m → All IsInProfile (constants_of_operand (operand_of m))
   meaning_numbers (Meaning.One s) h = term_numbers s.is_bool s.term h
-  meaning_numbers (Meaning.Row es) h = row_numbers es h.1
+  meaning_numbers (Meaning.Row array) h = row_numbers array.entries h.1
   meaning_numbers (Meaning.Set rs) h = All-nil IsInProfile
 
   some_numbers : (b : Bool) (ns : List ℤ) → All IsInProfile ns → All IsInProfile (cond b ns [])

@@ -6,6 +6,7 @@ use Rattle.std.proofs.lemmas.Bool.{eqb-true}
 use Rattle.std.proofs.lemmas.List.{length-map}
 use Rattle.constraint_model.specs.declared.model.Term.{Term}
 use Rattle.constraint_model.specs.declared.model.VarDecl.{VarDecl}
+use Rattle.constraint_model.specs.declared.meanings.Array.{Array}
 use Rattle.constraint_model.specs.declared.meanings.Scalar.{Scalar}
 use Rattle.constraint_model.specs.declared.meanings.Meaning.{Meaning}
 use Rattle.constraint_model.specs.declared.table.ConstraintName.{ConstraintName}
@@ -21,23 +22,23 @@ use Rattle.decompose.proofs.SumLaws.{IsSumOf, le_kernel, eq_kernel, always_means
 
 module _ (vars : List VarDecl) (constants : List ℤ) where
   -- the coefficients and the terms of a sum
-  record AreSummed (cs ts : List Scalar) : Type 0 where
-    short : length (terms_of cs) ≤ most_entries
-    same : length (terms_of cs) ≡ length (terms_of ts)
-    are : All IsConstant (terms_of cs)
-    has : All (HasVariable vars constants) (terms_of ts)
+  record AreSummed (cs ts : Array) : Type 0 where
+    short : length (terms_of cs.entries) ≤ most_entries
+    same : length (terms_of cs.entries) ≡ length (terms_of ts.entries)
+    are : All IsConstant (terms_of cs.entries)
+    has : All (HasVariable vars constants) (terms_of ts.entries)
 
-  summed : (cs ts : List Scalar) → AreCoefficients vars constants cs → RowIs vars constants ts → nat_eq (length cs) (length ts) ≡ true → AreSummed cs ts
+  summed : (cs ts : Array) → AreCoefficients vars constants cs → RowIs vars constants ts → nat_eq (length cs.entries) (length ts.entries) ≡ true → AreSummed cs ts
   summed cs ts hc ht e =
-      let lc = length-map {B = Term} cs (λ s. s.term) in
-      let lt = length-map {B = Term} ts (λ s. s.term) in
+      let lc = length-map {B = Term} cs.entries (λ s. s.term) in
+      let lt = length-map {B = Term} ts.entries (λ s. s.term) in
       let few = hc.short in
-      let both : length cs ≡ length ts = eqb-true (length cs) (length ts) e in
+      let both : length cs.entries ≡ length ts.entries = eqb-true (length cs.entries) (length ts.entries) e in
       record { short = omega arith; same = omega arith; are = hc.are; has = ht.has }
 
   -- a row of coefficients, an array of terms of this letter, and a limit
   by_sum : (name : ConstraintName) (l : Letter) → IsRowLetter vars constants l
-      → ((cs ts : List Scalar) (c : Scalar) → AreSummed cs ts → IsConstant c.term → RowMeans vars constants name (Meaning.Row cs ∷ Meaning.Row ts ∷ Meaning.One c ∷ []))
+      → ((cs ts : Array) (c : Scalar) → AreSummed cs ts → IsConstant c.term → RowMeans vars constants name (Meaning.Row cs ∷ Meaning.Row ts ∷ Meaning.One c ∷ []))
       → Law vars constants name (Letter.Coefficients ∷ l ∷ Letter.Constant ∷ [])
   by_sum name l is f ms h e =
       let letters : List Letter = Letter.Coefficients ∷ l ∷ Letter.Constant ∷ [] in
@@ -54,7 +55,7 @@ module _ (vars : List VarDecl) (constants : List ℤ) where
 
   -- the same with a boolean behind them
   by_reified_sum : (name : ConstraintName)
-      → ((cs ts : List Scalar) (c r : Scalar) → AreSummed cs ts → IsConstant c.term → OneIs vars constants true r → RowMeans vars constants name (Meaning.Row cs ∷ Meaning.Row ts ∷ Meaning.One c ∷ Meaning.One r ∷ []))
+      → ((cs ts : Array) (c r : Scalar) → AreSummed cs ts → IsConstant c.term → OneIs vars constants true r → RowMeans vars constants name (Meaning.Row cs ∷ Meaning.Row ts ∷ Meaning.One c ∷ Meaning.One r ∷ []))
       → Law vars constants name (Letter.Coefficients ∷ Letter.Integers ∷ Letter.Constant ∷ Letter.Boolean ∷ [])
   by_reified_sum name f ms h e =
       let letters : List Letter = Letter.Coefficients ∷ Letter.Integers ∷ Letter.Constant ∷ Letter.Boolean ∷ [] in
@@ -74,7 +75,7 @@ module _ (vars : List VarDecl) (constants : List ℤ) where
 
   -- a row of coefficients, an array of booleans, and their total
   by_total : (name : ConstraintName)
-      → ((cs ts : List Scalar) (c : Scalar) → AreSummed cs ts → OneIs vars constants false c → RowMeans vars constants name (Meaning.Row cs ∷ Meaning.Row ts ∷ Meaning.One c ∷ []))
+      → ((cs ts : Array) (c : Scalar) → AreSummed cs ts → OneIs vars constants false c → RowMeans vars constants name (Meaning.Row cs ∷ Meaning.Row ts ∷ Meaning.One c ∷ []))
       → Law vars constants name (Letter.Coefficients ∷ Letter.Booleans ∷ Letter.Integer ∷ [])
   by_total name f ms h e =
       let letters : List Letter = Letter.Coefficients ∷ Letter.Booleans ∷ Letter.Integer ∷ [] in
@@ -90,9 +91,9 @@ module _ (vars : List VarDecl) (constants : List ℤ) where
       ms h e
 
   -- the sum of an array and a limit
-  array_sum : (R : ℤ → ℤ → Type 0) (cs ts : List Scalar) (c : Scalar) → AreSummed cs ts → IsConstant c.term
-      → IsSumOf vars constants R (λ a. R (dot (map (value a) (terms_of cs)) (map (value a) (terms_of ts))) (value a c.term)) (map number_of (terms_of cs)) (terms_of ts) (number_of c.term)
-  array_sum R cs ts c h is = linear_sum vars constants (terms_of cs) (terms_of ts) h.short h.same h.are h.has R c.term is
+  array_sum : (R : ℤ → ℤ → Type 0) (cs ts : Array) (c : Scalar) → AreSummed cs ts → IsConstant c.term
+      → IsSumOf vars constants R (λ a. R (dot (map (value a) (terms_of cs.entries)) (map (value a) (terms_of ts.entries))) (value a c.term)) (map number_of (terms_of cs.entries)) (terms_of ts.entries) (number_of c.term)
+  array_sum R cs ts c h is = linear_sum vars constants (terms_of cs.entries) (terms_of ts.entries) h.short h.same h.are h.has R c.term is
 
 module _ (vars : List VarDecl) (constants : List ℤ) (given : IsGiven vars constants) where
   -- ---- the rows
@@ -257,4 +258,4 @@ module _ (vars : List VarDecl) (constants : List ℤ) (given : IsGiven vars cons
   unfolding row_of HoldsOn kernels_of
   bool_lin_eq =
       by_total vars constants ConstraintName.BoolLinEq
-      (λ cs ts c h hc. alone vars constants refl (always_means vars constants eq_kernel (total_sum vars constants (terms_of cs) (terms_of ts) h.short h.same h.are h.has c.term hc.has)))
+      (λ cs ts c h hc. alone vars constants refl (always_means vars constants eq_kernel (total_sum vars constants (terms_of cs.entries) (terms_of ts.entries) h.short h.same h.are h.has c.term hc.has)))

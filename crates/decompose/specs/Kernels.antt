@@ -92,24 +92,24 @@ on_three row (One x ∷ One y ∷ One z ∷ []) = row x y z
 on_three row _ = []
 
 abbrev pub on_sum : (List ℤ → List Term → ℤ → List Kernel) → List Operand → List Kernel
-on_sum row (Row coefficients ∷ Row terms ∷ One limit ∷ []) = row (map number_of coefficients) terms (number_of limit)
+on_sum row (Row coefficients ∷ Row variables ∷ One limit ∷ []) = row (map number_of coefficients.terms) variables.terms (number_of limit)
 on_sum row _ = []
 
 abbrev pub on_reified_sum : (List ℤ → List Term → ℤ → Term → List Kernel) → List Operand → List Kernel
-on_reified_sum row (Row coefficients ∷ Row terms ∷ One limit ∷ One r ∷ []) = row (map number_of coefficients) terms (number_of limit) r
+on_reified_sum row (Row coefficients ∷ Row variables ∷ One limit ∷ One r ∷ []) = row (map number_of coefficients.terms) variables.terms (number_of limit) r
 on_reified_sum row _ = []
 
 -- a sum and the term that it equals
 abbrev pub on_equal_sum : (List ℤ → List Term → Term → List Kernel) → List Operand → List Kernel
-on_equal_sum row (Row coefficients ∷ Row terms ∷ One total ∷ []) = row (map number_of coefficients) terms total
+on_equal_sum row (Row coefficients ∷ Row variables ∷ One total ∷ []) = row (map number_of coefficients.terms) variables.terms total
 on_equal_sum row _ = []
 
 abbrev pub on_one_of_row : (Term → List Term → List Kernel) → List Operand → List Kernel
-on_one_of_row row (One m ∷ Row terms ∷ []) = row m terms
+on_one_of_row row (One m ∷ Row array ∷ []) = row m array.terms
 on_one_of_row row _ = []
 
 abbrev pub on_entry : (Term → List Term → Term → List Kernel) → List Operand → List Kernel
-on_entry row (One place ∷ Row entries ∷ One entry ∷ []) = row place entries entry
+on_entry row (One place ∷ Row array ∷ One entry ∷ []) = row place array.terms entry
 on_entry row _ = []
 
 abbrev pub on_set : (Term → List Range → List Kernel) → List Operand → List Kernel
@@ -121,15 +121,15 @@ on_reified_set row (One x ∷ Set ranges ∷ One r ∷ []) = row x ranges r
 on_reified_set row _ = []
 
 abbrev pub on_row : (List Term → Term → List Kernel) → List Operand → List Kernel
-on_row row (Row terms ∷ One r ∷ []) = row terms r
+on_row row (Row array ∷ One r ∷ []) = row array.terms r
 on_row row _ = []
 
 abbrev pub on_rows : (List Term → List Term → List Kernel) → List Operand → List Kernel
-on_rows row (Row first ∷ Row second ∷ []) = row first second
+on_rows row (Row first ∷ Row second ∷ []) = row first.terms second.terms
 on_rows row _ = []
 
 abbrev pub on_reified_rows : (List Term → List Term → Term → List Kernel) → List Operand → List Kernel
-on_reified_rows row (Row first ∷ Row second ∷ One r ∷ []) = row first second r
+on_reified_rows row (Row first ∷ Row second ∷ One r ∷ []) = row first.terms second.terms r
 on_reified_rows row _ = []
 
 -- two terms, or two and a boolean

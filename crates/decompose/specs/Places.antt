@@ -5,6 +5,7 @@ use Rattle.std.specs.List.{All}
 use Rattle.constraint_model.specs.declared.model.Term.{Term}
 use Rattle.constraint_model.specs.declared.model.Operand.{Operand}
 use Rattle.constraint_model.specs.declared.model.VarDecl.{VarDecl}
+use Rattle.constraint_model.specs.Found.{KnownConstants}
 use Rattle.constraint_model.specs.Limits.{most_vars, most_constants}
 
 -- how many variables are declared, and the constants other than 1 in the order of their variables
@@ -15,6 +16,15 @@ pub record Numbering : Type 0 where
 -- the numbering by these declared variables and constants
 abbrev pub numbering_of : List VarDecl → List ℤ → Numbering
 numbering_of vars constants = record { count = length vars; constants = constants }
+
+-- a numbering, and the terms of the declared arrays, which are told by their numbers
+pub record Placing : Type 0 where
+  pub numbering : Numbering
+  pub arrays : List (List Term)
+
+-- the numbering by so many declared variables and these constants, with the arrays beside these
+abbrev pub placing_of : ℕ → KnownConstants → Placing
+placing_of count known = record { numbering = record { count = count; constants = known.numbers }; arrays = known.arrays }
 
 -- so few of both that each has a number
 pub record AreFew (numbering : Numbering) : Type 0 where
@@ -29,5 +39,5 @@ IsDeclared count (Term.Var v) = v < count
 -- each variable that stands at an argument is a declared one
 abbrev pub HasDeclared : ℕ → Operand → Type 0
 HasDeclared count (Operand.One t) = IsDeclared count t
-HasDeclared count (Operand.Row ts) = All (IsDeclared count) ts
+HasDeclared count (Operand.Row array) = All (IsDeclared count) array.terms
 HasDeclared count (Operand.Set ranges) = Unit {0}

@@ -1,13 +1,14 @@
 //! The kernels of conjunctions, disjunctions and clauses.
 
 ghost use Rattle.std.specs.Prelude.{◌≡◌, ◌++◌, [], ◌∷◌, map, not, All, IfOk, OnOk};
+ghost use Rattle.constraint_model.specs.Arrays.{IsNumbered, HasNumber};
 ghost use Rattle.constraint_model.specs.declared.table.ConstraintName.{ConstraintName};
 ghost use Rattle.decompose.specs.Kernels.{negated, literal_of, some_of, row_of, on_three, on_row, clause_literals};
 ghost use Rattle.decompose.specs.Places.{IsDeclared, HasDeclared};
 ghost use Rattle.decompose.specs.Rows.{literal_at, joined};
 
 use crate::places::Places;
-use constraint_model::{Operand, Term};
+use constraint_model::{ArrayTerms, Operand, Term};
 use guarded_tell::{Kernel, Lit, Literals};
 use list_of::ListOf;
 use shared_list::SharedList;
@@ -42,8 +43,8 @@ fn add_implications(
     booleans: &[Term],
     kernels: &mut ListOf<Kernel>,
 ) -> Result<(), AllocError>
-    requires { All (IsDeclared places.now.count) booleans.now }
-    ensures { OnOk result (kernels.new ≡ kernels.old ++ map (λ t. Kernel.Clause (lit ∷ negated (literal_at places.now positive t) ∷ [])) booleans.now) }
+    requires { All (IsDeclared places.now.numbering.count) booleans.now }
+    ensures { OnOk result (kernels.new ≡ kernels.old ++ map (λ t. Kernel.Clause (lit ∷ negated (literal_at places.now.numbering positive t) ∷ [])) booleans.now) }
 {
     for boolean in booleans {
         let premise = places.literal(positive, *boolean);
@@ -62,9 +63,9 @@ fn add_joined(
     r: Term,
     kernels: &mut ListOf<Kernel>,
 ) -> Result<(), AllocError>
-    requires declared { All (IsDeclared places.now.count) booleans.now }
-    requires declared_r { IsDeclared places.now.count r }
-    ensures { OnOk result (kernels.new ≡ kernels.old ++ joined places.now positive booleans.now r) }
+    requires declared { All (IsDeclared places.now.numbering.count) booleans.now }
+    requires declared_r { IsDeclared places.now.numbering.count r }
+    ensures { OnOk result (kernels.new ≡ kernels.old ++ joined places.now.numbering positive booleans.now r) }
 {
     let lit = places.literal(positive, r);
     add_implications(alloc, places, lit, positive, booleans, kernels)?;
@@ -87,8 +88,8 @@ pub(crate) fn joined_two(
     operands: &[Operand],
     kernels: &mut ListOf<Kernel>,
 ) -> Result<(), AllocError>
-    requires { All (HasDeclared places.now.count) operands.now }
-    ensures { OnOk result (kernels.new ≡ kernels.old ++ on_three (λ x y r. joined places.now positive (x ∷ y ∷ []) r) operands.now) }
+    requires { All (HasDeclared places.now.numbering.count) operands.now }
+    ensures { OnOk result (kernels.new ≡ kernels.old ++ on_three (λ x y r. joined places.now.numbering positive (x ∷ y ∷ []) r) operands.now) }
 {
     match operands {
         [Operand::One(x), Operand::One(y), Operand::One(r)] => {
@@ -106,12 +107,12 @@ pub(crate) fn joined_row(
     operands: &[Operand],
     kernels: &mut ListOf<Kernel>,
 ) -> Result<(), AllocError>
-    requires { All (HasDeclared places.now.count) operands.now }
-    ensures { OnOk result (kernels.new ≡ kernels.old ++ on_row (λ xs r. joined places.now positive xs r) operands.now) }
+    requires { All (HasDeclared places.now.numbering.count) operands.now }
+    ensures { OnOk result (kernels.new ≡ kernels.old ++ on_row (λ xs r. joined places.now.numbering positive xs r) operands.now) }
 {
     match operands {
-        [Operand::Row(terms), Operand::One(r)] => {
-            add_joined(alloc, places, positive, terms.as_slice(), *r, kernels)
+        [Operand::Row(row), Operand::One(r)] => {
+            add_joined(alloc, places, positive, row.terms.as_slice(), *r, kernels)
         }
         _ => Ok(()),
     }
@@ -124,9 +125,9 @@ fn add_clause_literals(
     negatives: &[Term],
     literals: &mut Vec<Lit>,
 ) -> Result<(), AllocError>
-    requires declared_positives { All (IsDeclared places.now.count) positives.now }
-    requires declared_negatives { All (IsDeclared places.now.count) negatives.now }
-    ensures { OnOk result (literals.new.items ≡ literals.old.items ++ clause_literals places.now positives.now negatives.now) }
+    requires declared_positives { All (IsDeclared places.now.numbering.count) positives.now }
+    requires declared_negatives { All (IsDeclared places.now.numbering.count) negatives.now }
+    ensures { OnOk result (literals.new.items ≡ literals.old.items ++ clause_literals places.now.numbering positives.now negatives.now) }
 {
     places.add_literals(true, positives, literals)?;
     places.add_literals(false, negatives, literals)
@@ -137,12 +138,14 @@ fn add_clause_literals(
 fn shared_literals(
     alloc: Global,
     places: &Places,
-    positives: &SharedList<Term>,
-    negatives: &SharedList<Term>,
+    positives: &ArrayTerms,
+    negatives: &ArrayTerms,
 ) -> Result<Literals, AllocError>
-    requires declared_positives { All (IsDeclared places.now.count) positives.now }
-    requires declared_negatives { All (IsDeclared places.now.count) negatives.now }
-    ensures { IfOk result (λ literals. literals ≡ clause_literals places.now positives.now negatives.now) }
+    requires declared_positives { All (IsDeclared places.now.numbering.count) positives.now.terms }
+    requires declared_negatives { All (IsDeclared places.now.numbering.count) negatives.now.terms }
+    requires numbered_positives { IsNumbered places.now.arrays positives.now }
+    requires numbered_negatives { IsNumbered places.now.arrays negatives.now }
+    ensures { IfOk result (λ literals. literals ≡ clause_literals places.now.numbering positives.now.terms negatives.now.terms) }
 {
     Ok(Literals::by_sign(
         places.variables_of_row(alloc, positives)?,
@@ -157,30 +160,38 @@ fn own_literals(
     positives: &[Term],
     negatives: &[Term],
 ) -> Result<Literals, AllocError>
-    requires declared_positives { All (IsDeclared places.now.count) positives.now }
-    requires declared_negatives { All (IsDeclared places.now.count) negatives.now }
-    ensures { IfOk result (λ literals. literals ≡ clause_literals places.now positives.now negatives.now) }
+    requires declared_positives { All (IsDeclared places.now.numbering.count) positives.now }
+    requires declared_negatives { All (IsDeclared places.now.numbering.count) negatives.now }
+    ensures { IfOk result (λ literals. literals ≡ clause_literals places.now.numbering positives.now negatives.now) }
 {
     let mut literals = Vec::with_capacity(alloc, positives.len() + negatives.len())?;
     add_clause_literals(places, positives, negatives, &mut literals)?;
     Ok(Literals::from_list(SharedList::from_vec(literals)?))
 }
 
-/// The literals of a clause. Those of arrays that no other constraint names stand together, since they are read faster so.
+/// The literals of a clause. Those of arrays that are short or have no other owner stand together, since they are read faster
+/// so.
 fn literals_of_clause(
     alloc: Global,
     places: &Places,
-    positives: &SharedList<Term>,
-    negatives: &SharedList<Term>,
+    positives: &ArrayTerms,
+    negatives: &ArrayTerms,
 ) -> Result<Literals, AllocError>
-    requires declared_positives { All (IsDeclared places.now.count) positives.now }
-    requires declared_negatives { All (IsDeclared places.now.count) negatives.now }
-    ensures { IfOk result (λ literals. literals ≡ clause_literals places.now positives.now negatives.now) }
+    requires declared_positives { All (IsDeclared places.now.numbering.count) positives.now.terms }
+    requires declared_negatives { All (IsDeclared places.now.numbering.count) negatives.now.terms }
+    requires numbered_positives { IsNumbered places.now.arrays positives.now }
+    requires numbered_negatives { IsNumbered places.now.arrays negatives.now }
+    ensures { IfOk result (λ literals. literals ≡ clause_literals places.now.numbering positives.now.terms negatives.now.terms) }
 {
-    if positives.mark_if_shared().is_some() || negatives.mark_if_shared().is_some() {
+    if positives.terms.mark_if_shared().is_some() || negatives.terms.mark_if_shared().is_some() {
         shared_literals(alloc, places, positives, negatives)
     } else {
-        own_literals(alloc, places, positives.as_slice(), negatives.as_slice())
+        own_literals(
+            alloc,
+            places,
+            positives.terms.as_slice(),
+            negatives.terms.as_slice(),
+        )
     }
 }
 
@@ -188,13 +199,15 @@ fn literals_of_clause(
 fn add_clause(
     alloc: Global,
     places: &Places,
-    positives: &SharedList<Term>,
-    negatives: &SharedList<Term>,
+    positives: &ArrayTerms,
+    negatives: &ArrayTerms,
     kernels: &mut ListOf<Kernel>,
 ) -> Result<(), AllocError>
-    requires declared_positives { All (IsDeclared places.now.count) positives.now }
-    requires declared_negatives { All (IsDeclared places.now.count) negatives.now }
-    ensures { OnOk result (kernels.new ≡ kernels.old ++ Kernel.Clause (clause_literals places.now positives.now negatives.now) ∷ []) }
+    requires declared_positives { All (IsDeclared places.now.numbering.count) positives.now.terms }
+    requires declared_negatives { All (IsDeclared places.now.numbering.count) negatives.now.terms }
+    requires numbered_positives { IsNumbered places.now.arrays positives.now }
+    requires numbered_negatives { IsNumbered places.now.arrays negatives.now }
+    ensures { OnOk result (kernels.new ≡ kernels.old ++ Kernel.Clause (clause_literals places.now.numbering positives.now.terms negatives.now.terms) ∷ []) }
 {
     let lits = literals_of_clause(alloc, places, positives, negatives)?;
     kernels.push(Kernel::Clause { lits })?;
@@ -209,8 +222,9 @@ pub(crate) fn clause(
     operands: &[Operand],
     kernels: &mut ListOf<Kernel>,
 ) -> Result<(), AllocError>
-    requires { All (HasDeclared places.now.count) operands.now }
-    ensures { OnOk result (kernels.new ≡ kernels.old ++ row_of places.now ConstraintName.BoolClause operands.now) }
+    requires declared { All (HasDeclared places.now.numbering.count) operands.now }
+    requires numbered { All (HasNumber places.now.arrays) operands.now }
+    ensures { OnOk result (kernels.new ≡ kernels.old ++ row_of places.now.numbering ConstraintName.BoolClause operands.now) }
 {
     match operands {
         [Operand::Row(positives), Operand::Row(negatives)] => {
@@ -229,10 +243,10 @@ fn add_clause_reified(
     r: Term,
     kernels: &mut ListOf<Kernel>,
 ) -> Result<(), AllocError>
-    requires declared_positives { All (IsDeclared places.now.count) positives.now }
-    requires declared_negatives { All (IsDeclared places.now.count) negatives.now }
-    requires declared_r { IsDeclared places.now.count r }
-    ensures { OnOk result (kernels.new ≡ kernels.old ++ some_of (literal_of places.now r) (clause_literals places.now positives.now negatives.now)) }
+    requires declared_positives { All (IsDeclared places.now.numbering.count) positives.now }
+    requires declared_negatives { All (IsDeclared places.now.numbering.count) negatives.now }
+    requires declared_r { IsDeclared places.now.numbering.count r }
+    ensures { OnOk result (kernels.new ≡ kernels.old ++ some_of (literal_of places.now.numbering r) (clause_literals places.now.numbering positives.now negatives.now)) }
 {
     let lit = places.literal(true, r);
     add_implications(alloc, places, lit, true, positives, kernels)?;
@@ -255,8 +269,8 @@ pub(crate) fn clause_reified(
     operands: &[Operand],
     kernels: &mut ListOf<Kernel>,
 ) -> Result<(), AllocError>
-    requires { All (HasDeclared places.now.count) operands.now }
-    ensures { OnOk result (kernels.new ≡ kernels.old ++ row_of places.now ConstraintName.BoolClauseReif operands.now) }
+    requires { All (HasDeclared places.now.numbering.count) operands.now }
+    ensures { OnOk result (kernels.new ≡ kernels.old ++ row_of places.now.numbering ConstraintName.BoolClauseReif operands.now) }
 {
     match operands {
         [
@@ -267,8 +281,8 @@ pub(crate) fn clause_reified(
             add_clause_reified(
                 alloc,
                 places,
-                positives.as_slice(),
-                negatives.as_slice(),
+                positives.terms.as_slice(),
+                negatives.terms.as_slice(),
                 *r,
                 kernels,
             )

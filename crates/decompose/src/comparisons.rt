@@ -75,8 +75,8 @@ pub(crate) fn compare(
     operands: &[Operand],
     kernels: &mut ListOf<Kernel>,
 ) -> Result<(), AllocError>
-    requires { All (HasDeclared places.now.count) operands.now }
-    ensures { OnOk result (kernels.new ≡ kernels.old ++ on_two (λ x y. compared comparison places.now lit x y) operands.now) }
+    requires { All (HasDeclared places.now.numbering.count) operands.now }
+    ensures { OnOk result (kernels.new ≡ kernels.old ++ on_two (λ x y. compared comparison places.now.numbering lit x y) operands.now) }
 {
     match operands {
         [Operand::One(x), Operand::One(y)] => {
@@ -96,8 +96,8 @@ pub(crate) fn compare_reified(
     operands: &[Operand],
     kernels: &mut ListOf<Kernel>,
 ) -> Result<(), AllocError>
-    requires { All (HasDeclared places.now.count) operands.now }
-    ensures { OnOk result (kernels.new ≡ kernels.old ++ on_three (λ x y r. compared comparison places.now (literal_at places.now positive r) x y) operands.now) }
+    requires { All (HasDeclared places.now.numbering.count) operands.now }
+    ensures { OnOk result (kernels.new ≡ kernels.old ++ on_three (λ x y r. compared comparison places.now.numbering (literal_at places.now.numbering positive r) x y) operands.now) }
 {
     match operands {
         [Operand::One(x), Operand::One(y), Operand::One(r)] => {
@@ -117,8 +117,8 @@ pub(crate) fn exclusive_or(
     operands: &[Operand],
     kernels: &mut ListOf<Kernel>,
 ) -> Result<(), AllocError>
-    requires { All (HasDeclared places.now.count) operands.now }
-    ensures { OnOk result (kernels.new ≡ kernels.old ++ row_of places.now ConstraintName.BoolXor operands.now) }
+    requires { All (HasDeclared places.now.numbering.count) operands.now }
+    ensures { OnOk result (kernels.new ≡ kernels.old ++ row_of places.now.numbering ConstraintName.BoolXor operands.now) }
 {
     match operands {
         [_, _] => compare(alloc, places, OPPOSITE, ALWAYS, operands, kernels),

@@ -1,37 +1,57 @@
-//! The constants that need a variable of their own.
+//! The constants that need a variable of their own, and the declared arrays.
 
-ghost use Rattle.std.specs.Prelude.{◌≡◌, [], OnOk, IfOk, fold, flat_map};
+ghost use Rattle.std.specs.Prelude.{◌≡◌, [], All, OnOk, IfOk, fold, flat_map};
+ghost use Rattle.constraint_model.specs.Arrays.{HasNumber};
 ghost use Rattle.constraint_model.specs.Fits.{add_once, constants_in};
 ghost use Rattle.constraint_model.specs.Fits.{goal_constants};
 ghost use Rattle.constraint_model.specs.WellFormed.{constants_of};
 
-use constraint_model::{Constants, Constraint, FznModel, Goal, add_constant, add_constants};
+use constraint_model::{Constants, Constraint, FznModel, Goal, Term, add_constant, add_constants};
+use shared_list::SharedList;
 use std::alloc::{AllocError, Global};
 
 /// The numbers other than 1 that stand where variables may, each once, in the order in which they first stand, with
-/// their places.
+/// their places; beside them the declared arrays.
 pub(crate) fn constant_set(alloc: Global, model: &FznModel) -> Result<Constants, AllocError>
-    ensures { IfOk result (λ numbers. numbers ≡ constants_of model.now) }
+    requires { All (λ c. All (HasNumber model.now.arrays) c.operands) model.now.constraints }
+    ensures { IfOk result (λ found. found ≡ record { numbers = constants_of model.now; arrays = model.now.arrays }) }
 {
-    let mut found = constraint_constants(alloc, model.constraints.as_slice())?;
+    let mut found = known_arrays(alloc, model.arrays.as_slice())?;
+    add_constraint_constants(&mut found, model.constraints.as_slice())?;
     add_goal_constant(&mut found, model.goal)?;
     Ok(found)
 }
 
-/// Those of the constraints.
-fn constraint_constants(alloc: Global, constraints: &[Constraint]) -> Result<Constants, AllocError>
-    ensures { IfOk result (λ numbers. numbers ≡ fold add_once [] (flat_map constants_in constraints.now)) }
+/// No numbers, and these arrays.
+fn known_arrays(alloc: Global, arrays: &[SharedList<Term>]) -> Result<Constants, AllocError>
+    ensures { IfOk result (λ found. found ≡ record { numbers = []; arrays = arrays.now }) }
 {
     let mut found = Constants::new(alloc);
-    for constraint in constraints {
-        add_constants(&mut found, constraint)?;
+    for terms in arrays {
+        found.add_array(terms.share(alloc)?)?;
     }
     Ok(found)
 }
 
+/// Adds the numbers of the constraints.
+fn add_constraint_constants(
+    found: &mut Constants,
+    constraints: &[Constraint],
+) -> Result<(), AllocError>
+    requires { All (λ c. All (HasNumber found.old.arrays) c.operands) constraints.now }
+    ensures added { OnOk result (found.new.numbers ≡ fold add_once found.old.numbers (flat_map constants_in constraints.now)) }
+    ensures arrays { found.new.arrays ≡ found.old.arrays }
+{
+    for constraint in constraints {
+        add_constants(found, constraint)?;
+    }
+    Ok(())
+}
+
 /// Adds that of the objective.
 fn add_goal_constant(found: &mut Constants, goal: Goal) -> Result<(), AllocError>
-    ensures { OnOk result (found.new ≡ fold add_once found.old (goal_constants goal)) }
+    ensures added { OnOk result (found.new.numbers ≡ fold add_once found.old.numbers (goal_constants goal)) }
+    ensures arrays { found.new.arrays ≡ found.old.arrays }
 {
     match goal {
         Goal::Satisfy => Ok(()),

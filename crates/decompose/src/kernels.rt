@@ -1,6 +1,7 @@
 //! The kernels of constraints.
 
 ghost use Rattle.std.specs.Prelude.{◌≡◌, ◌++◌, flat_map, All, IfOk, OnOk};
+ghost use Rattle.constraint_model.specs.Arrays.{HasNumber};
 ghost use Rattle.decompose.specs.Kernels.{kernels_on};
 ghost use Rattle.decompose.specs.Places.{HasDeclared};
 
@@ -25,8 +26,9 @@ fn add_kernels(
     constraint: &Constraint,
     kernels: &mut ListOf<Kernel>,
 ) -> Result<(), AllocError>
-    requires { All (HasDeclared places.now.count) constraint.now.operands }
-    ensures { OnOk result (kernels.new ≡ kernels.old ++ kernels_on places.now constraint.now) }
+    requires declared { All (HasDeclared places.now.numbering.count) constraint.now.operands }
+    requires numbered { All (HasNumber places.now.arrays) constraint.now.operands }
+    ensures { OnOk result (kernels.new ≡ kernels.old ++ kernels_on places.now.numbering constraint.now) }
 {
     let operands = constraint.operands.as_slice();
     match constraint.name {
@@ -93,8 +95,9 @@ pub(crate) fn kernels_of(
     places: &Places,
     constraints: &[Constraint],
 ) -> Result<ListOf<Kernel>, AllocError>
-    requires { All (λ c. All (HasDeclared places.now.count) c.operands) constraints.now }
-    ensures { IfOk result (λ kernels. kernels ≡ flat_map (kernels_on places.now) constraints.now) }
+    requires declared { All (λ c. All (HasDeclared places.now.numbering.count) c.operands) constraints.now }
+    requires numbered { All (λ c. All (HasNumber places.now.arrays) c.operands) constraints.now }
+    ensures { IfOk result (λ kernels. kernels ≡ flat_map (kernels_on places.now.numbering) constraints.now) }
 {
     let mut kernels = ListOf::new(alloc);
     for constraint in constraints {

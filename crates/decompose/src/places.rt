@@ -1,17 +1,18 @@
 //! The variables and literals of a program.
 
-ghost use Rattle.std.specs.Prelude.{◌≡◌, ◌≤◌, ◌++◌, map, length, All, IfOk, OnOk};
+ghost use Rattle.std.specs.Prelude.{◌≡◌, ◌≤◌, ◌++◌, map, length, slice_get, Some, All, IfOk, OnOk};
 ghost use Rattle.std.specs.List.{position_or_len};
 ghost use Rattle.std.specs.Ordering.{int_eq};
+ghost use Rattle.constraint_model.specs.Arrays.{IsNumbered, HasNumber};
 ghost use Rattle.constraint_model.specs.Limits.{most_constants};
 ghost use Rattle.decompose.specs.Kernels.{variable_of, variables_of, number_of};
 ghost use Rattle.decompose.specs.Mapped.{IsMapped};
-ghost use Rattle.decompose.specs.Places.{AreFew, IsDeclared, HasDeclared};
+ghost use Rattle.decompose.specs.Places.{AreFew, IsDeclared, HasDeclared, placing_of};
 ghost use Rattle.decompose.specs.Rows.{literal_at};
 
 use crate::coefficients::numbers;
 use crate::mapped_lists::{MappedList, MappedLists, NO_MARK};
-use constraint_model::{Constants, Constraint, Operand, Term};
+use constraint_model::{ArrayTerms, Constants, Constraint, Operand, Term};
 use guarded_tell::Lit;
 use shared_list::SharedList;
 use std::alloc::{AllocError, Global};
@@ -30,33 +31,33 @@ pub(crate) const NEVER: Lit = Lit {
 };
 
 /// For what the variables of a program stand: the constant 1, the declared variables, the other constants. There are so
-/// few of them that each has a number. Beside them stands what the propagators that name the same long list share; contracts
-/// don't see it.
+/// few of them that each has a number. Beside them stand the declared arrays, and what the propagators that name the same long
+/// one share; contracts don't see the latter.
 #[derive(Drop)]
 pub(crate) struct Places {
     /// How many variables are declared.
     count: u32,
-    /// The constants other than 1, in the order of their variables.
+    /// The constants other than 1, in the order of their variables, and the declared arrays.
     constants: Constants,
-    /// The variables and the numbers of long lists of terms.
+    /// The variables and the numbers of long arrays.
     lists: MappedLists,
 }
 
 impl Model for Places {
     ghost use Rattle.decompose.specs.Mapped.{ArePlaces};
-    ghost use Rattle.decompose.specs.Places.{Numbering};
+    ghost use Rattle.decompose.specs.Places.{Placing, placing_of};
 
-    ghost Value = { Numbering };
+    ghost Value = { Placing };
 
-    ghost view = { λ p. record { count = p.count; constants = p.constants } };
+    ghost view = { λ p. placing_of p.count p.constants };
 
-    ghost invariant = { λ p. ArePlaces (record { count = p.count; constants = p.constants }) p.lists.entries.items };
+    ghost invariant = { λ p. ArePlaces (placing_of p.count p.constants) p.lists.entries.items };
 }
 
 /// The place of a constant.
 fn place(number: i64, constants: &Constants) -> u32
-    requires { length constants.now ≤ most_constants }
-    ensures value { result ≡ position_or_len (int_eq number) constants.now }
+    requires { length constants.now.numbers ≤ most_constants }
+    ensures value { result ≡ position_or_len (int_eq number) constants.now.numbers }
     ensures small { result ≤ most_constants }
 {
     constants.place_of(number) as u32
@@ -65,8 +66,8 @@ fn place(number: i64, constants: &Constants) -> u32
 impl Places {
     /// The places of so many declared variables and of these other constants, with no lists.
     pub(crate) fn new(alloc: Global, count: u32, constants: Constants) -> Self
-        requires { AreFew (record { count = count; constants = constants }) }
-        ensures { result ≡ record { count = count; constants = constants } }
+        requires { AreFew (placing_of count constants).numbering }
+        ensures { result ≡ placing_of count constants }
     {
         Places {
             count,
@@ -77,7 +78,7 @@ impl Places {
 
     /// The variable of a number.
     fn constant_variable(&self, number: i64) -> u32
-        ensures { result ≡ variable_of self.now (Term.Number number) }
+        ensures { result ≡ variable_of self.now.numbering (Term.Number number) }
     {
         if number == 1 {
             0
@@ -88,8 +89,8 @@ impl Places {
 
     /// The variable of a term.
     pub(crate) fn variable(&self, term: Term) -> u32
-        requires { IsDeclared self.now.count term }
-        ensures { result ≡ variable_of self.now term }
+        requires { IsDeclared self.now.numbering.count term }
+        ensures { result ≡ variable_of self.now.numbering term }
     {
         match term {
             Term::Number(number) => self.constant_variable(number),
@@ -103,8 +104,8 @@ impl Places {
 
     /// Adds the variables of terms.
     fn add_variables(&self, terms: &[Term], variables: &mut Vec<u32>) -> Result<(), AllocError>
-        requires { All (IsDeclared self.now.count) terms.now }
-        ensures { OnOk result (variables.new.items ≡ variables.old.items ++ variables_of self.now terms.now) }
+        requires { All (IsDeclared self.now.numbering.count) terms.now }
+        ensures { OnOk result (variables.new.items ≡ variables.old.items ++ variables_of self.now.numbering terms.now) }
     {
         for term in terms {
             variables.push(self.variable(*term))?;
@@ -119,8 +120,8 @@ impl Places {
         terms: &[Term],
         mark: usize,
     ) -> Result<SharedList<u32>, AllocError>
-        requires { All (IsDeclared self.now.count) terms.now }
-        ensures { IfOk result (λ variables. variables ≡ variables_of self.now terms.now) }
+        requires { All (IsDeclared self.now.numbering.count) terms.now }
+        ensures { IfOk result (λ variables. variables ≡ variables_of self.now.numbering terms.now) }
     {
         let mut variables = Vec::with_capacity(alloc, terms.len())?;
         self.add_variables(terms, &mut variables)?;
@@ -133,24 +134,25 @@ impl Places {
         alloc: Global,
         terms: &[Term],
     ) -> Result<SharedList<u32>, AllocError>
-        requires { All (IsDeclared self.now.count) terms.now }
-        ensures { IfOk result (λ variables. variables ≡ variables_of self.now terms.now) }
+        requires { All (IsDeclared self.now.numbering.count) terms.now }
+        ensures { IfOk result (λ variables. variables ≡ variables_of self.now.numbering terms.now) }
     {
         self.marked_variables(alloc, terms, NO_MARK)
     }
 
-    /// The variables of the entries of an array, in a list that those who name the same long array share.
+    /// The variables of the entries of an array, in a list that those who name the same long declared array share.
     pub(crate) fn variables_of_row(
         &self,
         alloc: Global,
-        terms: &SharedList<Term>,
+        row: &ArrayTerms,
     ) -> Result<SharedList<u32>, AllocError>
-        requires { All (IsDeclared self.now.count) terms.now }
-        ensures { IfOk result (λ variables. variables ≡ variables_of self.now terms.now) }
+        requires declared { All (IsDeclared self.now.numbering.count) row.now.terms }
+        requires numbered { IsNumbered self.now.arrays row.now }
+        ensures { IfOk result (λ variables. variables ≡ variables_of self.now.numbering row.now.terms) }
     {
-        match self.lists.find(terms) {
+        match self.lists.find(row) {
             Some(list) => list.variables.share(alloc),
-            None => self.variables(alloc, terms.as_slice()),
+            None => self.variables(alloc, row.terms.as_slice()),
         }
     }
 
@@ -158,63 +160,65 @@ impl Places {
     pub(crate) fn numbers_of_row(
         &self,
         alloc: Global,
-        terms: &SharedList<Term>,
+        row: &ArrayTerms,
     ) -> Result<SharedList<i64>, AllocError>
-        ensures { IfOk result (λ numbers. numbers ≡ map number_of terms.now) }
+        requires { IsNumbered self.now.arrays row.now }
+        ensures { IfOk result (λ numbers. numbers ≡ map number_of row.now.terms) }
     {
-        match self.lists.find(terms) {
+        match self.lists.find(row) {
             Some(list) => list.numbers.share(alloc),
-            None => numbers(alloc, terms.as_slice(), NO_MARK),
+            None => numbers(alloc, row.terms.as_slice(), NO_MARK),
         }
     }
 
-    /// What stands for the entries of an array.
-    fn mapped(&self, alloc: Global, terms: &SharedList<Term>) -> Result<MappedList, AllocError>
-        requires { All (IsDeclared self.now.count) terms.now }
+    /// What stands for the declared array of this number, which has these terms.
+    fn mapped(&self, alloc: Global, number: usize, terms: &[Term]) -> Result<MappedList, AllocError>
+        requires declared { All (IsDeclared self.now.numbering.count) terms.now }
+        requires numbered { slice_get self.now.arrays number ≡ Some terms.now }
         ensures { IfOk result (λ list. IsMapped self.now list) }
     {
         let mark = self.lists.next_mark();
         Ok(MappedList {
-            terms: terms.share(alloc)?,
-            variables: self.marked_variables(alloc, terms.as_slice(), mark)?,
-            numbers: numbers(alloc, terms.as_slice(), mark)?,
+            number,
+            variables: self.marked_variables(alloc, terms, mark)?,
+            numbers: numbers(alloc, terms, mark)?,
         })
     }
 
-    /// Adds what stands for an array of this mark, unless the mark has something. Contracts see the same places.
-    fn add_row(
-        &mut self,
-        alloc: Global,
-        mark: usize,
-        terms: &SharedList<Term>,
-    ) -> Result<(), AllocError>
-        requires { All (IsDeclared self.old.count) terms.now }
+    /// Adds what stands for such an array, unless it has something. Contracts see the same places.
+    fn add_row(&mut self, alloc: Global, number: usize, terms: &[Term]) -> Result<(), AllocError>
+        requires declared { All (IsDeclared self.old.numbering.count) terms.now }
+        requires numbered { slice_get self.old.arrays number ≡ Some terms.now }
         ensures { self.new ≡ self.old }
     {
-        if self.lists.has_mark(mark) {
+        if self.lists.has_number(number) {
             return Ok(());
         }
-        let list = self.mapped(alloc, terms)?;
-        self.lists.add(mark, list)
+        let list = self.mapped(alloc, number, terms)?;
+        self.lists.add(list)
     }
 
-    /// Adds what stands for an argument that is a long array and has other owners.
+    /// Adds what stands for an argument that is a long declared array and has other owners.
     fn add_operand(&mut self, alloc: Global, operand: &Operand) -> Result<(), AllocError>
-        requires { HasDeclared self.old.count operand.now }
+        requires declared { HasDeclared self.old.numbering.count operand.now }
+        requires numbered { HasNumber self.old.arrays operand.now }
         ensures { self.new ≡ self.old }
     {
-        let Operand::Row(terms) = operand else {
+        let Operand::Row(row) = operand else {
             return Ok(());
         };
-        match terms.mark_if_shared() {
-            Some(mark) => self.add_row(alloc, mark, terms),
-            None => Ok(()),
+        match row.number {
+            Some(number) if row.terms.mark_if_shared().is_some() => {
+                self.add_row(alloc, number, row.terms.as_slice())
+            }
+            _ => Ok(()),
         }
     }
 
     /// Adds what stands for such arguments.
     fn add_operands(&mut self, alloc: Global, operands: &[Operand]) -> Result<(), AllocError>
-        requires { All (HasDeclared self.old.count) operands.now }
+        requires declared { All (HasDeclared self.old.numbering.count) operands.now }
+        requires numbered { All (HasNumber self.old.arrays) operands.now }
         ensures { self.new ≡ self.old }
     {
         for operand in operands {
@@ -223,14 +227,15 @@ impl Places {
         Ok(())
     }
 
-    /// The same places, with what stands for the long arrays that the constraints share, so that the propagators which name
+    /// The same places, with what stands for the long declared arrays, so that the propagators which name
     /// one have its lists together.
     pub(crate) fn with_lists(
         self,
         alloc: Global,
         constraints: &[Constraint],
     ) -> Result<Places, AllocError>
-        requires { All (λ c. All (HasDeclared self.count) c.operands) constraints.now }
+        requires declared { All (λ c. All (HasDeclared self.numbering.count) c.operands) constraints.now }
+        requires numbered { All (λ c. All (HasNumber self.arrays) c.operands) constraints.now }
         ensures { IfOk result (λ places. places ≡ self) }
     {
         let mut places = self;
@@ -242,8 +247,8 @@ impl Places {
 
     /// The literal that is true where the boolean is, or where it isn't.
     pub(crate) fn literal(&self, positive: bool, boolean: Term) -> Lit
-        requires { IsDeclared self.now.count boolean }
-        ensures { result ≡ literal_at self.now positive boolean }
+        requires { IsDeclared self.now.numbering.count boolean }
+        ensures { result ≡ literal_at self.now.numbering positive boolean }
     {
         Lit {
             var: self.variable(boolean),
@@ -258,8 +263,8 @@ impl Places {
         booleans: &[Term],
         literals: &mut Vec<Lit>,
     ) -> Result<(), AllocError>
-        requires { All (IsDeclared self.now.count) booleans.now }
-        ensures { OnOk result (literals.new.items ≡ literals.old.items ++ map (literal_at self.now positive) booleans.now) }
+        requires { All (IsDeclared self.now.numbering.count) booleans.now }
+        ensures { OnOk result (literals.new.items ≡ literals.old.items ++ map (literal_at self.now.numbering positive) booleans.now) }
     {
         for boolean in booleans {
             literals.push(self.literal(positive, *boolean))?;

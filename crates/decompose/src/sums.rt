@@ -1,6 +1,7 @@
 //! The kernels of sums.
 
 ghost use Rattle.std.specs.Prelude.{◌≡◌, ◌++◌, All, OnOk};
+ghost use Rattle.constraint_model.specs.Arrays.{IsNumbered, HasNumber};
 ghost use Rattle.constraint_model.specs.declared.table.ConstraintName.{ConstraintName};
 ghost use Rattle.decompose.specs.Kernels.{on_sum, on_reified_sum, row_of};
 ghost use Rattle.decompose.specs.Places.{IsDeclared, HasDeclared};
@@ -8,7 +9,7 @@ ghost use Rattle.decompose.specs.Rows.{literal_at, sum_kernel, linear_kernel};
 
 use crate::coefficients::number;
 use crate::places::{ALWAYS, Places};
-use constraint_model::{Operand, Term};
+use constraint_model::{ArrayTerms, Operand, Term};
 use guarded_tell::{Extended, Kernel, Lit};
 use list_of::ListOf;
 use shared_list::SharedList;
@@ -71,8 +72,8 @@ pub(crate) fn add_sum(
     terms: &[Term],
     kernels: &mut ListOf<Kernel>,
 ) -> Result<(), AllocError>
-    requires { All (IsDeclared places.now.count) terms.now }
-    ensures { OnOk result (kernels.new ≡ kernels.old ++ sum_kernel comparison.relation places.now lit comparison.coeffs terms.now comparison.limit) }
+    requires { All (IsDeclared places.now.numbering.count) terms.now }
+    ensures { OnOk result (kernels.new ≡ kernels.old ++ sum_kernel comparison.relation places.now.numbering lit comparison.coeffs terms.now comparison.limit) }
 {
     let vars = places.variables(alloc, terms)?;
     kernels.push(comparison.to_kernel(lit, vars))?;
@@ -86,13 +87,14 @@ fn add_sum_of_row(
     places: &Places,
     lit: Lit,
     comparison: LinearComparison,
-    terms: &SharedList<Term>,
+    row: &ArrayTerms,
     kernels: &mut ListOf<Kernel>,
 ) -> Result<(), AllocError>
-    requires { All (IsDeclared places.now.count) terms.now }
-    ensures { OnOk result (kernels.new ≡ kernels.old ++ sum_kernel comparison.relation places.now lit comparison.coeffs terms.now comparison.limit) }
+    requires declared { All (IsDeclared places.now.numbering.count) row.now.terms }
+    requires numbered { IsNumbered places.now.arrays row.now }
+    ensures { OnOk result (kernels.new ≡ kernels.old ++ sum_kernel comparison.relation places.now.numbering lit comparison.coeffs row.now.terms comparison.limit) }
 {
-    let vars = places.variables_of_row(alloc, terms)?;
+    let vars = places.variables_of_row(alloc, row)?;
     kernels.push(comparison.to_kernel(lit, vars))?;
     Ok(())
 }
@@ -106,8 +108,9 @@ pub(crate) fn sum(
     operands: &[Operand],
     kernels: &mut ListOf<Kernel>,
 ) -> Result<(), AllocError>
-    requires { All (HasDeclared places.now.count) operands.now }
-    ensures { OnOk result (kernels.new ≡ kernels.old ++ on_sum (λ cs xs c. sum_kernel relation places.now lit cs xs c) operands.now) }
+    requires declared { All (HasDeclared places.now.numbering.count) operands.now }
+    requires numbered { All (HasNumber places.now.arrays) operands.now }
+    ensures { OnOk result (kernels.new ≡ kernels.old ++ on_sum (λ cs xs c. sum_kernel relation places.now.numbering lit cs xs c) operands.now) }
 {
     match operands {
         [
@@ -135,8 +138,9 @@ pub(crate) fn sum_reified(
     operands: &[Operand],
     kernels: &mut ListOf<Kernel>,
 ) -> Result<(), AllocError>
-    requires { All (HasDeclared places.now.count) operands.now }
-    ensures { OnOk result (kernels.new ≡ kernels.old ++ on_reified_sum (λ cs xs c r. sum_kernel relation places.now (literal_at places.now positive r) cs xs c) operands.now) }
+    requires declared { All (HasDeclared places.now.numbering.count) operands.now }
+    requires numbered { All (HasNumber places.now.arrays) operands.now }
+    ensures { OnOk result (kernels.new ≡ kernels.old ++ on_reified_sum (λ cs xs c r. sum_kernel relation places.now.numbering (literal_at places.now.numbering positive r) cs xs c) operands.now) }
 {
     match operands {
         [
@@ -165,8 +169,8 @@ pub(crate) fn plus(
     operands: &[Operand],
     kernels: &mut ListOf<Kernel>,
 ) -> Result<(), AllocError>
-    requires { All (HasDeclared places.now.count) operands.now }
-    ensures { OnOk result (kernels.new ≡ kernels.old ++ row_of places.now ConstraintName.IntPlus operands.now) }
+    requires { All (HasDeclared places.now.numbering.count) operands.now }
+    ensures { OnOk result (kernels.new ≡ kernels.old ++ row_of places.now.numbering ConstraintName.IntPlus operands.now) }
 {
     match operands {
         [Operand::One(x), Operand::One(y), Operand::One(z)] => {
@@ -189,8 +193,9 @@ pub(crate) fn sum_equal(
     operands: &[Operand],
     kernels: &mut ListOf<Kernel>,
 ) -> Result<(), AllocError>
-    requires { All (HasDeclared places.now.count) operands.now }
-    ensures { OnOk result (kernels.new ≡ kernels.old ++ row_of places.now ConstraintName.BoolLinEq operands.now) }
+    requires declared { All (HasDeclared places.now.numbering.count) operands.now }
+    requires numbered { All (HasNumber places.now.arrays) operands.now }
+    ensures { OnOk result (kernels.new ≡ kernels.old ++ row_of places.now.numbering ConstraintName.BoolLinEq operands.now) }
 {
     match operands {
         [

@@ -1,6 +1,7 @@
 //! The kernels of products, quotients, remainders, absolute values, extremes, entries and sets.
 
 ghost use Rattle.std.specs.Prelude.{◌≡◌, ◌++◌, [], ◌∷◌, All, OnOk};
+ghost use Rattle.constraint_model.specs.Arrays.{HasNumber};
 ghost use Rattle.constraint_model.specs.declared.table.ConstraintName.{ConstraintName};
 ghost use Rattle.decompose.specs.Kernels.{row_of, on_three, on_one_of_row, on_entry, variable_of, variables_of};
 ghost use Rattle.decompose.specs.Places.{IsDeclared, HasDeclared};
@@ -51,8 +52,8 @@ pub(crate) fn operation_of_two(
     operands: &[Operand],
     kernels: &mut ListOf<Kernel>,
 ) -> Result<(), AllocError>
-    requires { All (HasDeclared places.now.count) operands.now }
-    ensures { OnOk result (kernels.new ≡ kernels.old ++ on_three (λ x y z. operation_kernel operation places.now x y z) operands.now) }
+    requires { All (HasDeclared places.now.numbering.count) operands.now }
+    ensures { OnOk result (kernels.new ≡ kernels.old ++ on_three (λ x y z. operation_kernel operation places.now.numbering x y z) operands.now) }
 {
     match operands {
         [Operand::One(x), Operand::One(y), Operand::One(z)] => {
@@ -75,8 +76,8 @@ pub(crate) fn absolute(
     operands: &[Operand],
     kernels: &mut ListOf<Kernel>,
 ) -> Result<(), AllocError>
-    requires { All (HasDeclared places.now.count) operands.now }
-    ensures { OnOk result (kernels.new ≡ kernels.old ++ row_of places.now ConstraintName.IntAbs operands.now) }
+    requires { All (HasDeclared places.now.numbering.count) operands.now }
+    ensures { OnOk result (kernels.new ≡ kernels.old ++ row_of places.now.numbering ConstraintName.IntAbs operands.now) }
 {
     match operands {
         [Operand::One(x), Operand::One(y)] => {
@@ -110,9 +111,9 @@ fn add_extreme(
     terms: &[Term],
     kernels: &mut ListOf<Kernel>,
 ) -> Result<(), AllocError>
-    requires declared_extreme { IsDeclared places.now.count extreme_term }
-    requires declared { All (IsDeclared places.now.count) terms.now }
-    ensures { OnOk result (kernels.new ≡ kernels.old ++ extreme_kernel extreme places.now extreme_term terms.now) }
+    requires declared_extreme { IsDeclared places.now.numbering.count extreme_term }
+    requires declared { All (IsDeclared places.now.numbering.count) terms.now }
+    ensures { OnOk result (kernels.new ≡ kernels.old ++ extreme_kernel extreme places.now.numbering extreme_term terms.now) }
 {
     let xs = places.variables(alloc, terms)?;
     kernels.push(extreme_on(extreme, places.variable(extreme_term), xs))?;
@@ -127,8 +128,8 @@ pub(crate) fn extreme_of_two(
     operands: &[Operand],
     kernels: &mut ListOf<Kernel>,
 ) -> Result<(), AllocError>
-    requires { All (HasDeclared places.now.count) operands.now }
-    ensures { OnOk result (kernels.new ≡ kernels.old ++ on_three (λ x y m. extreme_kernel extreme places.now m (x ∷ y ∷ [])) operands.now) }
+    requires { All (HasDeclared places.now.numbering.count) operands.now }
+    ensures { OnOk result (kernels.new ≡ kernels.old ++ on_three (λ x y m. extreme_kernel extreme places.now.numbering m (x ∷ y ∷ [])) operands.now) }
 {
     match operands {
         [Operand::One(x), Operand::One(y), Operand::One(m)] => {
@@ -147,8 +148,9 @@ pub(crate) fn extreme_of_row(
     operands: &[Operand],
     kernels: &mut ListOf<Kernel>,
 ) -> Result<(), AllocError>
-    requires { All (HasDeclared places.now.count) operands.now }
-    ensures { OnOk result (kernels.new ≡ kernels.old ++ on_one_of_row (λ m xs. extreme_kernel extreme places.now m xs) operands.now) }
+    requires declared { All (HasDeclared places.now.numbering.count) operands.now }
+    requires numbered { All (HasNumber places.now.arrays) operands.now }
+    ensures { OnOk result (kernels.new ≡ kernels.old ++ on_one_of_row (λ m xs. extreme_kernel extreme places.now.numbering m xs) operands.now) }
 {
     match operands {
         [Operand::One(m), Operand::Row(terms)] => {
@@ -167,8 +169,9 @@ pub(crate) fn element(
     operands: &[Operand],
     kernels: &mut ListOf<Kernel>,
 ) -> Result<(), AllocError>
-    requires { All (HasDeclared places.now.count) operands.now }
-    ensures { OnOk result (kernels.new ≡ kernels.old ++ on_entry (λ x xs c. Kernel.Element (variable_of places.now x) (variables_of places.now xs) (variable_of places.now c) ∷ []) operands.now) }
+    requires declared { All (HasDeclared places.now.numbering.count) operands.now }
+    requires numbered { All (HasNumber places.now.arrays) operands.now }
+    ensures { OnOk result (kernels.new ≡ kernels.old ++ on_entry (λ x xs c. Kernel.Element (variable_of places.now.numbering x) (variables_of places.now.numbering xs) (variable_of places.now.numbering c) ∷ []) operands.now) }
 {
     match operands {
         [
@@ -196,8 +199,8 @@ pub(crate) fn member(
     operands: &[Operand],
     kernels: &mut ListOf<Kernel>,
 ) -> Result<(), AllocError>
-    requires { All (HasDeclared places.now.count) operands.now }
-    ensures { OnOk result (kernels.new ≡ kernels.old ++ row_of places.now ConstraintName.SetIn operands.now) }
+    requires { All (HasDeclared places.now.numbering.count) operands.now }
+    ensures { OnOk result (kernels.new ≡ kernels.old ++ row_of places.now.numbering ConstraintName.SetIn operands.now) }
 {
     match operands {
         [Operand::One(x), Operand::Set(ranges)] => {
@@ -220,8 +223,8 @@ pub(crate) fn member_reified(
     operands: &[Operand],
     kernels: &mut ListOf<Kernel>,
 ) -> Result<(), AllocError>
-    requires { All (HasDeclared places.now.count) operands.now }
-    ensures { OnOk result (kernels.new ≡ kernels.old ++ row_of places.now ConstraintName.SetInReif operands.now) }
+    requires { All (HasDeclared places.now.numbering.count) operands.now }
+    ensures { OnOk result (kernels.new ≡ kernels.old ++ row_of places.now.numbering ConstraintName.SetInReif operands.now) }
 {
     match operands {
         [Operand::One(x), Operand::Set(ranges), Operand::One(r)] => {

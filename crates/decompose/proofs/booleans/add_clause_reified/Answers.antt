@@ -7,7 +7,7 @@ use Rattle.decompose.proofs.booleans.add_clause_reified.Goals as goal
 
 pub returns : goal.returns
 returns c =
-    let n = c.args.places.now in
+    let n = c.args.places.now.numbering in
     let rest = clause_literals n c.args.positives.now c.args.negatives.now in
     subst (λ (l : Lit). c.push-2.new.self ≡ c.args.kernels.now ++ some_of l rest) c.literal-lit.ensures
     (joined_both_after c.literal-lit.result (literal_at n true) (literal_at n false) c.args.positives.now c.args.negatives.now

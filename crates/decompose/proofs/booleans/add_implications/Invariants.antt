@@ -6,4 +6,4 @@ use Rattle.decompose.proofs.booleans.add_implications.Given as goal
 
 -- the clauses of the booleans so far stand behind the kernels that stood before
 abbrev pub invariant-loop-boolean : goal.invariant-loop-boolean
-invariant-loop-boolean l = l.kernels ≡ l.fn.kernels ++ map (λ t. Kernel.Clause (l.lit ∷ negated (literal_at l.places l.positive t) ∷ [])) (take l.boolean-index l.booleans)
+invariant-loop-boolean l = l.kernels ≡ l.fn.kernels ++ map (λ t. Kernel.Clause (l.lit ∷ negated (literal_at l.places.numbering l.positive t) ∷ [])) (take l.boolean-index l.booleans)

@@ -7,7 +7,7 @@ use Rattle.decompose.proofs.booleans.add_joined.Goals as goal
 
 pub returns : goal.returns
 returns c =
-    let f = literal_at c.args.places.now c.args.positive in
+    let f = literal_at c.args.places.now.numbering c.args.positive in
     subst (λ (l : Lit). c.push-2.new.self ≡ c.args.kernels.now ++ some_of l (map f c.args.booleans.now)) c.literal-lit.ensures
     (joined_after c.literal-lit.result f c.args.booleans.now c.args.kernels.now c.add_implications.new.kernels c.push-2.new.self c.from_list.result
     c.in_ok-add_implications.ensures

@@ -6,4 +6,4 @@ use Rattle.decompose.proofs.places.place.Goals as goal
 
 pub returns-clause-value : goal.returns-clause-value
 returns-clause-value c =
-    c.place_of.ensures.place ∙ ap (λ (y : ℤ). position_or_len (int_eq y) c.args.constants.now) (to_z-of_z w64 c.args.number c.ranges.number)
+    c.place_of.ensures.place ∙ ap (λ (y : ℤ). position_or_len (int_eq y) c.args.constants.now.numbers) (to_z-of_z w64 c.args.number c.ranges.number)

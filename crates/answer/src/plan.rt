@@ -10,7 +10,7 @@ use crate::options::Options;
 use interval::{BoxOf, NoMemory, law_inside_order};
 use search::Run;
 use std::alloc::Global;
-use subproblem_walk::Walk;
+use subproblem_walk::{Tree, Walk};
 
 /// What is searched, and from where.
 #[derive(Drop)]
@@ -38,15 +38,14 @@ pub(crate) fn subproblem<L>(
     ensures walk { IsWalkFrom (model_of plan.now) (kernels_in plan.now) plan.now.start.now walk.new }
 {
     law_inside_order();
-    let found = walk.path_box(
-        alloc,
-        plan.run.model,
-        plan.run.program,
-        plan.run.masks,
-        plan.start,
-        plan.options.depth,
-        number,
-    )?;
+    let tree = Tree {
+        model: plan.run.model,
+        program: plan.run.program,
+        masks: plan.run.masks,
+        start: plan.start,
+        depth: plan.options.depth,
+    };
+    let found = walk.path_box(alloc, &tree, number)?;
     Ok(found)
 }
 

@@ -9,7 +9,7 @@ use interval::{BoxOf, NoMemory};
 use std::alloc::{AllocError, Global};
 use std::process::Abort;
 use std::test::Fail;
-use subproblem_walk::Walk;
+use subproblem_walk::{Tree, Walk};
 use subproblems::{expand, path_box};
 
 const FOUR: &str = "var 0..3: x; solve satisfy;";
@@ -86,7 +86,14 @@ fn asked(
         program,
         masks,
     } = cut;
-    let walked = walk.path_box(alloc, model, program, masks, &program.start, depth, number)?;
+    let tree = Tree {
+        model,
+        program,
+        masks,
+        start: &program.start,
+        depth,
+    };
+    let walked = walk.path_box(alloc, &tree, number)?;
     let alone = path_box(alloc, model, program, &program.start, depth, number)?;
     Ok([bounds_in(&walked), bounds_in(&alone)])
 }

@@ -1,9 +1,9 @@
 -- How boxes on a way are cut.
-use Rattle.std.proofs.Common.{◌≡◌, ℕ, ℤ, true, false, ◌<◌, ◌∷◌, List, length, replicate, refl, sym, subst, ap, ◌∙◌, arith, Result, Ok, Err, IfOk, Option, None, Some}
+use Rattle.std.proofs.Common.{◌≡◌, ℕ, true, false, ◌<◌, List, length, replicate, refl, sym, subst, ap, ◌∙◌, arith}
 use Rattle.std.specs.Prelude.{slice_set}
 use Rattle.std.specs.List.{All}
 use Rattle.std.proofs.lemmas.List.{get_or-replicate, length-set}
-use Rattle.interval.specs.Boxes.{Bounds, put_of, low_of, high_of}
+use Rattle.interval.specs.Boxes.{Bounds, put_of}
 use Rattle.guarded_tell.specs.declared.kernel.Kernel.{Kernel}
 use Rattle.guarded_tell.specs.Kernels.{IsKernel}
 use Rattle.fixpoint_laws.specs.Fixpoints.{IsGreatest, Fails}
@@ -16,7 +16,7 @@ use Rattle.moved_set.specs.Sets.{IsIn}
 use Rattle.moved_fixpoint.specs.Moved.{Set, count_of, AreMovedOrQuiet, QuietUnlessMoved}
 use Rattle.moved_fixpoint.specs.Ends.{HasEnded, AreSpent}
 use Rattle.subproblem_walk.specs.declared.cutter.Node.{Node}
-use Rattle.subproblem_walk.specs.Nodes.{IsMadeAt, IsNodeOf, IsKeptOrParted, IsPartedAt}
+use Rattle.subproblem_walk.specs.Nodes.{IsMadeAt, IsNodeOf, IsKeptOrParted}
 
 -- a variable of a closed box is noted
 pub one_noted : QuietUnlessMoved → (old new : Set) (pair : ℕ) → new ≡ slice_set old pair true → pair < count_of old →

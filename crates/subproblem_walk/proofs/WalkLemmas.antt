@@ -1,5 +1,5 @@
 -- What a walk knows.
-use Rattle.std.proofs.Common.{◌≡◌, ℕ, suc, ◌<◌, ◌≤◌, ◌^◌, Option, Bool, true, false, List, [], ◌∷◌, ◌++◌, sym, ap, subst, ◌∙◌, ◌⊎◌, inl, inr}
+use Rattle.std.proofs.Common.{◌≡◌, ℕ, suc, ◌^◌, Option, Bool, true, false, List, [], ◌∷◌, ◌++◌, sym, ap, subst, ◌∙◌, ◌⊎◌, inl, inr}
 use Rattle.std.proofs.lemmas.List.{same_from_push}
 use Rattle.interval.specs.Boxes.{Bounds}
 use Rattle.guarded_tell.specs.declared.kernel.Kernel.{Kernel}
@@ -10,7 +10,7 @@ use Rattle.subproblem_walk.specs.declared.walk.Level.{Level}
 use Rattle.subproblems.specs.Cuts.{IsCutInto}
 use Rattle.subproblems.specs.Paths.{IsBelow, LeadsTo}
 use Rattle.subproblem_walk.specs.declared.cutter.Node.{Node}
-use Rattle.subproblem_walk.specs.Nodes.{cut_of, IsMadeAt, IsNodeOf}
+use Rattle.subproblem_walk.specs.Nodes.{cut_of, IsNodeOf}
 use Rattle.subproblem_walk.specs.Walks.{GoesOn, IsTurn, IsWayTo, side_of, AreLevelsBelow, nothing, level, IsTop}
 
 -- what a number leads to, by what the box is cut into

@@ -12,13 +12,12 @@ ghost use Rattle.subproblems.specs.Cuts.{CanBeCut};
 ghost use Rattle.subproblem_walk.specs.declared.cutter.Node.{Node};
 ghost use Rattle.subproblem_walk.specs.Nodes.{IsMadeBy, IsNodeOf, IsKeptOrParted, IsBenchFor};
 
+use crate::tree::Tree;
 use branching::{Branching, Front, branch_from};
 use constraint_model::FznModel;
 use fixpoint_laws::Limited;
-use guarded_tell::Kernel;
 use interval::{BoxOf, NoMemory, is_crossed, law_inside_order};
 use moved_fixpoint::{MovedSets, law_quiet_unless_moved, settle_proper};
-use moved_set::Masks;
 use std::alloc::Global;
 use trailed_box::TrailedBox;
 
@@ -38,17 +37,6 @@ pub enum Node {
         /// The other part.
         right: BoxOf,
     },
-}
-
-/// The search tree whose boxes are cut.
-#[derive(Clone, Copy)]
-pub(crate) struct Tree<'a> {
-    /// The model by whose search closed boxes are parted.
-    pub(crate) model: &'a FznModel,
-    /// The kernels that close a box.
-    pub(crate) kernels: &'a [Kernel],
-    /// The masks of their variables.
-    pub(crate) masks: &'a Masks,
 }
 
 /// What propagation works with: the variables that moved.
@@ -134,11 +122,11 @@ pub(crate) fn cut_changed(
     changed: Option<u32>,
     bench: &mut Bench,
 ) -> Result<Node, NoMemory>
-    requires cut { CanBeCut tree.now.model.now tree.now.kernels.now b }
-    requires masks { AreMasksOf tree.now.kernels.now (length b) tree.now.masks.now }
-    requires changed { IsMadeBy changed tree.now.kernels.now b }
+    requires cut { CanBeCut tree.now.model.now tree.now.program.now.kernels b }
+    requires masks { AreMasksOf tree.now.program.now.kernels (length b) tree.now.masks.now }
+    requires changed { IsMadeBy changed tree.now.program.now.kernels b }
     requires bench { IsBenchFor bench.old (length b) }
-    ensures node { IfOk result (IsNodeOf tree.now.model.now tree.now.kernels.now b) }
+    ensures node { IfOk result (IsNodeOf tree.now.model.now tree.now.program.now.kernels b) }
     ensures bench { IsBenchFor bench.new (length b) }
 {
     law_inside_order();
@@ -147,7 +135,8 @@ pub(crate) fn cut_changed(
     }
     note(&mut bench.sets, changed);
     let mut settled = TrailedBox::new(alloc, b)?;
-    match settle_proper(&mut settled, tree.kernels, tree.masks, &mut bench.sets, 0)? {
+    let kernels = tree.program.kernels.as_slice();
+    match settle_proper(&mut settled, kernels, tree.masks, &mut bench.sets, 0)? {
         Limited::Fixed { .. } => {
             let node = keep_or_part(alloc, tree.model, settled.current())?;
             Ok(node)

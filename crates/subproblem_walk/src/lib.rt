@@ -2,6 +2,8 @@
 #![tactic(auto)]
 
 mod cutter;
+mod tree;
 mod walk;
 
+pub use tree::Tree;
 pub use walk::Walk;

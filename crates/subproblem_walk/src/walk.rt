@@ -12,12 +12,9 @@ ghost use Rattle.subproblems.specs.Paths.{LeadsTo};
 ghost use Rattle.subproblem_walk.specs.Nodes.{IsMadeBy, IsBenchFor};
 ghost use Rattle.subproblem_walk.specs.Walks.{side_of, IsTurn, AreLevelsBelow, IsTop, IsWalkFrom, IsWayTo};
 
-use crate::cutter::{Bench, Node, Tree, cut_changed};
-use constraint_model::FznModel;
-use decompose::Program;
-use guarded_tell::Kernel;
+use crate::cutter::{Bench, Node, cut_changed};
+use crate::tree::Tree;
 use interval::{BoxOf, NoMemory};
-use moved_set::Masks;
 use std::alloc::{AllocError, Global};
 use subproblems::{law_cuts, law_paths};
 
@@ -61,12 +58,12 @@ fn top_level(
     bench: &mut Bench,
     levels: &mut Vec<Level>,
 ) -> Result<Level, NoMemory>
-    requires cut { CanBeCut tree.now.model.now tree.now.kernels.now spot.now.box_of.now }
-    requires masks { AreMasksOf tree.now.kernels.now (length spot.now.box_of.now) tree.now.masks.now }
-    requires changed { IsMadeBy spot.now.changed tree.now.kernels.now spot.now.box_of.now }
+    requires cut { CanBeCut tree.now.model.now tree.now.program.now.kernels spot.now.box_of.now }
+    requires masks { AreMasksOf tree.now.program.now.kernels (length spot.now.box_of.now) tree.now.masks.now }
+    requires changed { IsMadeBy spot.now.changed tree.now.program.now.kernels spot.now.box_of.now }
     requires bench { IsBenchFor bench.old (length spot.now.box_of.now) }
-    requires levels { AreLevelsBelow tree.now.model.now tree.now.kernels.now spot.now.box_of.now levels.old.items }
-    ensures top { IfOk result (λ top. IsTop tree.now.model.now tree.now.kernels.now spot.now.box_of.now top levels.new.items) }
+    requires levels { AreLevelsBelow tree.now.model.now tree.now.program.now.kernels spot.now.box_of.now levels.old.items }
+    ensures top { IfOk result (λ top. IsTop tree.now.model.now tree.now.program.now.kernels spot.now.box_of.now top levels.new.items) }
     ensures bench { IsBenchFor bench.new (length spot.now.box_of.now) }
 {
     match levels.pop() {
@@ -157,15 +154,15 @@ fn lead(
     bench: &mut Bench,
     levels: &mut Vec<Level>,
 ) -> Result<Option<BoxOf>, NoMemory>
-    requires cut { CanBeCut tree.now.model.now tree.now.kernels.now spot.now.box_of.now }
-    requires masks { AreMasksOf tree.now.kernels.now (length spot.now.box_of.now) tree.now.masks.now }
-    requires changed { IsMadeBy spot.now.changed tree.now.kernels.now spot.now.box_of.now }
+    requires cut { CanBeCut tree.now.model.now tree.now.program.now.kernels spot.now.box_of.now }
+    requires masks { AreMasksOf tree.now.program.now.kernels (length spot.now.box_of.now) tree.now.masks.now }
+    requires changed { IsMadeBy spot.now.changed tree.now.program.now.kernels spot.now.box_of.now }
     requires depth { address.depth ≤ 16 }
     requires bench { IsBenchFor bench.old (length spot.now.box_of.now) }
-    requires levels { AreLevelsBelow tree.now.model.now tree.now.kernels.now spot.now.box_of.now levels.old.items }
-    ensures path { IfOk result (LeadsTo tree.now.model.now tree.now.kernels.now address.depth spot.now.box_of.now address.number) }
-    ensures levels { OnOk result (AreLevelsBelow tree.now.model.now tree.now.kernels.now spot.now.box_of.now levels.new.items) }
-    ensures kept { OnOk result (IsWayTo tree.now.model.now tree.now.kernels.now address.depth spot.now.box_of.now address.number levels.new.items) }
+    requires levels { AreLevelsBelow tree.now.model.now tree.now.program.now.kernels spot.now.box_of.now levels.old.items }
+    ensures path { IfOk result (LeadsTo tree.now.model.now tree.now.program.now.kernels address.depth spot.now.box_of.now address.number) }
+    ensures levels { OnOk result (AreLevelsBelow tree.now.model.now tree.now.program.now.kernels spot.now.box_of.now levels.new.items) }
+    ensures kept { OnOk result (IsWayTo tree.now.model.now tree.now.program.now.kernels address.depth spot.now.box_of.now address.number levels.new.items) }
 {
     law_cuts();
     if address.depth == 0 {
@@ -212,41 +209,34 @@ impl Walk {
     pub fn path_box(
         &mut self,
         alloc: Global,
-        model: &FznModel,
-        program: &Program,
-        masks: &Masks,
-        start: &BoxOf,
-        depth: u32,
+        tree: &Tree<'_>,
         number: u32,
     ) -> Result<Option<BoxOf>, NoMemory>
-        requires program { IsProgramOf model.now program.now }
-        requires masks { AreMasksOf program.now.kernels (length program.now.start) masks.now }
-        requires phases { IsSearchOf model.now }
-        requires length { length start.now ≡ length program.now.start }
-        requires depth { depth ≤ 16 }
-        requires number { number < 2 ^ depth }
-        requires walk { IsWalkFrom model.now program.now.kernels start.now self.old }
-        ensures path { IfOk result (LeadsTo model.now program.now.kernels depth start.now number) }
-        ensures inside { IfOk result (λ found. IfSome found (λ b. IsInside b start.now)) }
-        ensures walk { IsWalkFrom model.now program.now.kernels start.now self.new }
-        ensures kept { OnOk result (IsWayTo model.now program.now.kernels depth start.now number self.new.levels.items) }
+        requires program { IsProgramOf tree.now.model.now tree.now.program.now }
+        requires masks { AreMasksOf tree.now.program.now.kernels (length tree.now.program.now.start) tree.now.masks.now }
+        requires phases { IsSearchOf tree.now.model.now }
+        requires length { length tree.now.start.now ≡ length tree.now.program.now.start }
+        requires depth { tree.now.depth ≤ 16 }
+        requires number { number < 2 ^ tree.now.depth }
+        requires walk { IsWalkFrom tree.now.model.now tree.now.program.now.kernels tree.now.start.now self.old }
+        ensures path { IfOk result (LeadsTo tree.now.model.now tree.now.program.now.kernels tree.now.depth tree.now.start.now number) }
+        ensures inside { IfOk result (λ found. IfSome found (λ b. IsInside b tree.now.start.now)) }
+        ensures walk { IsWalkFrom tree.now.model.now tree.now.program.now.kernels tree.now.start.now self.new }
+        ensures kept { OnOk result (IsWayTo tree.now.model.now tree.now.program.now.kernels tree.now.depth tree.now.start.now number self.new.levels.items) }
     {
         law_paths();
         // its contract says that the bounds are in range
-        let _length = start.len();
-        let kernels = program.kernels.as_slice();
-        let mut bench = Bench::new(alloc, start, kernels.len())?;
-        let tree = Tree {
-            model,
-            kernels,
-            masks,
-        };
+        let _length = tree.start.len();
+        let mut bench = Bench::new(alloc, tree.start, tree.program.kernels.len())?;
         let spot = Spot {
-            box_of: start,
+            box_of: tree.start,
             changed: None,
         };
-        let address = Address { depth, number };
-        match lead(alloc, &tree, &spot, address, &mut bench, &mut self.levels) {
+        let address = Address {
+            depth: tree.depth,
+            number,
+        };
+        match lead(alloc, tree, &spot, address, &mut bench, &mut self.levels) {
             Ok(found) => Ok(found),
             Err(NoMemory) => {
                 self.levels.clear();

@@ -4,15 +4,13 @@ use Rattle.subproblem_walk.proofs.walk.Walk.path_box.Goals as goal
 
 pub lead-requires-clause-cut : goal.lead-requires-clause-cut
 lead-requires-clause-cut c =
-    start_can c.args.model.now c.args.program.now c.as_slice-kernels.result.now c.args.start.now c.requires.program c.requires.phases c.as_slice-kernels.ensures
-    c.requires.length c.len-length.ensures.in_range
+    start_can c.args.tree.now.model.now c.args.tree.now.program.now c.args.tree.now.start.now c.requires.program c.requires.phases c.requires.length c.len-length.ensures.in_range
 
 pub returns-in-Ok-clause-inside : goal.returns-in-Ok-clause-inside
 returns-in-Ok-clause-inside c =
-    inside_start c.law_paths.ensures c.args.model.now c.as_slice-kernels.result.now c.args.depth c.args.start.now c.args.number
-    (start_can c.args.model.now c.args.program.now c.as_slice-kernels.result.now c.args.start.now c.requires.program c.requires.phases c.as_slice-kernels.ensures
-    c.requires.length c.len-length.ensures.in_range)
+    inside_start c.law_paths.ensures c.args.tree.now.model.now c.args.tree.now.program.now.kernels c.args.tree.now.depth c.args.tree.now.start.now c.args.number
+    (start_can c.args.tree.now.model.now c.args.tree.now.program.now c.args.tree.now.start.now c.requires.program c.requires.phases c.requires.length c.len-length.ensures.in_range)
     c.in-Ok.found c.in-Ok.ensures.path
 
 pub returns-clause-walk : goal.returns-clause-walk
-returns-clause-walk c = nothing c.args.model.now c.args.program.now.kernels c.args.start.now c.clear.new.self.items c.clear.ensures.items
+returns-clause-walk c = nothing c.args.tree.now.model.now c.args.tree.now.program.now.kernels c.args.tree.now.start.now c.clear.new.self.items c.clear.ensures.items

@@ -133,8 +133,8 @@ fn hire_one<S: Drop, W: Drop, E: Drop, J: Job<S, W, E>>(
     }
 }
 
-/// Hires a worker for each of these turns. Where memory is refused, some are hired.
-pub(crate) fn hire_all<S: Drop, W: Drop, E: Drop, J: Job<S, W, E>>(
+// Hires a worker for each of these turns. Where memory is refused, some are hired.
+fn hire_each<S: Drop, W: Drop, E: Drop, J: Job<S, W, E>>(
     alloc: Global,
     tickets: &Tickets,
     first: &mut TicketSeat,
@@ -159,6 +159,57 @@ pub(crate) fn hire_all<S: Drop, W: Drop, E: Drop, J: Job<S, W, E>>(
         hire_one(alloc, tickets, first, job, seat, *turn, workers)?;
     }
     Ok(())
+}
+
+// Gives the parts of all workers back to the first seats.
+fn dismiss_all<S: Drop, W: Drop, E: Drop, J: Job<S, W, E>>(
+    tickets: &Tickets,
+    first: &mut TicketSeat,
+    job: &J,
+    seat: &mut S,
+    workers: Vec<Worker<S, W, E>>,
+)
+    requires seats { AreSeats tickets.now (J.fits job.now) J.has_parts first.old seat.old }
+    requires hired { All (IsHired tickets.now (J.fits job.now) J.has_parts (J.owns job.now) (J.stands job.now)) workers.items }
+    ensures seats { AreSeats tickets.now (J.fits job.now) J.has_parts first.new seat.new }
+    ensures parts { ticket_parts first.new ≡ ticket_parts first.old + length workers.items }
+    ensures made { HaveRunSome (J.stands job.now) first.old seat.old → HaveRunSome (J.stands job.now) first.new seat.new }
+{
+    let mut workers = workers;
+    while let Some(worker) = workers.pop() {
+        dismiss(tickets, first, job, seat, worker);
+    }
+}
+
+/// Hires a worker for each of these turns. Where memory is refused none is hired, and the seats keep all parts.
+pub(crate) fn hire_all<S: Drop, W: Drop, E: Drop, J: Job<S, W, E>>(
+    alloc: Global,
+    tickets: &Tickets,
+    first: &mut TicketSeat,
+    job: &J,
+    seat: &mut S,
+    turns: &[u64],
+) -> Result<Vec<Worker<S, W, E>>, NoMemory>
+    requires seats { AreSeats tickets.now (J.fits job.now) J.has_parts first.old seat.old }
+    requires parts { ticket_parts first.old ≡ 1024 }
+    requires none { HaveRun (J.stands job.now) first.old seat.old [] }
+    requires few { length turns.now ≤ 64 }
+    ensures seats { AreSeats tickets.now (J.fits job.now) J.has_parts first.new seat.new }
+    ensures parts { IfOk result (λ workers. ticket_parts first.new + length workers.items ≡ 1024) }
+    ensures all_parts { OnErr result (ticket_parts first.new ≡ 1024) }
+    ensures none { OnOk result (HaveRun (J.stands job.now) first.new seat.new []) }
+    ensures made { HaveRunSome (J.stands job.now) first.new seat.new }
+    ensures hired { IfOk result (λ workers. All (IsHired tickets.now (J.fits job.now) J.has_parts (J.owns job.now) (J.stands job.now)) workers.items) }
+    ensures count { IfOk result (λ workers. length workers.items ≡ length turns.now) }
+{
+    let mut workers = Vec::new(alloc);
+    match hire_each(alloc, tickets, first, job, seat, turns, &mut workers) {
+        Ok(()) => Ok(workers),
+        Err(refused) => {
+            dismiss_all(tickets, first, job, seat, workers);
+            Err(refused)
+        }
+    }
 }
 
 /// Has all workers run numbers side by side, until none is left. One worker is run by the calling thread.

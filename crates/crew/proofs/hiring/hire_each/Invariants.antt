@@ -2,7 +2,7 @@ use Rattle.std.proofs.Common.{◌≡◌, ◌+◌, [], length}
 use Rattle.std.specs.List.{All}
 use Rattle.tickets.specs.Seats.{ticket_parts}
 use Rattle.crew.specs.AtWork.{HaveRun, AreSeats, IsHired}
-use Rattle.crew.proofs.hiring.hire_all.Given as goal
+use Rattle.crew.proofs.hiring.hire_each.Given as goal
 
 abbrev pub invariant-loop-turn : goal.invariant-loop-turn
 invariant-loop-turn g l = record {

@@ -133,7 +133,7 @@ fn hire_one<S: Drop, W: Drop, E: Drop, J: Job<S, W, E>>(
     }
 }
 
-// Hires a worker for each of these turns. Where memory is refused, some are hired.
+/// Hires a worker for each of these turns. Where memory is refused, some are hired.
 fn hire_each<S: Drop, W: Drop, E: Drop, J: Job<S, W, E>>(
     alloc: Global,
     tickets: &Tickets,
@@ -161,7 +161,7 @@ fn hire_each<S: Drop, W: Drop, E: Drop, J: Job<S, W, E>>(
     Ok(())
 }
 
-// Gives the parts of all workers back to the first seats.
+/// Gives the parts of all workers back to the first seats.
 fn dismiss_all<S: Drop, W: Drop, E: Drop, J: Job<S, W, E>>(
     tickets: &Tickets,
     first: &mut TicketSeat,

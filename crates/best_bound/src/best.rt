@@ -13,7 +13,7 @@ use std::alloc::Global;
 
 const MIDDLE: u64 = 9_223_372_036_854_775_808;
 
-// The word of a cost.
+/// The word of a cost.
 pub(crate) fn cost_word(cost: i64) -> u64
     requires in_range { IsCostInRange cost }
     ensures word { result ≡ word_of cost }
@@ -27,7 +27,7 @@ pub(crate) fn cost_word(cost: i64) -> u64
     }
 }
 
-// The cost of a word.
+/// The cost of a word.
 pub(crate) fn word_cost(word: u64) -> i64
     ensures { result ≡ cost_of word }
 {

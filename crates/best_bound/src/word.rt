@@ -10,7 +10,7 @@ use std::alloc::{AllocError, Global};
 // The word of no value.
 pub(crate) const NONE: u64 = u64::MAX;
 
-// A word of no value, and its first seat.
+/// A word of no value, and its first seat.
 pub(crate) fn make<L: Law>(alloc: Global) -> Result<(Table<L>, Place), AllocError>
     ensures table { IfOk result (λ r. r.1.table_id ≡ r.0.shared.table_id) }
     ensures words { IfOk result (λ r. 0 < r.0.shared.table_id.words) }
@@ -19,7 +19,7 @@ pub(crate) fn make<L: Law>(alloc: Global) -> Result<(Table<L>, Place), AllocErro
     Table::<L>::of_words(alloc, &[NONE], &0)
 }
 
-// Looks at the word.
+/// Looks at the word.
 pub(crate) fn look<L: Law>(table: &Table<L>, place: &mut Place) -> u64
     requires table { place.old.table_id ≡ table.now.shared.table_id }
     requires words { 0 < table.now.shared.table_id.words }
@@ -30,7 +30,7 @@ pub(crate) fn look<L: Law>(table: &Table<L>, place: &mut Place) -> u64
     table.shared.load::<Looks<L>>(place, 0)
 }
 
-// Posts a word: the least of it and what stands there stands there then.
+/// Posts a word: the least of it and what stands there stands there then.
 pub(crate) fn tell<L: Law>(table: &Table<L>, place: &mut Place, word: u64) -> u64
     requires table { place.old.table_id ≡ table.now.shared.table_id }
     requires words { 0 < table.now.shared.table_id.words }
@@ -43,7 +43,7 @@ pub(crate) fn tell<L: Law>(table: &Table<L>, place: &mut Place, word: u64) -> u6
     table.shared.fetch_min::<Tells<L>>(place, 0, word)
 }
 
-// Moves one part to a new seat.
+/// Moves one part to a new seat.
 pub(crate) fn part<L: Law>(table: &Table<L>, place: &mut Place) -> Place
     requires table { place.old.table_id ≡ table.now.shared.table_id }
     requires words { 0 < table.now.shared.table_id.words }
@@ -57,7 +57,7 @@ pub(crate) fn part<L: Law>(table: &Table<L>, place: &mut Place) -> Place
     table.shared.split_seat::<Parts>(place)
 }
 
-// Takes in another seat.
+/// Takes in another seat.
 pub(crate) fn take_in<L: Law>(table: &Table<L>, place: &mut Place, other: Place)
     requires table { place.old.table_id ≡ table.now.shared.table_id }
     requires other_table { other.table_id ≡ table.now.shared.table_id }

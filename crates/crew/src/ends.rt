@@ -10,7 +10,7 @@ use interval::NoMemory;
 use list_of::ListOf;
 use std::alloc::{AllocError, Global};
 
-// So many empty slots.
+/// So many empty slots.
 fn empty_slots<E: Drop>(alloc: Global, count: u32) -> Result<Vec<Option<E>>, AllocError>
     ensures { IfOk result (λ slots. AreEmpty count slots.items) }
 {
@@ -21,7 +21,7 @@ fn empty_slots<E: Drop>(alloc: Global, count: u32) -> Result<Vec<Option<E>>, All
     Ok(slots)
 }
 
-// Puts an end into the slot of its number.
+/// Puts an end into the slot of its number.
 fn put<E: Drop>(slots: &mut Vec<Option<E>>, number: u32, end: E)
     requires { number < length slots.old.items }
     ensures { slots.new.items ≡ slice_set slots.old.items number (Some end) }
@@ -29,7 +29,7 @@ fn put<E: Drop>(slots: &mut Vec<Option<E>>, number: u32, end: E)
     slots[number as usize] = Some(end);
 }
 
-// Puts the end of each run into the slot of its number.
+/// Puts the end of each run into the slot of its number.
 fn fill<E: Drop>(slots: &mut Vec<Option<E>>, count: u32, runs: Vec<(u32, E)>)
     requires empty { AreEmpty count slots.old.items }
     requires each_once { IsEachOnce count (numbers_of runs.items) }
@@ -40,7 +40,7 @@ fn fill<E: Drop>(slots: &mut Vec<Option<E>>, count: u32, runs: Vec<(u32, E)>)
     }
 }
 
-// The ends in the slots, none of which is empty.
+/// The ends in the slots, none of which is empty.
 fn ends_of<E: Drop>(alloc: Global, slots: Vec<Option<E>>) -> Result<ListOf<E>, NoMemory>
     requires { All IsSome slots.items }
     ensures { IfOk result (λ ends. AreFilledWith slots.items ends) }

@@ -17,7 +17,7 @@ use std::alloc::Global;
 use std::thread::{Threads, for_each_mut};
 use tickets::{TicketSeat, Tickets};
 
-// A worker with one part of each seat, which has drawn nothing. Where memory is refused the seats keep all parts.
+/// A worker with one part of each seat, which has drawn nothing. Where memory is refused the seats keep all parts.
 fn hire<S, W, E, J: Job<S, W, E>>(
     alloc: Global,
     tickets: &Tickets,
@@ -48,7 +48,7 @@ fn hire<S, W, E, J: Job<S, W, E>>(
     })
 }
 
-// Takes back a worker's seats and its runs, and says whether these are all that it had drawn, with nothing left to draw.
+/// Takes back a worker's seats and its runs, and says whether these are all that it had drawn, with nothing left to draw.
 fn take_in<S, W: Drop, E: Drop, J: Job<S, W, E>>(
     tickets: &Tickets,
     first: &mut TicketSeat,
@@ -77,7 +77,7 @@ fn take_in<S, W: Drop, E: Drop, J: Job<S, W, E>>(
     runs.append(&mut others).is_ok() && is_done
 }
 
-// Gives a worker's parts back to the first seats.
+/// Gives a worker's parts back to the first seats.
 fn dismiss<S, W: Drop, E: Drop, J: Job<S, W, E>>(
     tickets: &Tickets,
     first: &mut TicketSeat,
@@ -100,7 +100,7 @@ fn dismiss<S, W: Drop, E: Drop, J: Job<S, W, E>>(
     job.join_back(seat, other);
 }
 
-// Hires one worker more. Where memory is refused the workers are as before, and so are the parts of the seats.
+/// Hires one worker more. Where memory is refused the workers are as before, and so are the parts of the seats.
 fn hire_one<S: Drop, W: Drop, E: Drop, J: Job<S, W, E>>(
     alloc: Global,
     tickets: &Tickets,

@@ -29,7 +29,7 @@ pub struct Worker<S, W, E> {
     pub is_done: bool,
 }
 
-// Draws the next number and runs it, and says whether there was one. The gate is passed first.
+/// Draws the next number and runs it, and says whether there was one. The gate is passed first.
 fn run_next<
     C: Gate,
     S,
@@ -68,7 +68,7 @@ fn run_next<
     Ok(true)
 }
 
-// Runs numbers until none is left.
+/// Runs numbers until none is left.
 fn run_all<
     C: Gate,
     S,

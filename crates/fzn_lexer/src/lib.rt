@@ -73,7 +73,7 @@ impl<T: Drop> From<AllocFailed<T>> for LexError {
     }
 }
 
-// Puts the piece that begins at `from` at the end of the tokens, where it is one.
+/// Puts the piece that begins at `from` at the end of the tokens, where it is one.
 fn keep(tokens: &mut Vec<Token>, from: usize, found: Found) -> Result<(), LexError>
     ensures kept { OnOk result (tokens.new.items ≡ tokens.old.items ++ token_of found.piece from found.to) }
     ensures refused { IfErr result (λ e. e ≡ NoMemory) }

@@ -260,7 +260,7 @@ fn accepted(state: State) -> Option<PieceKind>
     }
 }
 
-// The piece that ends at `to`, where there is one, else what was found before.
+/// The piece that ends at `to`, where there is one, else what was found before.
 fn later(first: Option<Found>, piece: Option<PieceKind>, to: usize) -> Option<Found>
     ensures { result ≡ machine.later first (machine.found_as piece to) }
 {

@@ -86,7 +86,7 @@ pub(crate) fn is_constant(scalar: Scalar) -> bool
     matches!(scalar.term, Term::Number(_))
 }
 
-// Whether a scalar is of this type, or may be an entry of an array of this type.
+/// Whether a scalar is of this type, or may be an entry of an array of this type.
 fn scalar_fits(shape: &Shape, scalar: Scalar) -> bool
     ensures { result ≡ faults.scalar_fits shape.now scalar }
 {

@@ -10,7 +10,7 @@ use crate::values::{read_expr, read_exprs, read_set};
 use fzn_lexer::Token;
 use std::alloc::Global;
 
-// Whether this is the type of variables.
+/// Whether this is the type of variables.
 fn is_variable(shape: &Shape) -> bool
     ensures { result ≡ is_var shape.now }
 {
@@ -48,7 +48,7 @@ fn read_var_range(alloc: Global, cursor: &mut Cursor) -> Result<Shape, Stop>
     Ok(Shape::VarIn(set))
 }
 
-// A variable's type, behind `var`.
+/// A variable's type, behind `var`.
 #[tactic(auto, unfolding(crate::specs::Items::var_at))]
 fn read_var(alloc: Global, cursor: &mut Cursor) -> Result<Shape, Stop>
     ensures read { IfOk result (λ s. var_at cursor.old ≡ Some (s, cursor.new)) }

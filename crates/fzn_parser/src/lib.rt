@@ -47,7 +47,7 @@ impl From<AllocFailed<Item>> for ParseError {
     }
 }
 
-// The predicate item whose first token this is, with these tokens behind it.
+/// The predicate item whose first token this is, with these tokens behind it.
 fn read_predicate(alloc: Global, text: &[u8], first: Token, more: &[Token]) -> Result<Item, Stop>
     requires { is_at Symbol.Predicate text.now first ≡ true }
     ensures read { IfOk result (λ i. item_at text.now (first ∷ more.now) ≡ Some (item_tree i)) }
@@ -62,7 +62,7 @@ fn read_predicate(alloc: Global, text: &[u8], first: Token, more: &[Token]) -> R
     }
 }
 
-// The item that these tokens are, where it is no predicate.
+/// The item that these tokens are, where it is no predicate.
 fn read_other(alloc: Global, text: &[u8], first: Token, stretch: &[Token]) -> Result<Item, Stop>
     requires other { is_at Symbol.Predicate text.now first ≡ false }
     requires begins { (0 < length stretch.now) × (stretch.now ≡ first ∷ drop 1 stretch.now) }
@@ -77,7 +77,7 @@ fn read_other(alloc: Global, text: &[u8], first: Token, stretch: &[Token]) -> Re
     })
 }
 
-// The item that these tokens are.
+/// The item that these tokens are.
 fn read_item(alloc: Global, text: &[u8], stretch: &[Token]) -> Result<Item, Stop>
     ensures read { IfOk result (λ i. item_at text.now stretch.now ≡ Some (item_tree i)) }
     ensures refused { result ≡ Err Stop.Refused → item_at text.now stretch.now ≡ None }

@@ -29,7 +29,7 @@ fn arg_of_note(note: Ann) -> Arg
     Arg::Ann(note)
 }
 
-// An argument, in which at most `depth` brackets are open at once.
+/// An argument, in which at most `depth` brackets are open at once.
 #[cycle(notes)]
 #[tactic(auto, using(crate::proofs::Trees::tree_views), unfolding(crate::specs::Notes::arg_with))]
 fn read_arg(alloc: Global, cursor: &mut Cursor, depth: usize) -> Result<Arg, Stop>
@@ -51,7 +51,7 @@ fn read_arg(alloc: Global, cursor: &mut Cursor, depth: usize) -> Result<Arg, Sto
     Ok(arg_from(elem))
 }
 
-// The annotation of this name, with the arguments that follow it.
+/// The annotation of this name, with the arguments that follow it.
 #[cycle(notes)]
 #[tactic(auto, using(crate::proofs::Trees::tree_views), unfolding(crate::specs::Notes::called_with))]
 fn read_called(alloc: Global, cursor: &mut Cursor, depth: usize, name: Token) -> Result<Ann, Stop>
@@ -68,7 +68,7 @@ fn read_called(alloc: Global, cursor: &mut Cursor, depth: usize, name: Token) ->
     Ok(Ann { name, args: None })
 }
 
-// Arguments behind their opening bracket, and the closing one.
+/// Arguments behind their opening bracket, and the closing one.
 #[cycle(notes)]
 fn read_args(
     alloc: Global,

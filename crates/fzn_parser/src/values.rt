@@ -9,7 +9,7 @@ use fzn_lexer::Token;
 use list_of::ListOf;
 use std::alloc::Global;
 
-// The integers of a set, behind its opening brace, and the closing one.
+/// The integers of a set, behind its opening brace, and the closing one.
 pub(crate) fn read_ints(alloc: Global, cursor: &mut Cursor) -> Result<ListOf<Token>, Stop>
     ensures read { IfOk result (λ l. ints_at cursor.old ≡ Some (l, cursor.new)) }
     ensures refused { result ≡ Err Stop.Refused → ints_at cursor.old ≡ None }
@@ -44,7 +44,7 @@ pub(crate) fn read_set(alloc: Global, cursor: &mut Cursor) -> Result<SetLit, Sto
     Ok(SetLit::Range(low, high))
 }
 
-// The integer `low`, or the set that begins with it.
+/// The integer `low`, or the set that begins with it.
 #[tactic(auto, unfolding(crate::specs::Reading::from_int))]
 fn read_from_int(low: Token, cursor: &mut Cursor) -> Result<Elem, Stop>
     ensures read { IfOk result (λ e. from_int low cursor.old ≡ Some (e, cursor.new)) }
@@ -92,7 +92,7 @@ pub(crate) fn read_elem(alloc: Global, cursor: &mut Cursor) -> Result<Elem, Stop
     read_number(cursor)
 }
 
-// The entries of an array literal, behind its opening bracket, and the closing one.
+/// The entries of an array literal, behind its opening bracket, and the closing one.
 fn read_elems(alloc: Global, cursor: &mut Cursor) -> Result<ListOf<Elem>, Stop>
     ensures read { IfOk result (λ l. elems_at cursor.old ≡ Some (l, cursor.new)) }
     ensures refused { result ≡ Err Stop.Refused → elems_at cursor.old ≡ None }
@@ -125,7 +125,7 @@ pub(crate) fn read_expr(alloc: Global, cursor: &mut Cursor) -> Result<Expr, Stop
     Ok(Expr::One(elem))
 }
 
-// The arguments of a constraint, behind its opening bracket, and the closing one.
+/// The arguments of a constraint, behind its opening bracket, and the closing one.
 pub(crate) fn read_exprs(alloc: Global, cursor: &mut Cursor) -> Result<ListOf<Expr>, Stop>
     ensures read { IfOk result (λ l. exprs_at cursor.old ≡ Some (l, cursor.new)) }
     ensures refused { result ≡ Err Stop.Refused → exprs_at cursor.old ≡ None }

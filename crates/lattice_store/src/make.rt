@@ -11,7 +11,7 @@ use crate::words::{high_word, low_word, origin_word};
 use interval::BoxOf;
 use std::alloc::{AllocError, Global};
 
-// The words of the bounds of a box, after the spare one.
+/// The words of the bounds of a box, after the spare one.
 pub(crate) fn words_of(alloc: Global, start: &BoxOf, epoch: u32) -> Result<Vec<u64>, AllocError>
     requires { epoch ≤ last_epoch }
     ensures words { IfOk result (λ w. AreWordsOf epoch start.now w.items) }
@@ -27,7 +27,7 @@ pub(crate) fn words_of(alloc: Global, start: &BoxOf, epoch: u32) -> Result<Vec<u
     Ok(words)
 }
 
-// Names the floor of a store that was just made.
+/// Names the floor of a store that was just made.
 pub(crate) fn name_floor<N: Naming>(table: &Table, place: &mut Place)
     requires table { place.old.table_id ≡ table.now.shared.table_id }
     requires words { 0 < table.now.shared.table_id.words }

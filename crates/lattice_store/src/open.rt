@@ -14,7 +14,7 @@ use crate::words::{LAST_EPOCH, high_word, low_word, origin_word};
 use interval::BoxOf;
 use std::marker::Brand;
 
-// Opens the two words of a variable.
+/// Opens the two words of a variable.
 fn open_pair<N: Naming>(
     table: &Table,
     place: &mut Place,
@@ -40,7 +40,7 @@ fn open_pair<N: Naming>(
     seen[high_place(v)] = high;
 }
 
-// Opens all words at the next epoch.
+/// Opens all words at the next epoch.
 fn open_words<N: Naming>(
     table: &Table,
     place: &mut Place,

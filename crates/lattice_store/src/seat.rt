@@ -24,7 +24,7 @@ pub struct Seat {
     ghost stands: { Stands place.table_id place.me seen.items epoch past } by { Prim.hlevel props },
 }
 
-// The word at a place.
+/// The word at a place.
 pub(crate) fn at(words: &Vec<u64>, k: usize) -> u64
     requires { k < length words.now.items }
     ensures { result ≡ slice_index words.now.items k }
@@ -32,8 +32,8 @@ pub(crate) fn at(words: &Vec<u64>, k: usize) -> u64
     words[k]
 }
 
-// Sees a word: it is kept where it is of the seat's epoch, and else the seat is past. Mostly it is the one that was
-// seen before, and then there is nothing to do.
+/// Sees a word: it is kept where it is of the seat's epoch, and else the seat is past. Mostly it is the one that was
+/// seen before, and then there is nothing to do.
 pub(crate) fn note(seen: &mut Vec<u64>, past: &mut bool, epoch: u32, k: usize, word: u64)
     requires inside { k < length seen.old.items }
     requires own { epoch_of (slice_index seen.old.items k) ≡ epoch }
@@ -49,14 +49,14 @@ pub(crate) fn note(seen: &mut Vec<u64>, past: &mut bool, epoch: u32, k: usize, w
     }
 }
 
-// Whether one of the two holds.
+/// Whether one of the two holds.
 pub(crate) fn one_of(a: bool, b: bool) -> bool
     ensures { result ≡ either a b }
 {
     a || b
 }
 
-// Keeps the greater word at each place.
+/// Keeps the greater word at each place.
 pub(crate) fn keep_greater(seen: &mut Vec<u64>, other: &Vec<u64>)
     requires { length other.now.items ≡ length seen.old.items }
     ensures { seen.new.items ≡ greater seen.old.items other.now.items }

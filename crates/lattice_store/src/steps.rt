@@ -9,7 +9,7 @@ use crate::seat::{Seat, note};
 use crate::store::Store;
 use crate::table::{Asks, Place, Table, Tells};
 
-// The places of the words of a variable's bounds.
+/// The places of the words of a variable's bounds.
 pub(crate) fn low_place(v: u32) -> usize
     ensures { result ≡ 2 * v + 1 }
 {
@@ -22,7 +22,7 @@ pub(crate) fn high_place(v: u32) -> usize
     2 * v as usize + 2
 }
 
-// Joins a word: the greater of the two stands there then. Answers the word that stood there.
+/// Joins a word: the greater of the two stands there then. Answers the word that stood there.
 fn join(table: &Table, place: &mut Place, k: usize, word: u64) -> u64
     requires table { place.old.table_id ≡ table.now.shared.table_id }
     requires place { k < table.now.shared.table_id.words }
@@ -35,7 +35,7 @@ fn join(table: &Table, place: &mut Place, k: usize, word: u64) -> u64
 }
 
 impl Store {
-    // Looks at a word.
+    /// Looks at a word.
     pub(crate) fn look(&self, seat: &mut Seat, k: usize)
         requires store { IsSeatOf self.now seat.old }
         requires above { 1 ≤ k }
@@ -46,7 +46,7 @@ impl Store {
         note(&mut seat.seen, &mut seat.past, seat.epoch, k, word);
     }
 
-    // Joins a word.
+    /// Joins a word.
     pub(crate) fn raise(&self, seat: &mut Seat, k: usize, word: u64)
         requires store { IsSeatOf self.now seat.old }
         requires above { 1 ≤ k }

@@ -8,7 +8,7 @@ use guarded_tell::Kernel;
 use interval::NoMemory;
 use std::alloc::{AllocError, Global};
 
-// So many empty shares.
+/// So many empty shares.
 fn empty_shares(alloc: Global, lanes: u32) -> Result<Vec<Vec<u32>>, AllocError>
     ensures { IfOk result (λ v. AreDealt 0 lanes v.items) }
 {
@@ -19,7 +19,7 @@ fn empty_shares(alloc: Global, lanes: u32) -> Result<Vec<Vec<u32>>, AllocError>
     Ok(shares)
 }
 
-// Deals kernel j to its share.
+/// Deals kernel j to its share.
 fn deal(shares: &mut Vec<Vec<u32>>, lanes: u32, j: u32) -> Result<(), AllocError>
     requires lanes { 1 ≤ lanes }
     requires dealt { AreDealt j lanes shares.old.items }
@@ -29,7 +29,7 @@ fn deal(shares: &mut Vec<Vec<u32>>, lanes: u32, j: u32) -> Result<(), AllocError
     Ok(())
 }
 
-// Deals so many kernels in turn.
+/// Deals so many kernels in turn.
 fn deal_all(alloc: Global, count: u32, lanes: u32) -> Result<Vec<Vec<u32>>, AllocError>
     requires lanes { 1 ≤ lanes }
     ensures { IfOk result (λ v. AreDealt count lanes v.items) }

@@ -19,7 +19,7 @@ use lattice_store::{Full, Seat, Store};
 use std::alloc::{AllocError, Global};
 use std::thread::Threads;
 
-// Pairs of the bounds 0.
+/// Pairs of the bounds 0.
 fn flat_pairs(alloc: Global, len: u32) -> Result<Vec<(i64, i64)>, AllocError>
     ensures length { IfOk result (λ v. length v.items ≡ len) }
     ensures flat { IfOk result (λ v. IsFlat v.items) }
@@ -31,7 +31,7 @@ fn flat_pairs(alloc: Global, len: u32) -> Result<Vec<(i64, i64)>, AllocError>
     Ok(pairs)
 }
 
-// A box of this length whose variables are all 0.
+/// A box of this length whose variables are all 0.
 fn flat_box(alloc: Global, len: u32) -> Result<BoxOf, NoMemory>
     requires { len ≤ box_limit }
     ensures { IfOk result (λ b. length b ≡ len) }
@@ -42,7 +42,7 @@ fn flat_box(alloc: Global, len: u32) -> Result<BoxOf, NoMemory>
 
 // A call names the floor by what it is passed, so these two are passed the kernels too.
 
-// Opens the next epoch of the store.
+/// Opens the next epoch of the store.
 fn open_for(
     store: &mut Store,
     first: &mut Seat,
@@ -66,7 +66,7 @@ fn open_for(
     store.open(first, start)
 }
 
-// Makes a new store.
+/// Makes a new store.
 fn make_for(alloc: Global, start: &BoxOf, _kernels: &[Kernel]) -> Result<(Store, Seat), NoMemory>
     ghost floor: { Option Bounds }
     requires { IsFloorIn floor start.now }
@@ -114,7 +114,7 @@ impl Engine {
         })
     }
 
-    // Has the first seat see the bounds of the start, in a new epoch or, where there is none left, in a new store.
+    /// Has the first seat see the bounds of the start, in a new epoch or, where there is none left, in a new store.
     fn begin(&mut self, alloc: Global, start: &BoxOf, kernels: &[Kernel]) -> Result<(), NoMemory>
         requires kernels { All (IsKernel (length start.now)) kernels.now }
         requires start { length start.now ≡ engine_len self.old }

@@ -79,7 +79,7 @@ pub(crate) fn reset_turns(lanes: &mut Vec<Lane>)
     }
 }
 
-// Gives a lane a seat that has seen what the first seat has.
+/// Gives a lane a seat that has seen what the first seat has.
 fn seat_lane(
     alloc: Global,
     store: &Store,
@@ -116,7 +116,7 @@ pub(crate) fn seat_lanes(
     Ok(())
 }
 
-// Takes the lane's seat back, and says whether the lane saw a bound move.
+/// Takes the lane's seat back, and says whether the lane saw a bound move.
 fn unseat_lane(store: &Store, first: &mut Seat, lane: &mut Lane) -> bool
     requires store { IsSeatOf store.now first.old }
     requires first { IsFirst first.old }
@@ -150,7 +150,7 @@ pub(crate) fn unseat_lanes(store: &Store, first: &mut Seat, lanes: &mut [Lane]) 
     moved
 }
 
-// Has a lane run its share.
+/// Has a lane run its share.
 fn run_lane<G: Gate>(
     store: &Store,
     kernels: &[Kernel],

@@ -21,7 +21,7 @@ use lattice_store::{Seat, Store};
 use std::alloc::Global;
 use std::thread::Threads;
 
-// A round of the one lane of a cut of one share. The first seat runs it.
+/// A round of the one lane of a cut of one share. The first seat runs it.
 fn run_alone<G: Gate>(store: &Store, work: &Work<'_, G>, first: &mut Seat, lane: &mut Lane) -> bool
     requires store { IsSeatOf store.now first.old }
     requires first { IsFirst first.old }
@@ -46,7 +46,7 @@ fn run_alone<G: Gate>(store: &Store, work: &Work<'_, G>, first: &mut Seat, lane:
     moved
 }
 
-// A round of all lanes, each in a thread.
+/// A round of all lanes, each in a thread.
 fn run_together<R: Threads + Sync, G: Gate + Sync>(
     rt: &R,
     alloc: Global,
@@ -73,8 +73,8 @@ fn run_together<R: Threads + Sync, G: Gate + Sync>(
     Ok(unseat_lanes(store, first, lanes))
 }
 
-// One round: each lane starts with all that all lanes had seen, and runs its share once. Says whether some lane saw a
-// bound move. With one lane it takes no memory and starts no thread.
+/// One round: each lane starts with all that all lanes had seen, and runs its share once. Says whether some lane saw a
+/// bound move. With one lane it takes no memory and starts no thread.
 fn run_round<R: Threads + Sync, G: Gate + Sync>(
     rt: &R,
     alloc: Global,
@@ -103,7 +103,7 @@ fn run_round<R: Threads + Sync, G: Gate + Sync>(
     }
 }
 
-// Whether for some variable the seat has seen that no number is left.
+/// Whether for some variable the seat has seen that no number is left.
 fn is_seen_crossed(seat: &Seat, len: u32) -> bool
     requires { len ≡ length (seen_of seat.now) }
     ensures crossed { IsTrue result ↔ IsCrossed (seen_of seat.now) }
@@ -127,15 +127,15 @@ pub(crate) fn copy_seen(seat: &Seat, into: &mut BoxOf)
     }
 }
 
-// Whether so many rounds are all that the limit allows.
+/// Whether so many rounds are all that the limit allows.
 fn is_spent(rounds: u128, round_limit: u64) -> bool
     ensures { IsTrue result ↔ ((round_limit ≢ 0) × (rounds ≡ round_limit)) }
 {
     round_limit != 0 && rounds == u128::from(round_limit)
 }
 
-// Runs rounds from a proper start, which the first seat has seen, until one moves nothing, some variable has no number
-// left or the limit is spent. Limit 0 is none.
+/// Runs rounds from a proper start, which the first seat has seen, until one moves nothing, some variable has no number
+/// left or the limit is spent. Limit 0 is none.
 fn settle<R: Threads + Sync, G: Gate + Sync>(
     rt: &R,
     alloc: Global,

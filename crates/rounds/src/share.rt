@@ -20,7 +20,7 @@ use guarded_tell::{
 use interval::BoxOf;
 use lattice_store::{Seat, Store};
 
-// The lower bound of a variable after one load. The mark is set where that was news.
+/// The lower bound of a variable after one load. The mark is set where that was news.
 fn ask_low(store: &Store, seat: &mut Seat, moved: &mut bool, v: u32) -> i64
     requires store { IsSeatOf store.now seat.old }
     requires variable { v < length (seen_of seat.old) }
@@ -37,7 +37,7 @@ fn ask_low(store: &Store, seat: &mut Seat, moved: &mut bool, v: u32) -> i64
     low
 }
 
-// The upper bound of a variable after one load. The mark is set where that was news.
+/// The upper bound of a variable after one load. The mark is set where that was news.
 fn ask_high(store: &Store, seat: &mut Seat, moved: &mut bool, v: u32) -> i64
     requires store { IsSeatOf store.now seat.old }
     requires variable { v < length (seen_of seat.old) }
@@ -55,7 +55,7 @@ fn ask_high(store: &Store, seat: &mut Seat, moved: &mut bool, v: u32) -> i64
     high
 }
 
-// Copies the bounds of a variable, and says whether a number is left for it.
+/// Copies the bounds of a variable, and says whether a number is left for it.
 fn look(store: &Store, seat: &mut Seat, moved: &mut bool, snapshot: &mut BoxOf, v: u32) -> bool
     requires store { IsSeatOf store.now seat.old }
     requires variable { v < length (seen_of seat.old) }
@@ -72,7 +72,7 @@ fn look(store: &Store, seat: &mut Seat, moved: &mut bool, snapshot: &mut BoxOf, 
     low <= high
 }
 
-// Copies the bounds of the kernel's variables, unless one of them has no number left.
+/// Copies the bounds of the kernel's variables, unless one of them has no number left.
 fn take_snapshot(
     kernel: &Kernel,
     store: &Store,
@@ -97,7 +97,7 @@ fn take_snapshot(
     true
 }
 
-// Tells a lower bound. The mark is set where the seat saw one move.
+/// Tells a lower bound. The mark is set where the seat saw one move.
 fn tell_low(store: &Store, seat: &mut Seat, moved: &mut bool, v: u32, bound: i64)
     requires store { IsSeatOf store.now seat.old }
     requires variable { v < length (seen_of seat.old) }
@@ -111,7 +111,7 @@ fn tell_low(store: &Store, seat: &mut Seat, moved: &mut bool, v: u32, bound: i64
     }
 }
 
-// Tells an upper bound. The mark is set where the seat saw one move.
+/// Tells an upper bound. The mark is set where the seat saw one move.
 fn tell_high(store: &Store, seat: &mut Seat, moved: &mut bool, v: u32, bound: i64)
     requires store { IsSeatOf store.now seat.old }
     requires variable { v < length (seen_of seat.old) }
@@ -125,7 +125,7 @@ fn tell_high(store: &Store, seat: &mut Seat, moved: &mut bool, v: u32, bound: i6
     }
 }
 
-// Makes a tell.
+/// Makes a tell.
 fn tell(store: &Store, seat: &mut Seat, moved: &mut bool, t: Tell)
     requires store { IsSeatOf store.now seat.old }
     requires tell { MayTell (length (seen_of seat.old)) (floor_of seat.old) t }
@@ -137,7 +137,7 @@ fn tell(store: &Store, seat: &mut Seat, moved: &mut bool, t: Tell)
     }
 }
 
-// Tells the store each bound that it hears, and notes whether the seat saw one move.
+/// Tells the store each bound that it hears, and notes whether the seat saw one move.
 #[derive(Drop)]
 struct Teller<'a> {
     store: &'a Store,
@@ -155,7 +155,7 @@ impl Hear for Teller<'_> {
     }
 }
 
-// Has the teller hear all that the kernel has to tell on the snapshot.
+/// Has the teller hear all that the kernel has to tell on the snapshot.
 fn hear_all(kernel: &Kernel, snapshot: &BoxOf, teller: &mut Teller)
     requires store { IsSeatOf teller.old.store.now teller.old.seat.now }
     requires kernel { IsKernel (length snapshot.now) kernel.now }
@@ -168,7 +168,7 @@ fn hear_all(kernel: &Kernel, snapshot: &BoxOf, teller: &mut Teller)
     visit_tells(kernel, snapshot, teller);
 }
 
-// Tells all that the kernel has to tell on the snapshot.
+/// Tells all that the kernel has to tell on the snapshot.
 fn tell_all(kernel: &Kernel, snapshot: &BoxOf, store: &Store, seat: &mut Seat, moved: &mut bool)
     requires store { IsSeatOf store.now seat.old }
     requires kernel { IsKernel (length snapshot.now) kernel.now }
@@ -186,7 +186,7 @@ fn tell_all(kernel: &Kernel, snapshot: &BoxOf, store: &Store, seat: &mut Seat, m
     *moved = teller.moved;
 }
 
-// Runs the kernel on a snapshot of its variables, unless that is crossed in them.
+/// Runs the kernel on a snapshot of its variables, unless that is crossed in them.
 fn run_kernel(
     kernel: &Kernel,
     store: &Store,

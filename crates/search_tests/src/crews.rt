@@ -227,7 +227,7 @@ impl Meet {
         }
     }
 
-    // Whether all three passes were called, and no wait gave up.
+    /// Whether all three passes were called, and no wait gave up.
     fn was_passed(&self) -> bool {
         let first = self.first.load(Ordering::SeqCst);
         let second = self.second.load(Ordering::SeqCst);
@@ -236,7 +236,7 @@ impl Meet {
     }
 }
 
-// Waits for the other worker, for so many turns.
+/// Waits for the other worker, for so many turns.
 fn wait_for(flag: &AtomicBool, gave_up: &AtomicBool) {
     for _ in 0..200_000_000u32 {
         if flag.load(Ordering::SeqCst) {

@@ -6,7 +6,7 @@ ghost use Rattle.tickets.specs.Rule.{first_view, one_less, one_part, joined, IsR
 use crate::table::{Draws, Hears, Merges, Parts, Place, Table};
 use std::alloc::{AllocError, Global};
 
-// The spare word and one of 0 for each number, and the first seat.
+/// The spare word and one of 0 for each number, and the first seat.
 pub(crate) fn make(alloc: Global, count: u32) -> Result<(Table, Place), AllocError>
     ensures table { IfOk result (λ r. r.1.table_id ≡ r.0.shared.table_id) }
     ensures words { IfOk result (λ r. r.0.shared.table_id.words ≡ suc count) }
@@ -16,7 +16,7 @@ pub(crate) fn make(alloc: Global, count: u32) -> Result<(Table, Place), AllocErr
     Table::of_words(alloc, &words, &u64::from(count))
 }
 
-// Steps on the word of the seat's next number, and answers what it was.
+/// Steps on the word of the seat's next number, and answers what it was.
 pub(crate) fn step_on_next(table: &Table, place: &mut Place, next: u32) -> u64
     requires table { place.old.table_id ≡ table.now.shared.table_id }
     requires words { table.now.shared.table_id.words ≡ suc place.old.me.0.count }
@@ -29,7 +29,7 @@ pub(crate) fn step_on_next(table: &Table, place: &mut Place, next: u32) -> u64
     table.shared.fetch_max::<Draws>(place, next as usize + 1, 1)
 }
 
-// Looks at the spare word, which tells what the rule says of the seat.
+/// Looks at the spare word, which tells what the rule says of the seat.
 pub(crate) fn hear(table: &Table, place: &mut Place)
     requires table { place.old.table_id ≡ table.now.shared.table_id }
     requires words { table.now.shared.table_id.words ≡ suc place.old.me.0.count }
@@ -40,7 +40,7 @@ pub(crate) fn hear(table: &Table, place: &mut Place)
     let _spare = table.shared.load::<Hears>(place, 0);
 }
 
-// Moves one part to a new seat.
+/// Moves one part to a new seat.
 pub(crate) fn part(table: &Table, place: &mut Place) -> Place
     requires table { place.old.table_id ≡ table.now.shared.table_id }
     requires words { table.now.shared.table_id.words ≡ suc place.old.me.0.count }
@@ -54,7 +54,7 @@ pub(crate) fn part(table: &Table, place: &mut Place) -> Place
     table.shared.split_seat::<Parts>(place)
 }
 
-// Takes in another seat.
+/// Takes in another seat.
 pub(crate) fn take_in(table: &Table, place: &mut Place, other: Place)
     requires table { place.old.table_id ≡ table.now.shared.table_id }
     requires other_table { other.table_id ≡ table.now.shared.table_id }

@@ -54,7 +54,7 @@ impl Tickets {
         None
     }
 
-    // Steps on the word of the next number, and answers what it was.
+    /// Steps on the word of the next number, and answers what it was.
     fn step(&self, seat: &mut TicketSeat) -> u64
         requires seat { IsTicketSeatOf self.now seat.old }
         requires below { next_of seat.old < count_of self.now }

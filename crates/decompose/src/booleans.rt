@@ -169,7 +169,7 @@ fn own_literals(
     Ok(Literals::from_list(SharedList::from_vec(literals)?))
 }
 
-/// The literals of a clause. Those of arrays that are short or have no other owner stand together, since they are read faster
+/// The literals of a clause. Those of arrays whose lists no other constraint shares stand together, since they are read faster
 /// so.
 fn literals_of_clause(
     alloc: Global,
@@ -183,7 +183,7 @@ fn literals_of_clause(
     requires numbered_negatives { IsNumbered places.now.arrays negatives.now }
     ensures { IfOk result (λ literals. literals ≡ clause_literals places.now.numbering positives.now.terms negatives.now.terms) }
 {
-    if positives.terms.mark_if_shared().is_some() || negatives.terms.mark_if_shared().is_some() {
+    if places.has_lists(positives) || places.has_lists(negatives) {
         shared_literals(alloc, places, positives, negatives)
     } else {
         own_literals(

@@ -5,7 +5,7 @@ ghost use Rattle.std.specs.Prelude.{◌≡◌, ◌++◌, [], ◌∷◌, IfSome, 
 use constraint_model::ArrayTerms;
 use shared_list::SharedList;
 use std::alloc::{AllocError, Global};
-use std::collections::BTreeMap;
+use std::collections::{BTreeMap, BTreeSet};
 
 /// The mark of a list that one propagator alone has.
 pub(crate) const NO_MARK: usize = 0;
@@ -28,6 +28,8 @@ pub(crate) struct MappedLists {
     pub entries: Vec<MappedList>,
     /// The place of each array's number among them.
     places: BTreeMap<usize, usize>,
+    /// The numbers of the arrays that were named, once or more.
+    named: BTreeSet<usize>,
 }
 
 impl MappedLists {
@@ -38,12 +40,21 @@ impl MappedLists {
         MappedLists {
             entries: Vec::new(alloc),
             places: BTreeMap::new(alloc),
+            named: BTreeSet::new(alloc),
         }
     }
 
     /// Whether something was added for the array of this number.
     pub(crate) fn has_number(&self, number: usize) -> bool {
         self.places.contains_key(&number)
+    }
+
+    /// Notes that an array of this number is named, and says whether one was before. The entries are the same.
+    pub(crate) fn is_named_again(&mut self, number: usize) -> Result<bool, AllocError>
+        ensures { self.new.entries.items ≡ self.old.entries.items }
+    {
+        let is_new = self.named.insert(number)?;
+        Ok(!is_new)
     }
 
     /// The mark of the lists that are added next, by which they are told from those of the other entries.

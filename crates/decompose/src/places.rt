@@ -156,6 +156,11 @@ impl Places {
         }
     }
 
+    /// Whether those who name an array share its lists.
+    pub(crate) fn has_lists(&self, row: &ArrayTerms) -> bool {
+        self.lists.find(row).is_some()
+    }
+
     /// The numbers of the entries of an array, shared likewise.
     pub(crate) fn numbers_of_row(
         &self,
@@ -185,20 +190,22 @@ impl Places {
         })
     }
 
-    /// Adds what stands for such an array, unless it has something. Contracts see the same places.
+    /// Adds what stands for such an array, where it is named the second time and has nothing yet. Contracts see the same
+    /// places.
     fn add_row(&mut self, alloc: Global, number: usize, terms: &[Term]) -> Result<(), AllocError>
         requires declared { All (IsDeclared self.old.numbering.count) terms.now }
         requires numbered { slice_get self.old.arrays number ≡ Some terms.now }
         ensures { self.new ≡ self.old }
     {
-        if self.lists.has_number(number) {
+        if self.lists.has_number(number) || !self.lists.is_named_again(number)? {
             return Ok(());
         }
         let list = self.mapped(alloc, number, terms)?;
         self.lists.add(list)
     }
 
-    /// Adds what stands for an argument that is a long declared array and has other owners.
+    /// Adds what stands for an argument that is a long declared array, of whose terms the model is an owner too, and was named
+    /// before.
     fn add_operand(&mut self, alloc: Global, operand: &Operand) -> Result<(), AllocError>
         requires declared { HasDeclared self.old.numbering.count operand.now }
         requires numbered { HasNumber self.old.arrays operand.now }
@@ -227,8 +234,8 @@ impl Places {
         Ok(())
     }
 
-    /// The same places, with what stands for the long declared arrays, so that the propagators which name
-    /// one have its lists together.
+    /// The same places, with what stands for the long declared arrays that are named more than once, so
+    /// that the propagators which name one have its lists together.
     pub(crate) fn with_lists(
         self,
         alloc: Global,

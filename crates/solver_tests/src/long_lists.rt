@@ -157,8 +157,8 @@ const TEXTS: &[(&str, (Shape, Shape))] = &[
         "array [1..100] of int: threes = [#3#]; array [1..100] of int: fours = [#4#]; \
          constraint int_lin_le(threes, fours, 7); constraint int_lin_le(fours, fours, 7);",
         (
-            Shape::Le((3, None), (7, Some(2))),
-            Shape::Le((4, None), (7, Some(2))),
+            Shape::Le((3, None), (7, Some(1))),
+            Shape::Le((4, None), (7, Some(1))),
         ),
     ),
     (

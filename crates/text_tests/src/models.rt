@@ -1,7 +1,9 @@
 //! The parts of the models of a few texts, written out.
 
 use crate::resolved::resolved;
-use constraint_model::{ArrayTerms, Constraint, FznModel, Goal, Operand, Output, Phase, Term, VarDecl};
+use constraint_model::{
+    ArrayTerms, Constraint, FznModel, Goal, Operand, Output, Phase, Term, VarDecl,
+};
 use shared_list::SharedList;
 use std::alloc::{AllocError, Global};
 use std::test::Fail;

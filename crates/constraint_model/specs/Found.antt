@@ -7,7 +7,7 @@ use Rattle.std.specs.BTreeSet.{BTreeSet, contains}
 use Rattle.constraint_model.specs.declared.model.Term.{Term}
 use Rattle.constraint_model.specs.Fits.{constant_of}
 
--- numbers, each once, and the terms of the declared arrays
+-- numbers in an order, and the terms of the declared arrays
 pub record KnownConstants : Type 0 where
   pub numbers : List ℤ
   pub arrays : List (List Term)

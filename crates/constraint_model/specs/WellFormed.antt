@@ -1,6 +1,6 @@
 -- What holds of the model of every text: declared bounds and numbers are in the profile, terms are declared variables of
--- the right type, each constraint has arguments that fit it, and of these the declared arrays their numbers, the search has all declared variables and no others, and no
--- limit is passed.
+-- the right type, each constraint has arguments that fit it, an array with a number has the terms of the declared array at
+-- that place, the search has all declared variables and no others, and no limit is passed.
 use Rattle.std.specs.Prelude.{◌≡◌, ◌⊎◌, ℕ, ◌≤◌, ◌<◌, ℤ, pos, List, [], ◌++◌, length, fold, flat_map, sum_by, slice_index_or, All, Bool, false, IsTrue, IsSome}
 use Rattle.constraint_model.specs.declared.model.Term.{Term}
 use Rattle.constraint_model.specs.declared.model.VarDecl.{VarDecl}
@@ -11,7 +11,7 @@ use Rattle.constraint_model.specs.declared.model.FznModel.{FznModel}
 use Rattle.constraint_model.specs.declared.meanings.Scalar.{Scalar}
 use Rattle.constraint_model.specs.declared.meanings.Meaning.{Meaning}
 use Rattle.constraint_model.specs.Numbers.{IsInProfile}
-use Rattle.constraint_model.specs.Arrays.{HasNumber}
+use Rattle.constraint_model.specs.Arrays.{HaveNumbers}
 use Rattle.constraint_model.specs.Ranges.{Range, AreApart}
 use Rattle.constraint_model.specs.Fits.{row_for, constraint_on, constants_in, goal_constants, add_once, kernels_of}
 use Rattle.constraint_model.specs.Searches.{IsSearchOf}
@@ -71,7 +71,7 @@ constants_of model = fold add_once [] (flat_map constants_in model.constraints +
 pub record IsWellFormed (model : FznModel) : Type 0 where
   pub vars : All IsDeclaration model.vars
   pub constraints : All (IsConstraintOf model.vars) model.constraints
-  pub numbered : All (λ c. All (HasNumber model.arrays) c.operands) model.constraints
+  pub numbered : HaveNumbers model.arrays model.constraints
   pub search : IsSearchOf model
   pub objective : IsGoalOf model.vars model.goal
   pub outputs : All (IsOutputOf model.vars) model.output

@@ -1,5 +1,5 @@
 -- What the variables of a program are numbered by: its declared variables and constants, which are few, and terms that are
--- among them.
+-- among them; beside them the declared arrays.
 use Rattle.std.specs.Prelude.{ℕ, ℤ, ◌<◌, ◌≤◌, List, length}
 use Rattle.std.specs.List.{All}
 use Rattle.constraint_model.specs.declared.model.Term.{Term}
@@ -22,7 +22,7 @@ pub record Placing : Type 0 where
   pub numbering : Numbering
   pub arrays : List (List Term)
 
--- the numbering by so many declared variables and these constants, with the arrays beside these
+-- the numbering by so many declared variables and these constants, and the declared arrays
 abbrev pub placing_of : ℕ → KnownConstants → Placing
 placing_of count known = record { numbering = record { count = count; constants = known.numbers }; arrays = known.arrays }
 

@@ -1,7 +1,7 @@
 //! The constants that need a variable of their own, and the declared arrays.
 
-ghost use Rattle.std.specs.Prelude.{◌≡◌, [], All, OnOk, IfOk, fold, flat_map};
-ghost use Rattle.constraint_model.specs.Arrays.{HasNumber};
+ghost use Rattle.std.specs.Prelude.{◌≡◌, [], OnOk, IfOk, fold, flat_map};
+ghost use Rattle.constraint_model.specs.Arrays.{HaveNumbers};
 ghost use Rattle.constraint_model.specs.Fits.{add_once, constants_in};
 ghost use Rattle.constraint_model.specs.Fits.{goal_constants};
 ghost use Rattle.constraint_model.specs.WellFormed.{constants_of};
@@ -13,7 +13,7 @@ use std::alloc::{AllocError, Global};
 /// The numbers other than 1 that stand where variables may, each once, in the order in which they first stand, with
 /// their places; beside them the declared arrays.
 pub(crate) fn constant_set(alloc: Global, model: &FznModel) -> Result<Constants, AllocError>
-    requires { All (λ c. All (HasNumber model.now.arrays) c.operands) model.now.constraints }
+    requires { HaveNumbers model.now.arrays model.now.constraints }
     ensures { IfOk result (λ found. found ≡ record { numbers = constants_of model.now; arrays = model.now.arrays }) }
 {
     let mut found = known_arrays(alloc, model.arrays.as_slice())?;
@@ -38,7 +38,7 @@ fn add_constraint_constants(
     found: &mut Constants,
     constraints: &[Constraint],
 ) -> Result<(), AllocError>
-    requires { All (λ c. All (HasNumber found.old.arrays) c.operands) constraints.now }
+    requires { HaveNumbers found.old.arrays constraints.now }
     ensures added { OnOk result (found.new.numbers ≡ fold add_once found.old.numbers (flat_map constants_in constraints.now)) }
     ensures arrays { found.new.arrays ≡ found.old.arrays }
 {

@@ -1,7 +1,7 @@
 //! The kernels of constraints.
 
 ghost use Rattle.std.specs.Prelude.{◌≡◌, ◌++◌, flat_map, All, IfOk, OnOk};
-ghost use Rattle.constraint_model.specs.Arrays.{HasNumber};
+ghost use Rattle.constraint_model.specs.Arrays.{HasNumber, HaveNumbers};
 ghost use Rattle.decompose.specs.Kernels.{kernels_on};
 ghost use Rattle.decompose.specs.Places.{HasDeclared};
 
@@ -96,7 +96,7 @@ pub(crate) fn kernels_of(
     constraints: &[Constraint],
 ) -> Result<ListOf<Kernel>, AllocError>
     requires declared { All (λ c. All (HasDeclared places.now.numbering.count) c.operands) constraints.now }
-    requires numbered { All (λ c. All (HasNumber places.now.arrays) c.operands) constraints.now }
+    requires numbered { HaveNumbers places.now.arrays constraints.now }
     ensures { IfOk result (λ kernels. kernels ≡ flat_map (kernels_on places.now.numbering) constraints.now) }
 {
     let mut kernels = ListOf::new(alloc);

@@ -1,4 +1,4 @@
-//! What stands in a program for the long declared arrays that several constraints name.
+//! What stands in a program for the long declared arrays that are named twice or more.
 
 ghost use Rattle.std.specs.Prelude.{◌≡◌, ◌++◌, [], ◌∷◌, IfSome, OnOk, OnErr, Some, Contains};
 

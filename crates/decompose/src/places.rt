@@ -3,7 +3,7 @@
 ghost use Rattle.std.specs.Prelude.{◌≡◌, ◌≤◌, ◌++◌, map, length, slice_get, Some, All, IfOk, OnOk};
 ghost use Rattle.std.specs.List.{position_or_len};
 ghost use Rattle.std.specs.Ordering.{int_eq};
-ghost use Rattle.constraint_model.specs.Arrays.{IsNumbered, HasNumber};
+ghost use Rattle.constraint_model.specs.Arrays.{IsNumbered, HasNumber, HaveNumbers};
 ghost use Rattle.constraint_model.specs.Limits.{most_constants};
 ghost use Rattle.decompose.specs.Kernels.{variable_of, variables_of, number_of};
 ghost use Rattle.decompose.specs.Mapped.{IsMapped};
@@ -242,7 +242,7 @@ impl Places {
         constraints: &[Constraint],
     ) -> Result<Places, AllocError>
         requires declared { All (λ c. All (HasDeclared self.numbering.count) c.operands) constraints.now }
-        requires numbered { All (λ c. All (HasNumber self.arrays) c.operands) constraints.now }
+        requires numbered { HaveNumbers self.arrays constraints.now }
         ensures { IfOk result (λ places. places ≡ self) }
     {
         let mut places = self;

@@ -26,7 +26,7 @@ use Rattle.constraint_model.specs.Ranges.{Range}
 use Rattle.fzn_model.specs.declared.effect.Effect.{Effect}
 use Rattle.fzn_model.specs.Scopes.{Scope, AreNumbered, entry_at, all_some, array_literal, simple_at, expr_meaning}
 use Rattle.fzn_model.specs.Effects.{Reading, nothing, numbered, with_number, arrays_in, array_terms, membership, equality, domain_constraints, value_constraints, element_constraints, is_bool_shape, declares_variable, term_in, terms_in, value_of, variable_effect, parameter_effect, scalar_effect, meanings_of, no_effect, constraint_alone, effect_of, with_item, reading_of}
-use Rattle.fzn_model.specs.Drafts.{HaveNumbers}
+use Rattle.constraint_model.specs.Arrays.{HaveNumbers}
 use Rattle.fzn_model.proofs.MeaningLaws.{each_append, each_weaker, found}
 
 -- ---- more arrays

@@ -22,7 +22,7 @@ use Rattle.constraint_model.specs.Fits.{constants_in, goal_constants, add_once, 
 use Rattle.fzn_model.specs.Effects.{Reading, nothing, numbered, with_number, joined, effect_of, with_item, reading_of, solved_constants}
 use Rattle.fzn_model.specs.Faults.{fault_of, has_long_list, is_too_large}
 use Rattle.constraint_model.specs.Limits.{most_vars, most_kernels, most_constants}
-use Rattle.fzn_model.specs.Drafts.{HaveNumbers}
+use Rattle.constraint_model.specs.Arrays.{HaveNumbers}
 use Rattle.fzn_model.specs.Resolving.{AreLawful, IsModelOf, model_with}
 use Rattle.constraint_model.specs.WellFormed.{IsDeclaration, IsMeaningOf, IsConstraintOf, IsGoalOf, IsOutputOf, IsWellFormed}
 use Rattle.fzn_model.proofs.MeaningLaws.{SetLaws, each_append, each_weaker, each_option, meaning_stays, constraint_stays, output_stays, AreNames}

@@ -1,11 +1,8 @@
 -- A draft of the model as what stands of the text after some of its items.
-use Rattle.std.specs.Prelude.{◌≡◌, ◌+◌, List, ◌++◌, All, length, map, fold, flat_map, sum_by, None, IfSome, option_to_list}
+use Rattle.std.specs.Prelude.{◌≡◌, ◌+◌, ◌++◌, length, map, fold, flat_map, sum_by, None, IfSome, option_to_list}
 use Rattle.std.specs.Option.{option_or}
-use Rattle.constraint_model.specs.declared.model.Term.{Term}
-use Rattle.constraint_model.specs.declared.model.Constraint.{Constraint}
 use Rattle.fzn_model.specs.declared.draft.Draft.{Draft}
 use Rattle.fzn_model.specs.declared.effect.Effect.{Effect}
-use Rattle.constraint_model.specs.Arrays.{HasNumber}
 use Rattle.constraint_model.specs.Fits.{add_once, constants_in, kernels_of}
 use Rattle.fzn_model.specs.Scopes.{Scope, meaning_of}
 use Rattle.fzn_model.specs.Effects.{Reading, numbered, arrays_in, solved_constants}
@@ -51,7 +48,3 @@ put before more = record {
 -- an effect declares no name that was declared
 abbrev pub IsNew : Scope → Effect → Type 0
 IsNew scope more = IfSome more.declared (λ d. meaning_of scope d.0 ≡ None)
-
--- what stands in constraints: an array of a number has the terms of the declared array at that place
-abbrev pub HaveNumbers : List (List Term) → List Constraint → Type 0
-HaveNumbers arrays constraints = All (λ c. All (HasNumber arrays) c.operands) constraints

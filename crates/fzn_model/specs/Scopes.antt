@@ -23,7 +23,7 @@ Scope = List (List ℕ × Meaning)
 abbrev pub declared_in : List (Vec ℕ Global × Meaning) → Scope
 declared_in entries = map (λ entry. (entry.0.items, entry.1)) entries
 
--- what names stand for: an array of a number has the terms of the declared array at that place
+-- what names stand for: an array with a number has the terms of the declared array at that place
 abbrev pub AreNumbered : List (List Term) → Scope → Type 0
 AreNumbered arrays scope = All (λ d. HasNumber arrays (operand_of d.1)) scope
 
@@ -75,7 +75,7 @@ simple_at text scope (Elem.Float t) = None
 simple_at text scope (Elem.Name t) = meaning_of scope (spelling text t)
 simple_at text scope (Elem.Set s) = Some (Meaning.Set (set_at text s))
 
--- an array that isn't a declared one
+-- an array as it is written out, which has no number
 abbrev pub array_literal : List Scalar → Meaning
 array_literal entries = Meaning.Row (record { entries = entries; number = None })
 

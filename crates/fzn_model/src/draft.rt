@@ -6,7 +6,8 @@ ghost use Rattle.fzn_parser.specs.Parsing.{item_tree};
 ghost use Rattle.constraint_model.specs.Fits.{add_once, constants_in, kernels_of};
 ghost use Rattle.constraint_model.specs.Limits as limits;
 ghost use Rattle.fzn_model.specs.declared.fault_kinds.FaultKind.{FaultKind as Kind};
-ghost use Rattle.fzn_model.specs.Drafts.{seen, counted, put, IsNew, HaveNumbers};
+ghost use Rattle.constraint_model.specs.Arrays.{HaveNumbers};
+ghost use Rattle.fzn_model.specs.Drafts.{seen, counted, put, IsNew};
 ghost use Rattle.fzn_model.specs.Scopes.{AreNumbered, meaning_of};
 ghost use Rattle.fzn_model.specs.Effects as effects;
 ghost use Rattle.fzn_model.specs.Faults as faults;
@@ -101,7 +102,7 @@ fn add_goal_constant(
     }
 }
 
-/// What is declared, where it is an array with its number among the declared ones, whose terms are kept.
+/// What is declared; an array gets its number, and its terms are kept behind those of the arrays before it.
 fn numbered(alloc: Global, constants: &mut Constants, meaning: Meaning) -> Result<Meaning, Stop>
     ensures number { IfOk result (λ m. m ≡ effects.with_number (length constants.old.arrays) meaning) }
     ensures kept { OnOk result (constants.new ≡ record { numbers = constants.old.numbers; arrays = constants.old.arrays ++ effects.array_terms meaning }) }

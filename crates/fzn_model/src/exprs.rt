@@ -129,7 +129,7 @@ fn entries_at(
     Ok(Some(scalars))
 }
 
-/// The array of these entries, where each is a boolean or an integer. It isn't a declared one, and has no number.
+/// The array of these entries as it is written out, where each is a boolean or an integer. It has no number.
 fn row_at(
     alloc: Global,
     text: &[u8],

@@ -241,6 +241,14 @@ const ARRAYS: &[Case] = &[
                     array_int_maximum #0 [ #0 4 ] @1 \n\
                     int_lin_le [ ] @2 [ ] 0 \n",
     },
+    Case {
+        part: Part::Constraints,
+        text: "array [1..1] of int: a = [3]; var int: x; constraint int_lin_le(a, [x], 3); \
+        array [1..1] of int: c = [3]; constraint int_lin_le(c, [x], 3); constraint int_lin_le(a, c, 9); solve satisfy;",
+        shown: "int_lin_le [ 3 ] @0 [ #0 ] 3 \n\
+                    int_lin_le [ 3 ] @1 [ #0 ] 3 \n\
+                    int_lin_le [ 3 ] @0 [ 3 ] @1 9 \n",
+    },
 ];
 
 /// Declarations add constraints in their order.

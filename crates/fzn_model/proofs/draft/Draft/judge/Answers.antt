@@ -1,7 +1,8 @@
 use Rattle.std.proofs.Common.{◌≡◌, ◌∙◌, ap, sym, subst, ◌++◌, None, length}
 use Rattle.fzn_parser.specs.Items.{what_tree}
 use Rattle.fzn_model.specs.declared.effect.Effect.{Effect}
-use Rattle.fzn_model.specs.Drafts.{seen, HaveNumbers}
+use Rattle.constraint_model.specs.Arrays.{HaveNumbers}
+use Rattle.fzn_model.specs.Drafts.{seen}
 use Rattle.fzn_model.specs.Effects.{effect_of}
 use Rattle.fzn_model.specs.Faults.{fault_of, own_tests, place_tests, first_kind, Refuses}
 use Rattle.fzn_model.proofs.ArrayLaws.{effect_numbered}

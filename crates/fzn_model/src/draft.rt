@@ -103,7 +103,11 @@ fn add_goal_constant(
 }
 
 /// What is declared; an array gets its number, and its terms are kept behind those of the arrays before it.
-fn numbered(alloc: Global, constants: &mut Constants, meaning: Meaning) -> Result<Meaning, Stop>
+fn numbered(
+    alloc: Global,
+    constants: &mut Constants,
+    meaning: Meaning,
+) -> Result<Meaning, AllocError>
     ensures number { IfOk result (λ m. m ≡ effects.with_number (length constants.old.arrays) meaning) }
     ensures kept { OnOk result (constants.new ≡ record { numbers = constants.old.numbers; arrays = constants.old.arrays ++ effects.array_terms meaning }) }
 {
@@ -126,7 +130,7 @@ fn declare(
     scope: &mut Scope,
     constants: &mut Constants,
     declared: Option<(ListOf<u8>, Meaning)>,
-) -> Result<(), Stop>
+) -> Result<(), AllocError>
     requires new { IfSome declared (λ d. meaning_of scope.old d.0 ≡ None) }
     ensures names { OnOk result (scope.new ≡ scope.old ++ map (effects.numbered (length constants.old.arrays)) (option_to_list declared)) }
     ensures kept { OnOk result (constants.new.arrays ≡ constants.old.arrays ++ flat_map effects.arrays_in (option_to_list declared)) }
@@ -140,7 +144,7 @@ fn declare(
 }
 
 /// Puts constraints behind others.
-fn push_all(list: &mut ListOf<Constraint>, more: ListOf<Constraint>) -> Result<(), Stop>
+fn push_all(list: &mut ListOf<Constraint>, more: ListOf<Constraint>) -> Result<(), AllocError>
     ensures { OnOk result (list.new ≡ list.old ++ more) }
 {
     for constraint in more.into_vec() {
@@ -197,7 +201,7 @@ impl Draft {
     }
 
     /// Puts behind what stands what an item adds, which was counted. A declared array gets its number.
-    fn put(&mut self, alloc: Global, effect: Effect) -> Result<(), Stop>
+    fn put(&mut self, alloc: Global, effect: Effect) -> Result<(), AllocError>
         requires new { IsNew self.old.scope effect }
         ensures { OnOk result (seen self.new ≡ put (seen self.old) effect) }
     {

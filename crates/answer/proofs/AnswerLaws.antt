@@ -6,7 +6,7 @@ use Rattle.constraint_model.specs.declared.model.FznModel.{FznModel}
 use Rattle.solution_lists.specs.Order.{IsBefore, IsLeastSolution, IsPlainSearch}
 use Rattle.fzn_print.specs.declared.marks.Mark.{Mark}
 use Rattle.answer.specs.declared.options.Options.{Options}
-use Rattle.answer.specs.declared.options.Answer.{Answer}
+use Rattle.fzn_print.specs.declared.answers.Answer.{Answer}
 use Rattle.answer.specs.Lists.{Assignment, ListsSolutions}
 use Rattle.answer.specs.Results.{listed, first_collected}
 use Rattle.answer.specs.Finished.{IsFirst, Gives, IsFinished}

@@ -25,7 +25,7 @@ use Rattle.search.specs.Ends.{EndsSpent}
 use Rattle.search.specs.Laws.{RecordsSolutions}
 use Rattle.fzn_print.specs.declared.marks.Mark.{Mark}
 use Rattle.answer.specs.declared.options.Options.{Options}
-use Rattle.answer.specs.declared.options.Answer.{Answer}
+use Rattle.fzn_print.specs.declared.answers.Answer.{Answer}
 use Rattle.answer.specs.Least.{IsLeastCost}
 use Rattle.answer.specs.Cuts.{cut_to}
 use Rattle.answer.specs.Lists.{Assignment, ListsSolutions, IsSolutionAt}

@@ -2,7 +2,7 @@
 use Rattle.std.specs.Prelude.{◌⊎◌}
 use Rattle.constraint_model.specs.declared.model.FznModel.{FznModel}
 use Rattle.answer.specs.declared.options.Options.{Options}
-use Rattle.answer.specs.declared.options.Answer.{Answer}
+use Rattle.fzn_print.specs.declared.answers.Answer.{Answer}
 use Rattle.answer.specs.Finished.{IsFinished}
 use Rattle.answer.specs.Unfinished.{IsUnfinished}
 

@@ -6,7 +6,7 @@ use Rattle.constraint_model.specs.declared.model.Goal.{Goal}
 use Rattle.constraint_model.specs.declared.model.FznModel.{FznModel}
 use Rattle.constraint_model.specs.Relations.{IsSolution}
 use Rattle.fzn_print.specs.declared.marks.Mark.{Mark}
-use Rattle.answer.specs.declared.options.Answer.{Answer}
+use Rattle.fzn_print.specs.declared.answers.Answer.{Answer}
 use Rattle.answer.specs.Least.{IsLeastCost}
 use Rattle.answer.specs.Lists.{Assignment, ListsSolutions, ListsSolutionsAt}
 

@@ -6,7 +6,7 @@ use Rattle.fzn_print.specs.declared.marks.Mark.{Mark}
 use Rattle.search.specs.declared.run.Run.{Run}
 use Rattle.search.specs.Premises.{IsRun}
 use Rattle.answer.specs.declared.options.Options.{Options}
-use Rattle.answer.specs.declared.options.Answer.{Answer}
+use Rattle.fzn_print.specs.declared.answers.Answer.{Answer}
 use Rattle.answer.specs.Lists.{Assignment}
 use Rattle.answer.specs.Finished.{IsFinished}
 use Rattle.answer.specs.Unfinished.{mark_where, FindsBest}

@@ -6,7 +6,7 @@ use Rattle.constraint_model.specs.Searches.{IsSearchOf}
 use Rattle.solution_lists.specs.Order.{IsLeastSolution, IsPlainSearch}
 use Rattle.fzn_print.specs.declared.marks.Mark.{Mark}
 use Rattle.answer.specs.declared.options.Options.{Options}
-use Rattle.answer.specs.declared.options.Answer.{Answer}
+use Rattle.fzn_print.specs.declared.answers.Answer.{Answer}
 use Rattle.answer.specs.Finished.{IsFinished}
 use Rattle.answer.specs.Unfinished.{IsUnfinished}
 use Rattle.answer.specs.Answers.{IsAnswer}

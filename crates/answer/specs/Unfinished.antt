@@ -12,7 +12,7 @@ use Rattle.search.specs.declared.ends.AllEnd.{AllEnd}
 use Rattle.search.specs.declared.ends.LeastEnd.{LeastEnd}
 use Rattle.fzn_print.specs.declared.marks.Mark.{Mark}
 use Rattle.answer.specs.declared.options.Options.{Options}
-use Rattle.answer.specs.declared.options.Answer.{Answer}
+use Rattle.fzn_print.specs.declared.answers.Answer.{Answer}
 use Rattle.answer.specs.Least.{IsLeastCost}
 use Rattle.answer.specs.Cuts.{cut_to}
 use Rattle.answer.specs.Lists.{Assignment}

@@ -12,5 +12,6 @@ mod options;
 mod plan;
 
 pub use answering::{Gates, answer};
+pub use fzn_print::Answer;
 pub use laws::{law_gives_one, law_gives_smallest, law_one_finished, law_unfinished_marks};
-pub use options::{Answer, Options};
+pub use options::Options;

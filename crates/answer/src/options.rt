@@ -1,7 +1,4 @@
-//! What is asked of the solver, and what it answers.
-
-use fzn_print::Mark;
-use list_of::ListOf;
+//! What is asked of the solver.
 
 /// How a model is solved.
 #[derive(Debug, Clone, Copy, PartialEq, Eq)]
@@ -18,13 +15,4 @@ pub struct Options {
     pub node_limit: u64,
     /// The most rounds of one propagation; 0 is no limit.
     pub round_limit: u64,
-}
-
-/// What is answered.
-#[derive(Drop)]
-pub struct Answer {
-    /// The solutions that are given, one number for each declared variable.
-    pub solutions: ListOf<ListOf<i64>>,
-    /// What is known besides.
-    pub mark: Mark,
 }

@@ -10,6 +10,7 @@ use Rattle.constraint_model.specs.declared.model.Output.{Output}
 use Rattle.constraint_model.specs.declared.model.FznModel.{FznModel}
 use Rattle.constraint_model.specs.Ranges.{Range}
 use Rattle.constraint_model.specs.Relations.{value}
+use Rattle.fzn_print.specs.declared.answers.Answer.{Answer}
 use Rattle.fzn_print.specs.declared.marks.Mark.{Mark}
 
 -- the end of a line
@@ -75,3 +76,7 @@ mark_text_of Mark.Plain = []
 mark_text_of Mark.Complete = codes "==========" ++ line_end
 mark_text_of Mark.Unsatisfiable = codes "=====UNSATISFIABLE=====" ++ line_end
 mark_text_of Mark.Unknown = codes "=====UNKNOWN=====" ++ line_end
+
+-- an answer: its solutions, each with its end, and its mark
+abbrev pub answer_text : FznModel → Answer → List ℕ
+answer_text model answer = flat_map (solution_text model) answer.solutions ++ mark_text_of answer.mark

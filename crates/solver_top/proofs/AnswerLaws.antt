@@ -3,12 +3,13 @@ use Rattle.std.proofs.Common.{◌≡◌, ℕ, List, Bool, refl, sym, ap, subst, 
 use Rattle.constraint_model.specs.declared.model.FznModel.{FznModel}
 use Rattle.constraint_model.specs.Searches.{IsSearchOf}
 use Rattle.command_line.specs.declared.words.Options.{Options}
-use Rattle.answer.specs.declared.options.Answer.{Answer}
+use Rattle.fzn_print.specs.declared.answers.Answer.{Answer}
 use Rattle.answer.specs.Finished.{IsFinished}
 use Rattle.answer.specs.Laws.{OneFinished}
+use Rattle.fzn_print.specs.AnswerText.{answer_text}
 use Rattle.made_model.specs.Made.{summary}
 use Rattle.solver_top.specs.Texts.{IsTextOf}
-use Rattle.solver_top.specs.Answers.{HasNoLimit, IsAnswerOf, IsAnswerWith, IsLineOf, UnfinishedMarks, answer_text, known_objective}
+use Rattle.solver_top.specs.Answers.{HasNoLimit, IsAnswerOf, IsAnswerWith, IsLineOf, UnfinishedMarks, known_objective}
 use Rattle.solver_top.proofs.KnownLaws.{known_is}
 
 module _ (one : (text : List ℕ) (m n : FznModel) → IsTextOf text m → IsTextOf text n → m ≡ n) (finished : OneFinished)

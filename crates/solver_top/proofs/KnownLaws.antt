@@ -4,7 +4,7 @@ use Rattle.constraint_model.specs.declared.model.FznModel.{FznModel}
 use Rattle.constraint_model.specs.declared.model.Goal.{Goal}
 use Rattle.fzn_print.specs.declared.marks.Mark.{Mark}
 use Rattle.command_line.specs.declared.words.Options.{Options}
-use Rattle.answer.specs.declared.options.Answer.{Answer}
+use Rattle.fzn_print.specs.declared.answers.Answer.{Answer}
 use Rattle.answer.specs.Lists.{Assignment}
 use Rattle.answer.specs.declared.options.Options.{Options as SearchOptions}
 use Rattle.answer.specs.Finished.{Gives, IsFinished, IsUnsatisfiable}

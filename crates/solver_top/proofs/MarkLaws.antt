@@ -3,7 +3,7 @@ use Rattle.std.proofs.Common.{◌≡◌, ◌⊎◌, inl, inr, ◌++◌, Bool, tr
 use Rattle.constraint_model.specs.declared.model.FznModel.{FznModel}
 use Rattle.constraint_model.specs.declared.model.Goal.{Goal}
 use Rattle.answer.specs.declared.options.Options.{Options}
-use Rattle.answer.specs.declared.options.Answer.{Answer}
+use Rattle.fzn_print.specs.declared.answers.Answer.{Answer}
 use Rattle.answer.specs.Lists.{Assignment}
 use Rattle.answer.specs.Unfinished.{GivesCollected, IsBestCollected, IsLeastCollected, mark_where}
 use Rattle.solver_top.specs.Answers.{IsMarkedOpen, UnfinishedMarks}

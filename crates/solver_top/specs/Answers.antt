@@ -5,11 +5,11 @@ use Rattle.std.specs.Prelude.{◌≡◌, ◌≢◌, ◌⊎◌, ℕ, ℤ, List, [
 use Rattle.constraint_model.specs.declared.model.FznModel.{FznModel}
 use Rattle.constraint_model.specs.declared.model.Goal.{Goal}
 use Rattle.constraint_model.specs.Relations.{value}
-use Rattle.fzn_print.specs.AnswerText.{solution_text, mark_text_of}
+use Rattle.fzn_print.specs.AnswerText.{answer_text}
 use Rattle.fzn_print.specs.declared.marks.Mark.{Mark}
 use Rattle.command_line.specs.declared.words.Options.{Options}
 use Rattle.answer.specs.declared.options.Options.{Options as SearchOptions}
-use Rattle.answer.specs.declared.options.Answer.{Answer}
+use Rattle.fzn_print.specs.declared.answers.Answer.{Answer}
 use Rattle.answer.specs.Lists.{Assignment}
 use Rattle.answer.specs.Finished.{IsFinished}
 use Rattle.answer.specs.Unfinished.{IsUnfinished}
@@ -36,12 +36,6 @@ HasNoLimit o = (o.node_limit ≡ 0) × (o.round_limit ≡ 0)
 pub record IsAnswerWith (options : Options) (model : FznModel) (answer : Answer) : Type 0 where
   pub is_answer : IsAnswer model (search_options options) answer
   pub whole : options.node_limit ≡ 0 → options.round_limit ≡ 0 → IsFinished model options.all answer
-
--- ---- the text of an answer
-
--- the solutions, each with its end, and the mark
-abbrev pub answer_text : FznModel → Answer → List ℕ
-answer_text model answer = flat_map (solution_text model) answer.solutions ++ mark_text_of answer.mark
 
 -- these bytes are an answer of the text's model
 pub record IsAnswerOf (options : Options) (text bytes : List ℕ) : Type 0 where

@@ -1,47 +1,14 @@
-//! The text of an answer.
+//! What is told of the objective.
 
-ghost use Rattle.std.specs.Prelude.{◌≡◌, ◌++◌, IfOk, OnOk, flat_map};
+ghost use Rattle.std.specs.Prelude.{◌≡◌};
 ghost use Rattle.constraint_model.specs.Relations.{value};
-ghost use Rattle.fzn_print.specs.AnswerText.{solution_text};
-ghost use Rattle.solver_top.specs.Answers.{answer_text, first_objective, known_objective, objective_in};
+ghost use Rattle.solver_top.specs.Answers.{first_objective, known_objective, objective_in};
 
 use answer::Answer;
 use constraint_model::{Goal, Term};
 use fzn_model::FznModel;
-use fzn_print::{Mark, mark_text, print_solution};
-use interval::NoMemory;
+use fzn_print::Mark;
 use list_of::ListOf;
-use std::alloc::Global;
-
-/// The solutions of an answer, each with its end, and its mark.
-pub(crate) fn print_answer(
-    alloc: Global,
-    model: &FznModel,
-    answer: &Answer,
-) -> Result<Vec<u8>, NoMemory>
-    ensures { IfOk result (λ text. text.items ≡ answer_text model.now answer.now) }
-{
-    let mut text = Vec::new(alloc);
-    push_solutions(alloc, &mut text, model, answer.solutions.as_slice())?;
-    text.extend_from_slice(mark_text(answer.mark).as_bytes())?;
-    Ok(text)
-}
-
-/// Adds the texts of solutions.
-fn push_solutions(
-    alloc: Global,
-    text: &mut Vec<u8>,
-    model: &FznModel,
-    solutions: &[ListOf<i64>],
-) -> Result<(), NoMemory>
-    ensures { OnOk result (text.new.items ≡ text.old.items ++ flat_map (solution_text model.now) solutions.now) }
-{
-    for solution in solutions {
-        let lines = print_solution(alloc, model, solution.as_slice())?;
-        text.extend_from_slice(&lines)?;
-    }
-    Ok(())
-}
 
 /// The number of the objective in the solution that is given, where the search came to its end and there is an objective.
 pub(crate) fn known_objective(model: &FznModel, answer: &Answer) -> Option<i64>

@@ -1,7 +1,7 @@
 use Rattle.std.proofs.Common.{◌≡◌, ◌++◌, take}
 use Rattle.std.specs.Prelude.{flat_map}
 use Rattle.fzn_print.specs.AnswerText.{solution_text}
-use Rattle.solver_top.proofs.printing.push_solutions.Given as goal
+use Rattle.fzn_print.proofs.answers.push_solutions.Given as goal
 
 -- the texts of the solutions so far
 abbrev pub invariant-loop-solution : goal.invariant-loop-solution

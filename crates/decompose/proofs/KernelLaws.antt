@@ -1,6 +1,6 @@
 -- The one kernel of a sum, or of the greatest or the least of some, in its terms and in its variables.
 use Rattle.std.proofs.Common.{◌≡◌, ℤ, List, [], ◌∷◌, refl}
-use Rattle.guarded_tell.specs.declared.tell.Lit.{Lit}
+use Rattle.guarded_tell.specs.Words.{Lit}
 use Rattle.constraint_model.specs.declared.model.Term.{Term}
 use Rattle.decompose.specs.Kernels.{variable_of, variables_of}
 use Rattle.decompose.specs.Places.{Numbering}

@@ -9,7 +9,7 @@ use Rattle.std.proofs.lemmas.Int.{ints}
 use Rattle.std.proofs.lemmas.List.{length-map, map-append}
 use Rattle.std.proofs.lemmas.List.Elements.{All-nil, All-cons, All-head, All-tail, All-push}
 use Rattle.interval.specs.Limits.{IsNumber, largest_number}
-use Rattle.guarded_tell.specs.declared.tell.Lit.{Lit}
+use Rattle.guarded_tell.specs.Words.{Lit}
 use Rattle.guarded_tell.specs.declared.kernel.Kernel.{Kernel}
 use Rattle.guarded_tell.specs.Words.{value_of, literal_true}
 use Rattle.guarded_tell.specs.Linear.{sum_over, term_limit, term_value, IsLinear}

@@ -1,6 +1,6 @@
 -- What rows of the table share, so that one function adds the kernels of several names.
 use Rattle.std.specs.Prelude.{ℕ, ℤ, pos, List, [], ◌∷◌, map, Bool}
-use Rattle.guarded_tell.specs.declared.tell.Lit.{Lit}
+use Rattle.guarded_tell.specs.Words.{Lit}
 use Rattle.guarded_tell.specs.declared.kernel.Kernel.{Kernel}
 use Rattle.constraint_model.specs.declared.model.Term.{Term}
 use Rattle.decompose.specs.Kernels.{variable_of, variables_of, inequality, equation, some_of}

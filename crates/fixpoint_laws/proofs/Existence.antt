@@ -8,9 +8,9 @@ use Rattle.std.proofs.lemmas.List.Elements.{All-nil, All-cons, All-head, All-tai
 use Rattle.interval.specs.Limits.{IsBound}
 use Rattle.interval.specs.Boxes.{Bounds, IsInRange, IsInside, IsProper, IsCrossed, InsideOrder, width_sum_of}
 use Rattle.guarded_tell.specs.declared.kernel.Kernel.{Kernel}
-use Rattle.guarded_tell.specs.declared.tell.Tell.{Tell}
-use Rattle.guarded_tell.specs.declared.tell.Side.{Side}
-use Rattle.guarded_tell.specs.declared.tell.Side.TheVariants.{Low, High}
+use Rattle.guarded_tell.specs.Words.{Tell}
+use Rattle.guarded_tell.specs.Words.{Side}
+use Rattle.guarded_tell.specs.Words.{Low, High}
 use Rattle.guarded_tell.specs.Words.{Keeps, KeepsSide, IsProperIn}
 use Rattle.guarded_tell.specs.Kernels.{vars_of, tells, IsClosedUnder, IsKernel}
 use Rattle.fixpoint_laws.specs.Fixpoints.{IsClosed, IsGreatest, Fails, OneFixpoint}

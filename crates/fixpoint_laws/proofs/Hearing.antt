@@ -5,7 +5,7 @@ use Rattle.std.proofs.lemmas.Bool.{true≢false}
 use Rattle.std.proofs.lemmas.List.Elements.{All-nil, All-cons, All-head, All-tail}
 use Rattle.interval.specs.Boxes.{Bounds, IsInRange, IsInside, InsideOrder}
 use Rattle.interval.specs.Limits.{IsBound}
-use Rattle.guarded_tell.specs.declared.tell.Tell.{Tell}
+use Rattle.guarded_tell.specs.Words.{Tell}
 use Rattle.guarded_tell.specs.declared.kernel.Kernel.{Kernel}
 use Rattle.guarded_tell.specs.Words.{Keeps, IsProperIn, AgreeIn}
 use Rattle.guarded_tell.specs.Hearing.{HearsAll, MayHearAll}

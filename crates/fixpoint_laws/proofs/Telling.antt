@@ -3,9 +3,9 @@ use Rattle.std.proofs.Common.{◌≡◌, ◌≢◌, ℕ, ℤ, ◌<◌, length, a
 use Rattle.std.proofs.lemmas.Int.{ints, by_lt_z}
 use Rattle.interval.specs.Boxes.{Bounds, low_of, high_of, put_of, IsInside, IsInRange}
 use Rattle.interval.specs.Limits.{IsBound}
-use Rattle.guarded_tell.specs.declared.tell.Tell.{Tell}
-use Rattle.guarded_tell.specs.declared.tell.Side.{Side}
-use Rattle.guarded_tell.specs.declared.tell.Side.TheVariants.{Low, High}
+use Rattle.guarded_tell.specs.Words.{Tell}
+use Rattle.guarded_tell.specs.Words.{Side}
+use Rattle.guarded_tell.specs.Words.{Low, High}
 use Rattle.guarded_tell.specs.Words.{Keeps, KeepsSide}
 use Rattle.fixpoint_laws.specs.Rounds.{Narrows, NarrowsSide, told, told_side}
 use Rattle.fixpoint_laws.proofs.Boxes.{get_put, length_put}

@@ -8,9 +8,9 @@ use Rattle.interval.specs.Quotients.{floor_of, ceiling_of}
 use Rattle.interval.specs.Boxes.{Bounds, low_of, high_of, IsInside}
 use Rattle.guarded_tell.specs.declared.kernel.Kernel.{Kernel}
 use Rattle.guarded_tell.specs.declared.kernel.Kernel.TheVariants.{Le}
-use Rattle.guarded_tell.specs.declared.tell.Lit.{Lit}
-use Rattle.guarded_tell.specs.declared.tell.Tell.{Tell}
-use Rattle.guarded_tell.specs.declared.tell.Side.TheVariants.{Low, High}
+use Rattle.guarded_tell.specs.Words.{Lit}
+use Rattle.guarded_tell.specs.Words.{Tell}
+use Rattle.guarded_tell.specs.Words.{Low, High}
 use Rattle.guarded_tell.specs.Words.{Keeps, is_sure, is_out}
 use Rattle.guarded_tell.specs.Linear.{sum_over, least_of, greatest_of}
 use Rattle.guarded_tell.specs.Kernels.{tells}

@@ -4,9 +4,9 @@ use Rattle.std.specs.Prelude.{ℕ, zero, suc, ◌+◌, ℤ, Bool, false, cond, �
 use Rattle.std.specs.List.{All}
 use Rattle.interval.specs.Boxes.{Bounds, low_of, high_of, IsInRange, width_sum_of}
 use Rattle.guarded_tell.specs.declared.kernel.Kernel.{Kernel}
-use Rattle.guarded_tell.specs.declared.tell.Tell.{Tell}
-use Rattle.guarded_tell.specs.declared.tell.Side.{Side}
-use Rattle.guarded_tell.specs.declared.tell.Side.TheVariants.{Low, High}
+use Rattle.guarded_tell.specs.Words.{Tell}
+use Rattle.guarded_tell.specs.Words.{Side}
+use Rattle.guarded_tell.specs.Words.{Low, High}
 use Rattle.guarded_tell.specs.Kernels.{tells, IsKernel}
 use Rattle.fixpoint_laws.specs.Fixpoints.{IsGreatest, Fails}
 use Rattle.fixpoint_laws.specs.Rounds.{told}

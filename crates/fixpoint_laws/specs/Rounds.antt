@@ -2,9 +2,9 @@
 use Rattle.std.specs.Prelude.{ℕ, ℤ, List, ◌≡◌, ◌<ℤ◌, Bool, true}
 use Rattle.interval.specs.Boxes.{Bounds, low_of, high_of, put_of, IsInside, IsProper}
 use Rattle.guarded_tell.specs.declared.kernel.Kernel.{Kernel}
-use Rattle.guarded_tell.specs.declared.tell.Tell.{Tell}
-use Rattle.guarded_tell.specs.declared.tell.Side.{Side}
-use Rattle.guarded_tell.specs.declared.tell.Side.TheVariants.{Low, High}
+use Rattle.guarded_tell.specs.Words.{Tell}
+use Rattle.guarded_tell.specs.Words.{Side}
+use Rattle.guarded_tell.specs.Words.{Low, High}
 use Rattle.guarded_tell.specs.Words.{Keeps}
 use Rattle.guarded_tell.specs.Kernels.{IsClosedUnder}
 use Rattle.fixpoint_laws.specs.declared.settle.Settled.{Settled}

@@ -8,7 +8,7 @@ use Rattle.std.proofs.lemmas.List.Elements.{All-nil, All-cons, All-head, All-tai
 use Rattle.std.proofs.lemmas.List.Kept.{AllPairs-cons}
 use Rattle.interval.specs.Limits.{IsNumber, IsBound, bound_limit, largest_number, box_limit}
 use Rattle.interval.specs.Boxes.{IsInRange}
-use Rattle.guarded_tell.specs.declared.tell.Lit.{Lit}
+use Rattle.guarded_tell.specs.Words.{Lit}
 use Rattle.guarded_tell.specs.declared.kernel.Kernel.TheVariants.{Le, Eq, Times, Div, Mod, Abs, Max, Min, Clause, Element, InSet}
 use Rattle.guarded_tell.specs.Words.{AreVariables}
 use Rattle.guarded_tell.specs.Linear.{IsLinear, term_limit}

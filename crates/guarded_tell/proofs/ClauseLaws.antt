@@ -5,8 +5,8 @@ use Rattle.std.proofs.lemmas.List.Folds.{list_all_at}
 use Rattle.std.proofs.lemmas.List.Elements.{All-nil, All-append}
 use Rattle.std.specs.List.{All, list_all}
 use Rattle.std.specs.Prelude.{IsTrue}
-use Rattle.guarded_tell.specs.declared.tell.Lit.{Lit}
-use Rattle.guarded_tell.specs.declared.tell.Tell.{Tell}
+use Rattle.tells.specs.declared.tell.Lit.{Lit}
+use Rattle.tells.specs.declared.tell.Tell.{Tell}
 use Rattle.interval.specs.Limits.{IsNumber, bound_limit, ClampOrder}
 use Rattle.interval.specs.Boxes.{Bounds, low_of, high_of, IsPoint}
 use Rattle.guarded_tell.specs.Words.{when, low_tell, sign_tell, Keeps, literal_true, is_out, tell_true, IsProperIn, IsInsideIn, AgreeIn, SameValuesIn, AreVariables, value_of, point_of}

@@ -4,7 +4,7 @@ use Rattle.std.proofs.lemmas.List.{length-map, get_or-map}
 use Rattle.std.proofs.lemmas.List.Sums.{sum_by-cons}
 use Rattle.std.proofs.lemmas.Bool.Decides.{nat_tests}
 use Rattle.std.specs.List.{list_all, flat_map, count_by}
-use Rattle.guarded_tell.specs.declared.tell.Lit.{Lit}
+use Rattle.tells.specs.declared.tell.Lit.{Lit}
 use Rattle.interval.specs.Boxes.{Bounds}
 use Rattle.interval.specs.Limits.{bound_limit}
 use Rattle.guarded_tell.specs.Words.{low_tell, when, is_out, tell_true, AreVariables}

@@ -6,7 +6,7 @@ use Rattle.std.proofs.lemmas.List.{get_or_default}
 use Rattle.std.specs.List.{All}
 use Rattle.std.specs.Prelude.{IsTrue}
 use mir.Syntax.{w64}
-use Rattle.guarded_tell.specs.declared.tell.Lit.{Lit}
+use Rattle.tells.specs.declared.tell.Lit.{Lit}
 use Rattle.interval.specs.Limits.{IsNumber, IsBound, largest_number, bound_limit, clamp_of, ClampOrder}
 use Rattle.interval.specs.Boxes.{Bounds, low_of, high_of}
 use Rattle.guarded_tell.specs.Words.{low_tell, high_tell, Keeps, literal_true, is_out, value_of, point_of}

@@ -10,7 +10,7 @@ use Rattle.std.specs.Int.RustNames.{int_le}
 use Rattle.std.specs.Ordering.{int_eq}
 use Rattle.std.specs.List.{enumerate_from, filter, flat_map}
 use Rattle.guarded_tell.specs.declared.element.Hull.{Hull}
-use Rattle.guarded_tell.specs.declared.tell.Tell.{Tell}
+use Rattle.tells.specs.declared.tell.Tell.{Tell}
 use Rattle.interval.specs.Boxes.{Bounds, low_of, high_of}
 use Rattle.guarded_tell.specs.Words.{when}
 use Rattle.guarded_tell.specs.Extremes.{least_with, greatest_with, least_over, greatest_over}

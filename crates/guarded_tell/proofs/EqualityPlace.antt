@@ -4,8 +4,8 @@ use Rattle.std.proofs.lemmas.List.Elements.{All-append}
 use Rattle.std.specs.Int.RustNames.{int_lt}
 use Rattle.std.specs.List.{All, zip, flat_map}
 use Rattle.std.specs.Prelude.{IsTrue}
-use Rattle.guarded_tell.specs.declared.tell.Lit.{Lit}
-use Rattle.guarded_tell.specs.declared.tell.Tell.{Tell}
+use Rattle.tells.specs.declared.tell.Lit.{Lit}
+use Rattle.tells.specs.declared.tell.Tell.{Tell}
 use Rattle.interval.specs.Limits.{ClampOrder}
 use Rattle.interval.specs.Boxes.{Bounds, low_of, high_of}
 use Rattle.guarded_tell.specs.Words.{low_tell, high_tell, when, literal_true, is_sure, is_out, tell_true, tell_false, AreVariables, AgreeIn, SameValuesIn, value_of}

@@ -7,7 +7,7 @@ use Rattle.std.proofs.lemmas.List.Elements.{All-nil, All-cons, filter_more, filt
 use Rattle.std.specs.Int.{int_min, int_max}
 use Rattle.std.specs.List.{All, Any, filter}
 use Rattle.std.specs.Option.{option_to_list, is_some}
-use Rattle.guarded_tell.specs.declared.tell.Tell.{Tell}
+use Rattle.tells.specs.declared.tell.Tell.{Tell}
 use Rattle.guarded_tell.specs.Extremes.{least_with, greatest_with, least_over, greatest_over, sole, told_of}
 use Rattle.guarded_tell.proofs.Lists.{All-one}
 use Rattle.guarded_tell.proofs.LiteralLaws.{by_bool}

@@ -7,8 +7,8 @@ use Rattle.std.proofs.lemmas.List.Elements.{All-nil, All-append}
 use Rattle.std.specs.Int.{int_min, int_max}
 use Rattle.std.specs.List.{All, Any, filter, flat_map, list_any}
 use Rattle.std.specs.Prelude.{IsTrue}
-use Rattle.guarded_tell.specs.declared.tell.Lit.{Lit}
-use Rattle.guarded_tell.specs.declared.tell.Tell.{Tell}
+use Rattle.tells.specs.declared.tell.Lit.{Lit}
+use Rattle.tells.specs.declared.tell.Tell.{Tell}
 use Rattle.interval.specs.Limits.{IsNumber, IsBound, bound_limit, largest_number, clamp_of, ClampOrder}
 use Rattle.interval.specs.Boxes.{Bounds, low_of, high_of, IsPoint}
 use Rattle.guarded_tell.specs.Words.{when, low_tell, high_tell, Keeps, literal_true, sign_true, sign_tell, is_sure, is_out, tell_true, tell_false, IsProperIn, IsInsideIn, AgreeIn, SameValuesIn, AreVariables, value_of, point_of}

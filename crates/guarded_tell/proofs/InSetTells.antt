@@ -8,7 +8,7 @@ use Rattle.std.specs.Int.RustNames.{int_lt, int_le}
 use Rattle.std.specs.List.{filter, flat_map, list_any}
 use Rattle.std.specs.List.Sorted.{IsPartitionPoint, IsPartitionedBy}
 use Rattle.interval.specs.Boxes.{Bounds, low_of, high_of}
-use Rattle.guarded_tell.specs.declared.tell.Lit.{Lit}
+use Rattle.tells.specs.declared.tell.Lit.{Lit}
 use Rattle.guarded_tell.specs.Words.{low_tell, high_tell, when, is_sure, is_out, tell_true, tell_false}
 use Rattle.guarded_tell.specs.Extremes.{least_with, greatest_with, least_over, greatest_over}
 use Rattle.guarded_tell.specs.InSet.{has_number, has_all, has_some, ends_from, begins_by, from_tells, upto_tells, past_tells, before_tells, in_set_tells, in_set_tells_at, at_place, last_of, IsSet}

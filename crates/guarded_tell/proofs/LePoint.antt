@@ -6,7 +6,7 @@ use Rattle.std.proofs.lemmas.List.Elements.{All-append}
 use Rattle.std.specs.Int.RustNames.{int_lt, int_le}
 use Rattle.std.specs.List.{All, zip, flat_map}
 use Rattle.std.specs.Prelude.{IsTrue}
-use Rattle.guarded_tell.specs.declared.tell.Lit.{Lit}
+use Rattle.tells.specs.declared.tell.Lit.{Lit}
 use Rattle.interval.specs.Limits.{IsNumber, ClampOrder}
 use Rattle.interval.specs.Quotients.{QuotientOrder}
 use Rattle.interval.specs.Boxes.{Bounds, low_of, high_of, IsPoint}

@@ -5,7 +5,7 @@ use Rattle.std.proofs.lemmas.Bool.{both_ways}
 use Rattle.std.proofs.lemmas.List.Elements.{All-nil, All-cons, All-append}
 use Rattle.std.specs.Int.RustNames.{int_le}
 use Rattle.std.specs.List.{All, Any, filter}
-use Rattle.guarded_tell.specs.declared.tell.Tell.{Tell}
+use Rattle.tells.specs.declared.tell.Tell.{Tell}
 use Rattle.interval.specs.Limits.{IsNumber, IsBound, bound_limit, clamp_of, ClampOrder}
 use Rattle.interval.specs.Boxes.{Bounds, high_of, low_of, IsInRange, IsPoint}
 use Rattle.guarded_tell.specs.Words.{high_tell, low_tell, Keeps, IsProperIn, IsInsideIn, AgreeIn, SameValuesIn, AreVariables, value_of, point_of}

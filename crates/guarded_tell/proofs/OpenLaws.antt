@@ -7,7 +7,7 @@ use Rattle.std.proofs.Math.Nat.{mul-le-mul_left}
 use borrow.Author.Differences.{up, down}
 use Rattle.std.specs.Int.RustNames.{int_lt, int_le}
 use Rattle.std.specs.List.{All, zip, flat_map}
-use Rattle.guarded_tell.specs.declared.tell.Lit.{Lit}
+use Rattle.tells.specs.declared.tell.Lit.{Lit}
 use mir.Syntax.{w64}
 use Rattle.interval.specs.Limits.{IsBound, bound_limit, largest_number, ClampOrder}
 use Rattle.interval.specs.Boxes.{Bounds, low_of, high_of}

@@ -5,7 +5,7 @@ use Rattle.std.specs.Int.{int_max}
 use Rattle.std.specs.Int.RustNames.{int_le}
 use Rattle.interval.specs.Limits.{IsBound, bound_limit, largest_number}
 use Rattle.interval.specs.Boxes.{Bounds, low_of, high_of}
-use Rattle.guarded_tell.specs.declared.tell.Lit.{Lit}
+use Rattle.tells.specs.declared.tell.Lit.{Lit}
 use Rattle.guarded_tell.specs.declared.short.SmallTerm.{SmallTerm}
 use Rattle.guarded_tell.specs.declared.pairs.Pair.{Pair}
 use Rattle.guarded_tell.specs.Linear.{sum_over, least_of, greatest_of}

@@ -5,7 +5,7 @@ use Rattle.std.proofs.lemmas.Bool.{and_parts, or_cases}
 use Rattle.std.proofs.lemmas.List.Elements.{All-append}
 use Rattle.std.specs.Int.RustNames.{int_lt, int_le}
 use Rattle.std.specs.List.{All, zip, flat_map}
-use Rattle.guarded_tell.specs.declared.tell.Lit.{Lit}
+use Rattle.tells.specs.declared.tell.Lit.{Lit}
 use Rattle.guarded_tell.specs.declared.short.Sums.{Sums}
 use Rattle.interval.specs.Limits.{IsBound, clamp_of, bound_limit, largest_number, ClampOrder}
 use Rattle.interval.specs.Quotients.{floor_of, ceiling_of, QuotientOrder}

@@ -1,7 +1,7 @@
 -- The sums of the least and of the greatest values of terms: in a box inside a box, and at a point.
 use Rattle.std.proofs.Common.{◌≡◌, ℕ, suc, ◌+◌, ◌<◌, List, ◌∷◌, length, get_or, ℤ, pos, ◌*ℤ◌, ◌≤ℤ◌, sym, ap, subst, ◌∙◌, arith}
 use Rattle.std.specs.List.{zip}
-use Rattle.guarded_tell.specs.declared.tell.Lit.{Lit}
+use Rattle.tells.specs.declared.tell.Lit.{Lit}
 use Rattle.interval.specs.Boxes.{Bounds, IsPoint}
 use Rattle.guarded_tell.specs.Words.{point_of, AreVariables, IsProperIn, IsInsideIn}
 use Rattle.guarded_tell.specs.Linear.{Term, least_of, greatest_of, sum_over, term_value}

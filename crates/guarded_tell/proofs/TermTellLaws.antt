@@ -2,7 +2,7 @@
 use Rattle.std.proofs.Common.{◌≡◌, ℕ, ◌<◌, List, ◌∷◌, length, get_or, ℤ, pos, ◌-ℤ◌, ◌≤ℤ◌, sym, subst, arith}
 use Rattle.std.proofs.lemmas.Int.{ints}
 use Rattle.std.specs.List.{All, zip}
-use Rattle.guarded_tell.specs.declared.tell.Lit.{Lit}
+use Rattle.tells.specs.declared.tell.Lit.{Lit}
 use Rattle.interval.specs.Limits.{IsNumber, ClampOrder}
 use Rattle.interval.specs.Quotients.{QuotientOrder}
 use Rattle.interval.specs.Boxes.{Bounds, low_of, IsPoint}

@@ -5,7 +5,7 @@ use Rattle.std.proofs.lemmas.Bool.{or_cases}
 use Rattle.std.proofs.lemmas.List.Elements.{All-append}
 use Rattle.std.specs.Int.RustNames.{int_lt}
 use Rattle.std.specs.List.{All}
-use Rattle.guarded_tell.specs.declared.tell.Tell.{Tell}
+use Rattle.tells.specs.declared.tell.Tell.{Tell}
 use Rattle.interval.specs.Limits.{IsNumber, ClampOrder}
 use Rattle.interval.specs.Quotients.{floor_of, ceiling_of, QuotientOrder}
 use Rattle.interval.specs.Corners.{Range, IsIn, IsOneSided, CornerOrder, least_of_four, greatest_of_four, least_product, greatest_product, least_ceiling, greatest_floor}

@@ -1,7 +1,7 @@
 -- The absolute value: y is the absolute value of x. (FlatZinc: int_abs.)
 use Rattle.std.specs.Prelude.{◌≡◌, ℕ, ℤ, pos, neg_ℤ, cond, unsigned_abs, List, [], ◌∷◌, ◌++◌, int_lt, int_le}
 use Rattle.std.specs.Int.{int_max}
-use Rattle.guarded_tell.specs.declared.tell.Tell.{Tell}
+use Rattle.tells.specs.declared.tell.Tell.{Tell}
 use Rattle.interval.specs.Boxes.{Bounds, low_of, high_of}
 use Rattle.guarded_tell.specs.Words.{low_tell, high_tell, when, value_of}
 

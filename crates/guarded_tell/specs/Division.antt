@@ -1,7 +1,7 @@
 -- Division: z is x divided by y, rounded toward zero; there is no quotient by 0. (FlatZinc: int_div.)
 use Rattle.std.specs.Prelude.{◌≡◌, ◌≢◌, ℕ, ℤ, pos, negsuc, neg_ℤ, ◌+ℤ◌, ◌-ℤ◌, List, [], ◌∷◌, ◌++◌, int_lt, int_div}
 use Rattle.std.specs.Ordering.{int_eq}
-use Rattle.guarded_tell.specs.declared.tell.Tell.{Tell}
+use Rattle.tells.specs.declared.tell.Tell.{Tell}
 use Rattle.interval.specs.Boxes.{Bounds, low_of, high_of}
 use Rattle.interval.specs.Corners.{Range, least_of_four, greatest_of_four, least_product, greatest_product}
 use Rattle.guarded_tell.specs.Words.{low_tell, high_tell, when, value_of}

@@ -2,8 +2,8 @@
 -- the limit. (FlatZinc: int_lin_eq, int_lin_ne, int_eq, int_ne, their reified forms, and int_plus.)
 use Rattle.std.specs.Prelude.{◌≡◌, ℕ, ℤ, pos, ◌+ℤ◌, ◌-ℤ◌, ◌*ℤ◌, ◌↔◌, IsTrue, Bool, not, ◌&&◌, ◌||◌, List, [], ◌∷◌, ◌++◌, int_lt, int_le}
 use Rattle.std.specs.List.{zip, flat_map}
-use Rattle.guarded_tell.specs.declared.tell.Lit.{Lit}
-use Rattle.guarded_tell.specs.declared.tell.Tell.{Tell}
+use Rattle.tells.specs.declared.tell.Lit.{Lit}
+use Rattle.tells.specs.declared.tell.Tell.{Tell}
 use Rattle.interval.specs.Boxes.{Bounds, low_of, high_of}
 use Rattle.guarded_tell.specs.Words.{low_tell, high_tell, when, literal_true, is_sure, is_out, tell_true, tell_false, value_of}
 use Rattle.guarded_tell.specs.Linear.{Term, sum_over, least_of, greatest_of, at_most_tell, at_least_tell, term_value}

@@ -1,6 +1,6 @@
 -- What the search of an element's places finds: how far those that are left reach.
 use Rattle.std.specs.Prelude.{◌≡◌, ◌<◌, ℕ, pos, List, [], ◌∷◌, ◌++◌, length, Option, None, Some}
-use Rattle.guarded_tell.specs.declared.tell.Tell.{Tell}
+use Rattle.tells.specs.declared.tell.Tell.{Tell}
 use Rattle.guarded_tell.specs.declared.element.Hull.{Hull}
 use Rattle.interval.specs.Limits.{bound_limit}
 use Rattle.interval.specs.Boxes.{Bounds, low_of, high_of}

@@ -3,8 +3,8 @@
 use Rattle.std.specs.Prelude.{zero, suc, ◌≤◌, ◌≤ℤ◌, ◌<ℤ◌, ◌↔◌, ◌+ℤ◌, ◌-ℤ◌, ℕ, ℤ, pos, Bool, not, ◌&&◌, IsTrue, List, [], ◌∷◌, ◌++◌, length, drop, take, int_le}
 use Rattle.std.specs.Int.{int_min, int_max}
 use Rattle.std.specs.List.{All, AllPairs, Any, filter, flat_map, list_any}
-use Rattle.guarded_tell.specs.declared.tell.Lit.{Lit}
-use Rattle.guarded_tell.specs.declared.tell.Tell.{Tell}
+use Rattle.tells.specs.declared.tell.Lit.{Lit}
+use Rattle.tells.specs.declared.tell.Tell.{Tell}
 use Rattle.interval.specs.Limits.{IsNumber}
 use Rattle.interval.specs.Boxes.{Bounds, low_of, high_of}
 use Rattle.guarded_tell.specs.Words.{low_tell, high_tell, when, literal_true, is_sure, is_out, tell_true, tell_false, value_of}

@@ -3,12 +3,12 @@
 use Rattle.std.specs.Prelude.{◌≡◌, ℕ, ℤ, pos, ◌+ℤ◌, ◌-ℤ◌, ◌*ℤ◌, ◌*◌, ◌≤◌, ◌<◌, ◌≤ℤ◌, ◌↔◌, IsTrue, List, [], ◌∷◌, ◌++◌, length, slice_index_or, int_lt, int_le}
 use Rattle.std.specs.Int.{int_min, int_max}
 use Rattle.std.specs.List.{zip, flat_map}
-use Rattle.guarded_tell.specs.declared.tell.Lit.{Lit}
-use Rattle.guarded_tell.specs.declared.tell.Tell.{Tell}
+use Rattle.tells.specs.declared.tell.Lit.{Lit}
+use Rattle.tells.specs.declared.tell.Tell.{Tell}
+pub use Rattle.tells.specs.Words.{product_at_most, product_at_least}
 use Rattle.interval.specs.Limits.{IsNumber, largest_number, bound_limit}
-use Rattle.interval.specs.Quotients.{floor_of, ceiling_of}
 use Rattle.interval.specs.Boxes.{Bounds, low_of, high_of}
-use Rattle.guarded_tell.specs.Words.{low_tell, high_tell, when, literal_true, is_sure, is_out, tell_true, tell_false, value_of}
+use Rattle.guarded_tell.specs.Words.{when, literal_true, is_sure, is_out, tell_true, tell_false, value_of}
 
 -- a term: a coefficient and its variable
 abbrev pub Term : Type 0
@@ -36,18 +36,6 @@ least_of b t = int_min (t.0 *ℤ low_of b t.1) (t.0 *ℤ high_of b t.1)
 
 unfoldable pub greatest_of : Bounds → Term → ℤ
 greatest_of b t = int_max (t.0 *ℤ low_of b t.1) (t.0 *ℤ high_of b t.1)
-
--- the tells of: the coefficient times the variable is at most `room`. A coefficient 0 gives none
-abbrev pub product_at_most : ℕ → ℤ → ℤ → List Tell
-product_at_most var coeff room =
-    when (int_lt (pos 0) coeff) (high_tell var (floor_of room coeff) ∷ [])
-    ++ when (int_lt coeff (pos 0)) (low_tell var (ceiling_of room coeff) ∷ [])
-
--- the tells of: the coefficient times the variable is at least `room`
-abbrev pub product_at_least : ℕ → ℤ → ℤ → List Tell
-product_at_least var coeff room =
-    when (int_lt (pos 0) coeff) (low_tell var (ceiling_of room coeff) ∷ [])
-    ++ when (int_lt coeff (pos 0)) (high_tell var (floor_of room coeff) ∷ [])
 
 -- the sum is at most the limit: what the least values of the other terms leave for this one. `least` is the sum of all
 -- least values

@@ -1,6 +1,6 @@
 -- The literals of a clause, whether they are listed or its variables are, by their signs.
 use Rattle.std.specs.Prelude.{ℕ, Bool, true, false, List, ◌++◌, map}
-use Rattle.guarded_tell.specs.declared.tell.Lit.{Lit}
+use Rattle.tells.specs.declared.tell.Lit.{Lit}
 use Rattle.guarded_tell.specs.declared.literal_list.Form.{Form}
 
 -- the literal of a variable by its sign

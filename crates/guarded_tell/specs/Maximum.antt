@@ -2,7 +2,7 @@
 -- int_max.)
 use Rattle.std.specs.Prelude.{◌≡◌, ◌≤ℤ◌, ℕ, ℤ, pos, Bool, List, [], ◌∷◌, ◌++◌, int_le}
 use Rattle.std.specs.List.{All, Any, filter}
-use Rattle.guarded_tell.specs.declared.tell.Tell.{Tell}
+use Rattle.tells.specs.declared.tell.Tell.{Tell}
 use Rattle.interval.specs.Limits.{bound_limit}
 use Rattle.interval.specs.Boxes.{Bounds, low_of, high_of}
 use Rattle.guarded_tell.specs.Words.{low_tell, high_tell, value_of}

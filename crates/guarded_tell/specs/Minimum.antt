@@ -1,7 +1,7 @@
 -- The least of a list of variables: m has a value of the list, and none is less. (FlatZinc: array_int_minimum, int_min.)
 use Rattle.std.specs.Prelude.{◌≡◌, ◌≤ℤ◌, ℕ, ℤ, pos, Bool, List, [], ◌∷◌, ◌++◌, int_le}
 use Rattle.std.specs.List.{All, Any, filter}
-use Rattle.guarded_tell.specs.declared.tell.Tell.{Tell}
+use Rattle.tells.specs.declared.tell.Tell.{Tell}
 use Rattle.interval.specs.Limits.{bound_limit}
 use Rattle.interval.specs.Boxes.{Bounds, high_of, low_of}
 use Rattle.guarded_tell.specs.Words.{high_tell, low_tell, value_of}

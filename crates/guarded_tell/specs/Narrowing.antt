@@ -2,9 +2,9 @@
 use Rattle.std.specs.Prelude.{ℕ, ℤ, Bool, List, int_lt}
 use Rattle.std.specs.List.{filter}
 use Rattle.interval.specs.Boxes.{Bounds, low_of, high_of}
-use Rattle.guarded_tell.specs.declared.tell.Side.{Side}
-use Rattle.guarded_tell.specs.declared.tell.Side.TheVariants.{Low, High}
-use Rattle.guarded_tell.specs.declared.tell.Tell.{Tell}
+use Rattle.tells.specs.declared.tell.Side.{Side}
+use Rattle.tells.specs.declared.tell.Side.TheVariants.{Low, High}
+use Rattle.tells.specs.declared.tell.Tell.{Tell}
 use Rattle.guarded_tell.specs.declared.kernel.Kernel.{Kernel}
 use Rattle.guarded_tell.specs.Kernels.{tells}
 

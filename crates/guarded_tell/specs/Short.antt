@@ -4,7 +4,7 @@ use Rattle.std.specs.Int.{int_max}
 use Rattle.std.specs.List.{zip}
 use Rattle.interval.specs.Limits.{IsBound}
 use Rattle.interval.specs.Boxes.{Bounds, low_of, high_of}
-use Rattle.guarded_tell.specs.declared.tell.Lit.{Lit}
+use Rattle.tells.specs.declared.tell.Lit.{Lit}
 use Rattle.guarded_tell.specs.declared.short.Sums.{Sums}
 use Rattle.guarded_tell.specs.declared.short.SmallTerm.{SmallTerm}
 use Rattle.guarded_tell.specs.declared.pairs.Pair.{Pair}

@@ -1,6 +1,6 @@
 -- The product: z is the product of x and y. (FlatZinc: int_times.)
 use Rattle.std.specs.Prelude.{◌≡◌, ℕ, ℤ, pos, ◌*ℤ◌, Bool, ◌||◌, List, [], ◌∷◌, ◌++◌, int_lt}
-use Rattle.guarded_tell.specs.declared.tell.Tell.{Tell}
+use Rattle.tells.specs.declared.tell.Tell.{Tell}
 use Rattle.interval.specs.Boxes.{Bounds, low_of, high_of}
 use Rattle.interval.specs.Corners.{Range, least_product, greatest_product, least_ceiling, greatest_floor}
 use Rattle.guarded_tell.specs.Words.{low_tell, high_tell, when, value_of}

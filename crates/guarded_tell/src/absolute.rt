@@ -7,8 +7,8 @@ ghost use Rattle.guarded_tell.specs.Hearing.{MayHearAll, HearsAll};
 ghost use Rattle.guarded_tell.specs.Absolute as absolute;
 
 use crate::Hear;
-use crate::literals::{high_tell, low_tell};
 use interval::BoxOf;
+use tells::{high_tell, low_tell};
 
 /// Gives the tells of `y` being the absolute value of `x` to `h`, in order.
 #[tactic(auto, unfolding(crate::specs::Absolute::abs_tells))]

@@ -7,9 +7,9 @@ ghost use Rattle.guarded_tell.specs.Words as words;
 ghost use Rattle.guarded_tell.specs.Hearing.{MayHearAll, HearsAll};
 ghost use Rattle.guarded_tell.specs.Clause.{clause_vars, clause_tells, sole_tell, AreLiterals};
 
-use crate::literals::{is_out, no_number, tell_true};
 use crate::{Hear, Lit, Literals};
 use interval::BoxOf;
+use tells::{is_out, no_number, tell_true};
 
 /// Gives the tells of the clause to `h`, in order.
 pub fn visit_clause<H: Hear>(lits: &Literals, b: &BoxOf, h: &mut H)

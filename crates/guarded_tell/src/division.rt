@@ -11,9 +11,9 @@ ghost use Rattle.guarded_tell.specs.Division as division;
 
 use crate::Hear;
 use crate::absolute::greatest_absolute;
-use crate::literals::{high_tell, low_tell};
 use crate::times::{excludes_zero, range_of, tell_between};
 use interval::{BoxOf, corner_products};
+use tells::{high_tell, low_tell};
 
 /// Gives the tells of `z` being `x` divided by `y`, rounded toward zero, to `h`, in order.
 #[tactic(auto, unfolding(crate::specs::Division::div_tells))]

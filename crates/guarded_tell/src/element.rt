@@ -12,8 +12,8 @@ ghost use Rattle.guarded_tell.specs.Element as element;
 ghost use Rattle.guarded_tell.specs.Hull.{IsHull, IsHullOf, told_hull};
 
 use crate::Hear;
-use crate::literals::{high_tell, low_tell, no_number};
 use interval::BoxOf;
+use tells::{high_tell, low_tell, no_number};
 
 /// How far the places that are left reach, and how far the bounds of their variables do.
 #[derive(Clone, Copy)]

@@ -8,12 +8,12 @@ ghost use Rattle.guarded_tell.specs.Hearing.{MayHearAll, HearsAll};
 ghost use Rattle.guarded_tell.specs.Linear.{least_of, greatest_of, sum_limit, product_limit, product_at_most, product_at_least, IsLinear};
 ghost use Rattle.guarded_tell.specs.Equality as equality;
 
-use crate::literals::{high_tell, is_out, is_sure, low_tell, tell_false, tell_true};
 use crate::terms::{
     Range, room_for, sum_range, tell_product_at_least, tell_product_at_most, term_range,
 };
 use crate::{Hear, Lit};
 use interval::BoxOf;
+use tells::{high_tell, is_out, is_sure, low_tell, tell_false, tell_true};
 
 /// What the sum is at least and at most, and the limit that it is to be.
 #[derive(Clone, Copy)]

@@ -10,9 +10,9 @@ ghost use Rattle.guarded_tell.specs.Hearing.{MayHearAll, HearsAll};
 ghost use Rattle.guarded_tell.specs.InSet as set;
 ghost use Rattle.guarded_tell.specs.InSet.{IsSet, at_place, last_of};
 
-use crate::literals::{high_tell, is_out, is_sure, low_tell, tell_false, tell_true};
 use crate::{Hear, Lit, Tell};
 use interval::BoxOf;
+use tells::{high_tell, is_out, is_sure, low_tell, tell_false, tell_true};
 
 /// Gives the tells of the membership to `h`, in order. It searches the ranges twice, by halves.
 pub fn visit_in_set<H: Hear>(lit: Lit, x: u32, ranges: &[(i64, i64)], b: &BoxOf, h: &mut H)

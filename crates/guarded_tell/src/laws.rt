@@ -5,7 +5,7 @@ ghost use Rattle.std.specs.List.{All, Contains};
 ghost use Rattle.interval.specs.Limits.{IsBound, IsNumber};
 ghost use Rattle.interval.specs.Boxes.{Bounds, low_of, IsInRange, IsPoint};
 ghost use Rattle.guarded_tell.specs.declared.kernel.Kernel.{Kernel};
-ghost use Rattle.guarded_tell.specs.declared.tell.Tell.{Tell};
+ghost use Rattle.tells.specs.declared.tell.Tell.{Tell};
 ghost use Rattle.guarded_tell.specs.Words.{Keeps, IsProperIn, IsInsideIn, AgreeIn, SameValuesIn, point_of};
 ghost use Rattle.guarded_tell.specs.Kernels.{vars_of, tells, Holds, IsKernel, IsClosedUnder};
 ghost use Rattle.guarded_tell.specs.Narrowing.{narrows};

@@ -8,12 +8,12 @@ ghost use Rattle.guarded_tell.specs.Words as words;
 ghost use Rattle.guarded_tell.specs.Hearing.{MayHearAll, HearsAll};
 ghost use Rattle.guarded_tell.specs.Linear.{sum_limit, product_limit, at_most_tell, more_than_tell, at_most_tells, literal_tells, sure_tells, out_tells, bound_tells, IsLinear};
 
-use crate::literals::{is_out, is_sure, tell_false, tell_true};
 use crate::terms::{
     Range, room_for, sum_range, tell_product_at_least, tell_product_at_most, term_range,
 };
 use crate::{Hear, Lit};
 use interval::BoxOf;
+use tells::{is_out, is_sure, tell_false, tell_true};
 
 /// Gives the tells of the inequality to `h`, in order.
 pub fn visit_le<H: Hear>(lit: Lit, coeffs: &[i64], vars: &[u32], limit: i64, b: &BoxOf, h: &mut H)

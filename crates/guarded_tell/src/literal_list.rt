@@ -25,7 +25,7 @@ enum Form {
 
 impl Model for Literals {
     ghost use Rattle.std.specs.Prelude.{List};
-    ghost use Rattle.guarded_tell.specs.declared.tell.Lit.{Lit};
+    ghost use Rattle.tells.specs.declared.tell.Lit.{Lit};
 
     ghost Value = { List Lit };
 

@@ -11,8 +11,8 @@ ghost use Rattle.guarded_tell.specs.Extremes.{greatest_over, sole, told_each, to
 ghost use Rattle.guarded_tell.specs.Maximum.{max_reaches, max_member_tells, max_some_tells, max_tells};
 
 use crate::Hear;
-use crate::literals::{high_tell, low_tell, no_number};
 use interval::BoxOf;
+use tells::{high_tell, low_tell, no_number};
 
 /// The greatest low and the greatest high of a list of variables.
 #[derive(Clone, Copy)]

@@ -11,8 +11,8 @@ ghost use Rattle.guarded_tell.specs.Extremes.{least_over, sole, told_each, told_
 ghost use Rattle.guarded_tell.specs.Minimum.{min_reaches, min_member_tells, min_some_tells, min_tells};
 
 use crate::Hear;
-use crate::literals::{high_tell, low_tell, no_number};
 use interval::BoxOf;
+use tells::{high_tell, low_tell, no_number};
 
 /// The least high and the least low of a list of variables.
 #[derive(Clone, Copy)]

@@ -8,9 +8,9 @@ ghost use Rattle.guarded_tell.specs.Linear.{IsLinear};
 ghost use Rattle.guarded_tell.specs.Short.{small_product_limit, IsSmallTerm, IsTermOf, IsPairOf, IsPairAtMostQuiet, IsPairUnequalQuiet, IsPairEquationQuiet};
 
 use crate::Lit;
-use crate::literals::{stands_false, stands_true};
 use crate::short::{SmallTerm, small_term};
 use interval::BoxOf;
+use tells::{stands_false, stands_true};
 
 /// What the two terms of a sum are at least and at most.
 #[derive(Clone, Copy)]

@@ -13,12 +13,12 @@ use crate::equality::{
     Equation, tell_equal, tell_equal_term, tell_equation, tell_unequal, tell_unequal_term, term_of,
     visit_eq,
 };
-use crate::literals::{is_out, is_sure};
 use crate::parted_quiet::is_parted_equation_quiet;
 use crate::quiet::{Hint, is_equation_quiet};
 use crate::terms::{Range, sum_range, sum_with, term_range};
 use crate::{Extended, Hear, Lit};
 use interval::BoxOf;
+use tells::{is_out, is_sure};
 
 /// Gives the tells of the equation to `h`, in order.
 pub fn visit_equation<H: Hear>(

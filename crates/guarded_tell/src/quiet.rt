@@ -12,11 +12,11 @@ ghost use Rattle.guarded_tell.specs.Linear.{at_most_tells, least_of, greatest_of
 ghost use Rattle.guarded_tell.specs.Equality.{eq_tells};
 ghost use Rattle.guarded_tell.specs.Short.{short_sum_limit, AreTwoOpen, IsAtMostQuiet, IsUnequalQuiet, IsEquationQuiet};
 
-use crate::literals::{is_out, is_sure, stands_false, stands_true};
 use crate::pairs::{is_apart, pair_leaves_room, pair_leaves_room_on_both_sides, pair_of};
 use crate::short::{Sums, short_sums};
 use crate::{Lit, Literals};
 use interval::{BoxOf, law_clamp_order, law_quotient_order};
+use tells::{is_out, is_sure, stands_false, stands_true};
 
 /// Whether the inequality is seen to narrow nothing. Where its numbers are large, it isn't seen.
 pub fn is_at_most_quiet(lit: Lit, coeffs: &[i64], vars: &[u32], limit: i64, b: &BoxOf) -> bool

@@ -9,8 +9,8 @@ ghost use Rattle.guarded_tell.specs.Hearing.{MayHearAll, HearsAll};
 ghost use Rattle.guarded_tell.specs.Linear.{least_of, greatest_of, sum_over, sum_limit, product_limit, product_at_most, product_at_least, IsLinear};
 
 use crate::Hear;
-use crate::literals::{high_tell, low_tell};
 use interval::{BoxOf, ceil_div, floor_div, law_quotient_order};
+use tells::{high_tell, low_tell};
 
 /// What a term, or a sum of terms, is at least and at most in a box.
 #[derive(Clone, Copy)]

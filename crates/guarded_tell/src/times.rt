@@ -10,8 +10,8 @@ ghost use Rattle.guarded_tell.specs.Hearing.{MayHearAll, HearsAll};
 ghost use Rattle.guarded_tell.specs.Times as times;
 
 use crate::Hear;
-use crate::literals::{high_tell, low_tell};
 use interval::{BoxOf, corner_products, corner_quotients};
+use tells::{high_tell, low_tell};
 
 /// Gives the tells of `z` being the product of `x` and `y` to `h`, in order.
 #[tactic(auto, unfolding(crate::specs::Times::times_tells))]

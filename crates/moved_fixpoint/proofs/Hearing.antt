@@ -6,7 +6,7 @@ use Rattle.std.proofs.Math.Seq.{take-suc}
 use Rattle.std.proofs.lemmas.List.Elements.{All-nil, All-cons, All-head, All-tail, All-filter}
 use Rattle.interval.specs.Boxes.{Bounds, IsInside, IsProper, IsCrossed, InsideOrder}
 use Rattle.interval.specs.Limits.{IsBound}
-use Rattle.guarded_tell.specs.declared.tell.Tell.{Tell}
+use Rattle.guarded_tell.specs.Words.{Tell}
 use Rattle.guarded_tell.specs.Words.{Keeps}
 use Rattle.guarded_tell.specs.Hearing.{HearsAll}
 use Rattle.fixpoint_laws.specs.Changes.{TightensOne}

@@ -3,9 +3,9 @@ use Rattle.std.proofs.Common.{◌≡◌, ◌≢◌, ℕ, ℤ, pos, ◌<◌, leng
 use Rattle.std.proofs.lemmas.Int.{ints, by_lt_z}
 use Rattle.std.proofs.lemmas.List.{get_or-set_same, get_or-set_other}
 use Rattle.interval.specs.Boxes.{Bounds, low_of, high_of, put_of, IsInside}
-use Rattle.guarded_tell.specs.declared.tell.Tell.{Tell}
-use Rattle.guarded_tell.specs.declared.tell.Side.{Side}
-use Rattle.guarded_tell.specs.declared.tell.Side.TheVariants.{Low, High}
+use Rattle.guarded_tell.specs.Words.{Tell}
+use Rattle.guarded_tell.specs.Words.{Side}
+use Rattle.guarded_tell.specs.Words.{Low, High}
 use Rattle.guarded_tell.specs.Words.{Keeps, KeepsSide}
 use Rattle.fixpoint_laws.specs.Changes.{IsTightening, TightensOne}
 use Rattle.fixpoint_laws.specs.Rounds.{Narrows, NarrowsSide}

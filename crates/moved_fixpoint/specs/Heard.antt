@@ -1,9 +1,9 @@
 -- How a tell is joined into a box and noted.
 use Rattle.std.specs.Prelude.{ℕ, ℤ, ◌≡◌, ◌≤ℤ◌, ◌<ℤ◌}
 use Rattle.interval.specs.Boxes.{Bounds, low_of, high_of, put_of}
-use Rattle.guarded_tell.specs.declared.tell.Tell.{Tell}
-use Rattle.guarded_tell.specs.declared.tell.Side.{Side}
-use Rattle.guarded_tell.specs.declared.tell.Side.TheVariants.{Low, High}
+use Rattle.guarded_tell.specs.Words.{Tell}
+use Rattle.guarded_tell.specs.Words.{Side}
+use Rattle.guarded_tell.specs.Words.{Low, High}
 use Rattle.guarded_tell.specs.Words.{Keeps}
 use Rattle.fixpoint_laws.specs.Rounds.{Narrows}
 use Rattle.moved_set.specs.Sets.{IsIn}

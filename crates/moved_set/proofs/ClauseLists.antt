@@ -2,7 +2,7 @@
 use Rattle.std.proofs.Common.{◌≡◌, ℕ, ◌+◌, List, [], ◌∷◌, ◌++◌, Bool, false, length, map, take, drop, refl, sym, ◌∙◌, ap, arith}
 use Rattle.std.proofs.Math.Seq.{take-append_seam, drop-append_seam}
 use Rattle.std.proofs.lemmas.List.{length-append, append-nil, drop_all}
-use Rattle.guarded_tell.specs.declared.tell.Lit.{Lit}
+use Rattle.guarded_tell.specs.Words.{Lit}
 use Rattle.guarded_tell.specs.Clause.{clause_vars}
 use Rattle.guarded_tell.specs.Literals.{literal, literals_by_sign}
 use Rattle.moved_set.specs.Parts.{HasList}

@@ -8,7 +8,7 @@ use borrow.Author.Count.{below_more}
 use Rattle.interval.specs.Limits.{IsBound}
 use Rattle.interval.specs.Boxes.{Bounds, low_of, high_of, IsInRange, IsInside}
 use Rattle.guarded_tell.specs.declared.kernel.Kernel.{Kernel}
-use Rattle.guarded_tell.specs.declared.tell.Tell.{Tell}
+use Rattle.guarded_tell.specs.Words.{Tell}
 use Rattle.guarded_tell.specs.Words.{Keeps, IsProperIn, IsInsideIn, AgreeIn}
 use Rattle.guarded_tell.specs.Kernels.{vars_of, tells, IsKernel, IsClosedUnder}
 use Rattle.fixpoint_laws.specs.OneRound.{IsHeardBetween}

@@ -4,9 +4,9 @@ use Rattle.std.specs.Bool.{OnTrue, OnFalse}
 use Rattle.std.proofs.lemmas.Bool.{true≢false, OnTrue_from, OnFalse_from}
 use Rattle.std.proofs.lemmas.Int.{ints}
 use Rattle.interval.specs.Boxes.{Bounds, low_of, high_of, put_of, IsInside}
-use Rattle.guarded_tell.specs.declared.tell.Tell.{Tell}
-use Rattle.guarded_tell.specs.declared.tell.Side.{Side}
-use Rattle.guarded_tell.specs.declared.tell.Side.TheVariants.{Low, High}
+use Rattle.guarded_tell.specs.Words.{Tell}
+use Rattle.guarded_tell.specs.Words.{Side}
+use Rattle.guarded_tell.specs.Words.{Low, High}
 use Rattle.guarded_tell.specs.Words.{Keeps, KeepsSide}
 use Rattle.lattice_store.specs.declared.seat.Seat.{Seat}
 use Rattle.lattice_store.specs.Seats.{seen_of, IsSameSeat}

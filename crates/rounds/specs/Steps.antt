@@ -2,7 +2,7 @@
 use Rattle.std.specs.Prelude.{ℕ, ◌≡◌, ◌≢◌, ◌<◌, List, Bool, true, false, Option, IfSome, ◌⊎◌}
 use Rattle.interval.specs.Limits.{IsBound}
 use Rattle.interval.specs.Boxes.{Bounds, IsInside}
-use Rattle.guarded_tell.specs.declared.tell.Tell.{Tell}
+use Rattle.guarded_tell.specs.Words.{Tell}
 use Rattle.guarded_tell.specs.Words.{Keeps, IsProperIn, AgreeIn}
 use Rattle.lattice_store.specs.declared.seat.Seat.{Seat}
 use Rattle.lattice_store.specs.Seats.{seen_of, IsPast, IsSameSeat}

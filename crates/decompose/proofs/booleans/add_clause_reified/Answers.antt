@@ -1,5 +1,5 @@
 use Rattle.std.proofs.Common.{◌≡◌, ◌++◌, true, false, subst, ◌∙◌}
-use Rattle.guarded_tell.specs.declared.tell.Lit.{Lit}
+use Rattle.guarded_tell.specs.Words.{Lit}
 use Rattle.decompose.specs.Kernels.{some_of, clause_literals}
 use Rattle.decompose.specs.Rows.{literal_at}
 use Rattle.decompose.proofs.ClauseLaws.{joined_both_after, literals_after}

@@ -1,5 +1,5 @@
 use Rattle.std.proofs.Common.{List, sym, subst}
-use Rattle.guarded_tell.specs.declared.tell.Lit.{Lit}
+use Rattle.guarded_tell.specs.Words.{Lit}
 use Rattle.guarded_tell.specs.declared.kernel.Kernel.TheVariants.{Clause}
 use Rattle.guarded_tell.specs.Kernels.{IsKernel}
 use Rattle.fixpoint_tests.proofs.SmallKernels.{clause_made}

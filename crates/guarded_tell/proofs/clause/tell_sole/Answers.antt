@@ -1,6 +1,6 @@
 -- Each step makes the hearer hear the tells of one more literal.
 use Rattle.std.proofs.Common.{◌<◌, length, arith, subst, sym}
-use Rattle.guarded_tell.specs.declared.tell.Lit.{Lit}
+use Rattle.tells.specs.declared.tell.Lit.{Lit}
 use Rattle.guarded_tell.specs.Hearing.{MayHearAll, HearsAll}
 use Rattle.guarded_tell.specs.Clause.{sole_tell}
 use Rattle.guarded_tell.proofs.HearingLaws.{leads_may, leads_next}

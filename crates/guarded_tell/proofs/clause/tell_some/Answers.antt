@@ -1,6 +1,6 @@
 -- The tells go by the number of literals that aren't out; from two on there are none.
 use Rattle.std.proofs.Common.{List, subst, sym, refl}
-use Rattle.guarded_tell.specs.declared.tell.Tell.{Tell}
+use Rattle.tells.specs.declared.tell.Tell.{Tell}
 use Rattle.guarded_tell.specs.Hearing.{MayHearAll, HearsAll}
 use Rattle.guarded_tell.proofs.ClauseTells.{clause_by_few, clause_of_many, literals_in}
 use Rattle.guarded_tell.proofs.clause.tell_some.Goals as goal

@@ -1,6 +1,6 @@
 -- Only the place that x is fixed to has tells.
 use Rattle.std.proofs.Common.{List, suc, subst, sym, refl, arith}
-use Rattle.guarded_tell.specs.declared.tell.Tell.{Tell}
+use Rattle.tells.specs.declared.tell.Tell.{Tell}
 use Rattle.guarded_tell.specs.Hearing.{MayHearAll, HearsAll}
 use Rattle.guarded_tell.proofs.ElementTells.{fixed_some, fixed_none}
 use Rattle.guarded_tell.proofs.element.tell_fixed.Goals as goal

@@ -1,6 +1,6 @@
 -- The tells of what is left are those of its hull.
 use Rattle.std.proofs.Common.{List, subst, sym}
-use Rattle.guarded_tell.specs.declared.tell.Tell.{Tell}
+use Rattle.tells.specs.declared.tell.Tell.{Tell}
 use Rattle.guarded_tell.specs.Hearing.{MayHearAll, HearsAll}
 use Rattle.guarded_tell.proofs.ElementTells.{told_is}
 use Rattle.guarded_tell.proofs.element.tell_left.Goals as goal

@@ -1,7 +1,7 @@
 -- Each step makes the hearer hear the tells of one more term.
 use Rattle.std.proofs.Common.{◌<◌, ◌≤◌, sym, subst, pos, List, length}
 use Rattle.std.specs.List.{zip}
-use Rattle.guarded_tell.specs.declared.tell.Tell.{Tell}
+use Rattle.tells.specs.declared.tell.Tell.{Tell}
 use Rattle.guarded_tell.specs.Hearing.{MayHearAll, HearsAll}
 use Rattle.guarded_tell.specs.Equality.{equal_tell}
 use Rattle.guarded_tell.proofs.TermLaws.{length-zip}

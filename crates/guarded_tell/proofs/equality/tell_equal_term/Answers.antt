@@ -2,7 +2,7 @@
 use Rattle.std.proofs.Common.{◌≡◌, List, subst, sym, ◌-ℤ◌, rules, FitsSigned, to_z, of_z}
 use Rattle.std.proofs.lemmas.Int.{to_z-of_z}
 use mir.Syntax.{w64, w128}
-use Rattle.guarded_tell.specs.declared.tell.Tell.{Tell}
+use Rattle.tells.specs.declared.tell.Tell.{Tell}
 use Rattle.guarded_tell.specs.Hearing.{MayHearAll, HearsAll}
 use Rattle.guarded_tell.specs.Linear.{product_at_most, product_at_least}
 use Rattle.guarded_tell.proofs.HearingLaws.{may_first, may_rest, hears_both}

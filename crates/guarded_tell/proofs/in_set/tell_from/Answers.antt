@@ -1,7 +1,7 @@
 -- One range gives one tell.
 use Rattle.std.proofs.Common.{List, pos, refl, subst, sym}
 use Rattle.interval.specs.Boxes.{low_of}
-use Rattle.guarded_tell.specs.declared.tell.Tell.{Tell}
+use Rattle.tells.specs.declared.tell.Tell.{Tell}
 use Rattle.guarded_tell.specs.Hearing.{MayHearAll, HearsAll}
 use Rattle.guarded_tell.proofs.InSetTells.{from_at, from_nothing}
 use Rattle.guarded_tell.proofs.in_set.tell_from.Goals as goal

@@ -2,7 +2,7 @@
 use Rattle.std.proofs.Common.{List, pos, refl, subst, sym, ap}
 use Rattle.std.specs.List.{flat_map}
 use Rattle.interval.specs.Boxes.{low_of}
-use Rattle.guarded_tell.specs.declared.tell.Tell.{Tell}
+use Rattle.tells.specs.declared.tell.Tell.{Tell}
 use Rattle.guarded_tell.specs.Hearing.{MayHearAll, HearsAll}
 use Rattle.guarded_tell.specs.InSet.{past_tells}
 use Rattle.guarded_tell.proofs.ListPlaces.{at_yes, at_no, one_mapped}

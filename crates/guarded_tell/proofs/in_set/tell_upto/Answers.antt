@@ -1,7 +1,7 @@
 -- One range gives one tell.
 use Rattle.std.proofs.Common.{List, pos, refl, subst, sym}
 use Rattle.interval.specs.Boxes.{high_of}
-use Rattle.guarded_tell.specs.declared.tell.Tell.{Tell}
+use Rattle.tells.specs.declared.tell.Tell.{Tell}
 use Rattle.guarded_tell.specs.Hearing.{MayHearAll, HearsAll}
 use Rattle.guarded_tell.proofs.InSetTells.{upto_at, upto_nothing}
 use Rattle.guarded_tell.proofs.in_set.tell_upto.Goals as goal

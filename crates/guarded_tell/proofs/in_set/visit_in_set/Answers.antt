@@ -1,6 +1,6 @@
 -- The tells are those by the two places.
 use Rattle.std.proofs.Common.{List, subst, sym}
-use Rattle.guarded_tell.specs.declared.tell.Tell.{Tell}
+use Rattle.tells.specs.declared.tell.Tell.{Tell}
 use Rattle.guarded_tell.specs.Hearing.{MayHearAll, HearsAll}
 use Rattle.guarded_tell.proofs.InSetTells.{in_set_by_places}
 use Rattle.guarded_tell.proofs.in_set.visit_in_set.Goals as goal

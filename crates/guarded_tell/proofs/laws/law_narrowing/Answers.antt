@@ -2,8 +2,8 @@
 use Rattle.std.proofs.Common.{◌≡◌, ℕ, true, false, ℤ, arith}
 use Rattle.std.proofs.lemmas.Int.{ints}
 use Rattle.interval.specs.Boxes.{Bounds}
-use Rattle.guarded_tell.specs.declared.tell.Side.{Side}
-use Rattle.guarded_tell.specs.declared.tell.Side.TheVariants.{Low, High}
+use Rattle.tells.specs.declared.tell.Side.{Side}
+use Rattle.tells.specs.declared.tell.Side.TheVariants.{Low, High}
 use Rattle.guarded_tell.specs.Words.{KeepsSide}
 use Rattle.guarded_tell.specs.Narrowing.{narrows_side}
 use Rattle.guarded_tell.proofs.laws.law_narrowing.Goals as goal

@@ -1,6 +1,6 @@
 -- An empty list has one tell.
 use Rattle.std.proofs.Common.{List, subst, sym}
-use Rattle.guarded_tell.specs.declared.tell.Tell.{Tell}
+use Rattle.tells.specs.declared.tell.Tell.{Tell}
 use Rattle.guarded_tell.specs.Hearing.{MayHearAll, HearsAll}
 use Rattle.guarded_tell.proofs.CommonLaws.{none_there, some_there}
 use Rattle.guarded_tell.proofs.MinimumLaws.{min_of_none, min_of_some}

@@ -1,6 +1,6 @@
 -- Where no tell narrows, nothing is to be heard.
 use Rattle.std.proofs.Common.{List, subst, sym, refl}
-use Rattle.guarded_tell.specs.declared.tell.Tell.{Tell}
+use Rattle.tells.specs.declared.tell.Tell.{Tell}
 use Rattle.guarded_tell.specs.Hearing.{HearsAll}
 use Rattle.guarded_tell.specs.Kernels.{tells}
 use Rattle.guarded_tell.proofs.NarrowingLaws.{none_narrows}

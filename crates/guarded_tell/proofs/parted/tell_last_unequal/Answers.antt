@@ -1,6 +1,6 @@
 -- What the code tells of the last term is what that term tells.
 use Rattle.std.proofs.Common.{refl, sym, subst, List, [], ◌∷◌}
-use Rattle.guarded_tell.specs.declared.tell.Tell.{Tell}
+use Rattle.tells.specs.declared.tell.Tell.{Tell}
 use Rattle.guarded_tell.specs.Hearing.{MayHearAll, HearsAll}
 use Rattle.guarded_tell.proofs.EqualityCode.{told_unequal}
 use Rattle.guarded_tell.proofs.parted.tell_last_unequal.Goals as goal

@@ -1,7 +1,7 @@
 -- The tells of the terms and those of the last one are heard one after the other.
 use Rattle.std.proofs.Common.{sym, subst, List}
 use Rattle.std.specs.List.{zip, flat_map}
-use Rattle.guarded_tell.specs.declared.tell.Tell.{Tell}
+use Rattle.tells.specs.declared.tell.Tell.{Tell}
 use Rattle.guarded_tell.specs.Hearing.{MayHearAll, HearsAll}
 use Rattle.guarded_tell.specs.Equality.{equal_tell}
 use Rattle.guarded_tell.proofs.HearingLaws.{may_first, may_rest, hears_both}

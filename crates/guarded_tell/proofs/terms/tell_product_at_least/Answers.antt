@@ -1,7 +1,7 @@
 use Rattle.std.proofs.Common.{List, subst, sym, refl, arith, rules}
 use Rattle.std.proofs.lemmas.Grind.{common_steps}
 use Rattle.std.proofs.lemmas.Int.{ints}
-use Rattle.guarded_tell.specs.declared.tell.Tell.{Tell}
+use Rattle.tells.specs.declared.tell.Tell.{Tell}
 use Rattle.guarded_tell.specs.Hearing.{HearsAll}
 use Rattle.guarded_tell.proofs.ProductLaws.{at_least_above}
 use Rattle.guarded_tell.proofs.terms.tell_product_at_least.Goals as goal

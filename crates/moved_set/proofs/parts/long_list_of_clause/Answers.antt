@@ -1,5 +1,5 @@
 use Rattle.std.proofs.Common.{ℕ, List, length, sym, subst}
-use Rattle.guarded_tell.specs.declared.tell.Lit.{Lit}
+use Rattle.guarded_tell.specs.Words.{Lit}
 use Rattle.guarded_tell.specs.Clause.{clause_vars}
 use Rattle.moved_set.specs.Parts.{HasList}
 use Rattle.moved_set.proofs.ClauseLists.{has_positives, has_negatives}

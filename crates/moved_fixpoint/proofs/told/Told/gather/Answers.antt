@@ -1,5 +1,5 @@
 use Rattle.std.proofs.Common.{◌∙◌, ap, List, ◌++◌}
-use Rattle.guarded_tell.specs.declared.tell.Tell.{Tell}
+use Rattle.guarded_tell.specs.Words.{Tell}
 use Rattle.moved_fixpoint.specs.declared.told.Told.{Told}
 use Rattle.guarded_tell.specs.Narrowing.{narrowing_tells}
 use Rattle.moved_fixpoint.proofs.Gathering.{may_gather, gathered}

@@ -3,7 +3,7 @@
 ghost use Rattle.std.specs.Prelude.{◌≡◌, ◌<◌, ◌≤ℤ◌, pos, ℤ, length};
 ghost use Rattle.interval.specs.Limits.{bound_limit};
 ghost use Rattle.interval.specs.Boxes.{low_of, high_of};
-ghost use Rattle.guarded_tell.specs.Words as words;
+ghost use Rattle.tells.specs.Words as words;
 
 use crate::{Lit, Side, Tell};
 use interval::{BOUND_LIMIT, BoxOf, clamp_bound};

@@ -2,9 +2,9 @@
 
 ghost use Rattle.std.specs.Prelude.{◌≡◌};
 ghost use Rattle.std.specs.Bool.{OnTrue};
-ghost use Rattle.guarded_tell.specs.declared.tell.Tell.{Tell};
-ghost use Rattle.guarded_tell.specs.Hearing.{MayHearAll, HearsAll};
-ghost use Rattle.guarded_tell.specs.Linear.{product_at_most, product_at_least};
+ghost use Rattle.tells.specs.declared.tell.Tell.{Tell};
+ghost use Rattle.tells.specs.Hearing.{MayHearAll, HearsAll};
+ghost use Rattle.tells.specs.Words.{product_at_most, product_at_least};
 
 use crate::Tell;
 

@@ -1,0 +1,4 @@
+pub mod TestLaws
+pub mod HoldLaws
+pub mod SumLaws
+pub mod SmallLaws

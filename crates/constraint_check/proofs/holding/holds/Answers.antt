@@ -1,0 +1,13 @@
+use Rattle.std.proofs.Common.{◌≡◌, ◌∙◌, Bool, List, sym, ap, subst, Decides}
+use Rattle.constraint_model.specs.declared.model.Operand.{Operand}
+use Rattle.constraint_model.specs.Relations.{Holds}
+use Rattle.constraint_check.specs.Tests.{holds_on}
+use Rattle.constraint_check.proofs.HoldLaws.{holds_law}
+use Rattle.constraint_check.proofs.holding.holds.Goals as goal
+
+pub returns : goal.returns
+returns c =
+    let constraint = c.args.constraint.now in
+    let a = c.args.solution.now in
+    let answer = c.passes.ensures ∙ ap (λ (os : List Operand). holds_on constraint.name a os) c.as_slice.ensures in
+    subst (λ (b : Bool). Decides b (Holds constraint a)) (sym answer) (holds_law constraint.name a constraint.operands)

@@ -1,0 +1,10 @@
+//! Whether a constraint holds of numbers for its variables.
+#![tactic(auto)]
+
+mod comparing;
+mod holding;
+mod rows;
+mod shapes;
+mod values;
+
+pub use holding::{holds, holds_now};

@@ -76,9 +76,9 @@ impl Alone {
             &mut self.sets,
             what.round_limit,
         )? {
-            Limited::Fixed { .. } => Ok(Narrowed::Fixed),
-            Limited::Failed { .. } => Ok(Narrowed::Failed),
-            Limited::RoundsSpent { .. } => Ok(Narrowed::GivenUp),
+            Limited::Fixed { rounds } => Ok(Narrowed::Fixed { rounds }),
+            Limited::Failed { rounds } => Ok(Narrowed::Failed { rounds }),
+            Limited::RoundsSpent { rounds } => Ok(Narrowed::GivenUp { rounds }),
         }
     }
 }

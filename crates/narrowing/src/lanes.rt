@@ -12,7 +12,7 @@ ghost use Rattle.rounds.specs.Shares.{share_limit};
 use crate::alone::flat_box;
 use crate::narrowed::Narrowed;
 use crate::propagation::Propagation;
-use fixpoint_laws::Limited;
+use fixpoint_laws::{Limited, law_rounds_lead};
 use guarded_tell::Kernel;
 use interval::{BoxOf, NoMemory, law_inside_order};
 use rounds::{Engine, Gate, Work, even_cut};
@@ -112,6 +112,7 @@ impl Lanes {
         ensures err { OnErr result (HaveRun what.now.kernels.now b.old.current b.new.current) }
     {
         law_inside_order();
+        law_rounds_lead();
         let work = Work {
             start: b.current(),
             kernels: what.kernels,
@@ -120,12 +121,12 @@ impl Lanes {
             gate: what.gate,
         };
         match self.engine.propagate(rt, alloc, &work, &mut self.into)? {
-            Limited::Fixed { .. } => {
+            Limited::Fixed { rounds } => {
                 take_bounds(b, &self.into)?;
-                Ok(Narrowed::Fixed)
+                Ok(Narrowed::Fixed { rounds })
             }
-            Limited::Failed { .. } => Ok(Narrowed::Failed),
-            Limited::RoundsSpent { .. } => Ok(Narrowed::GivenUp),
+            Limited::Failed { rounds } => Ok(Narrowed::Failed { rounds }),
+            Limited::RoundsSpent { rounds } => Ok(Narrowed::GivenUp { rounds }),
         }
     }
 }

@@ -14,8 +14,8 @@ use Rattle.branching.specs.Tree.{AreFixed, values_of, IsSolutionIn, BranchLaws}
 use Rattle.solution_lists.specs.Solutions.{LiesIn, SolvesInside, FixedIsPoint, PointSolves}
 use Rattle.search.specs.declared.kind.Kind.{Kind}
 use Rattle.search.specs.Costs.{IsBelow, IsAtMost}
-use Rattle.search.specs.Machine.{Search, State, Node, is_dropped, is_solved, is_parted, MayFall, cut_by, best_after, Reached, begun, stepped}
-use Rattle.search.specs.Laws.{IsInsideStart, RecordsSolutions, IsLeastSoFar, FindsLeast, CostsFall}
+use Rattle.search.specs.Machine.{Search, State, Step, Node, is_dropped, is_solved, is_parted, MayFall, cut_by, best_after, Reached, begun, stepped}
+use Rattle.search.specs.Laws.{IsInsideStart, RecordsSolutions, IsLeastSoFar, FindsLeast, RecordsBelow, CostsFall}
 use Rattle.search.proofs.CutLaws.{stays, costs_at_most}
 use Rattle.search.proofs.StackLaws.{Lies, cut_inside, greatest_lies, parts_of, top_lies}
 use Rattle.search.proofs.PremiseLaws.{long_sub}
@@ -280,6 +280,17 @@ module _ (order : InsideOrder) (branches : BranchLaws) (fixed : FixedIsPoint) (s
               (recorded_at_most st.best st.recorded a cost (one_recorded seen st.back st.recorded a node k) c)
         ]
 
+    -- what a node records costs less than the best
+    pub records_less : (before after : State) → Reached s before → (st : Step s before after) → (a : List ℤ) (cost : ℤ) → Contains st.recorded a →
+        cost_of goal a ≡ Some cost → IsBelow cost st.best
+    records_less before after r st a cost k c =
+        let l = top_lies order branches s p.phases (long_sub s p) p.in_range before st.rest st.top r st.takes.taken in
+        let seen = cut_by Kind.Least goal st.best st.top in
+        let i = cut_inside order branches s p.phases (long_sub s p) p.in_range Kind.Least st.best st.top in
+        let node : Node s.model s.kernels seen st.back st.recorded = subst (λ (k : Kind). Node s.model s.kernels (cut_by k goal st.best st.top) st.back st.recorded) least st.node in
+        let all = recorded_solve st.top seen st.back st.recorded l i node in
+        recorded_below st.top st.best a cost l (All-contains (Solves seen) st.recorded a all k) c
+
     -- ---- costs fall
 
     abbrev Falls : List ℤ → List ℤ → Type 0
@@ -343,6 +354,9 @@ records_solutions order branches fixed solve s state p r = records order branche
 
 pub finds_least : InsideOrder → BranchLaws → FixedIsPoint → PointSolves → FindsLeast
 finds_least order branches fixed solve s state least p r = least_so_far order branches fixed solve s p least state r
+
+pub records_below : InsideOrder → BranchLaws → FixedIsPoint → PointSolves → RecordsBelow
+records_below order branches fixed solve s before after least p r step a cost k c = records_less order branches fixed solve s p least before after r step a cost k c
 
 pub costs_fall : InsideOrder → BranchLaws → FixedIsPoint → PointSolves → CostsFall
 costs_fall order branches fixed solve s state least p r = falls order branches fixed solve s p least state r

@@ -1,10 +1,10 @@
 -- The loop of the search for the least cost follows the machine.
-use Rattle.std.proofs.Common.{◌≡◌, ◌≢◌, ℕ, zero, suc, ℤ, ◌+◌, ◌-◌, ◌<◌, ◌≤◌, ◌≤ℤ◌, neg_ℤ, ◌⊎◌, inl, inr, List, [], ◌∷◌, ◌++◌, length, take, map, reverse, Option, Some, None, Result, Ok, Err, OnErr, refl, sym, ap, subst, ◌∙◌, arith, append-nil, length-append}
+use Rattle.std.proofs.Common.{◌≡◌, ◌≢◌, ℕ, zero, suc, ℤ, ◌+◌, ◌-◌, ◌<◌, ◌≤◌, ◌≤ℤ◌, neg_ℤ, ◌⊎◌, inl, inr, List, [], ◌∷◌, ◌++◌, length, get_or, take, map, reverse, Option, Some, None, Result, Ok, Err, OnErr, refl, sym, ap, subst, ◌∙◌, arith, append-nil, length-append}
 use Rattle.std.specs.Prelude.{IfSome, MatchOption, option_to_list}
 use Rattle.std.specs.List.{All, Any, Contains, sum_by}
 use Rattle.std.proofs.lemmas.Int.{ints, by_lt_z}
 use Rattle.std.proofs.lemmas.List.{append_assoc, map-append, reverse-append}
-use Rattle.std.proofs.lemmas.List.Elements.{All-head, All-tail}
+use Rattle.std.proofs.lemmas.List.Elements.{All-head, All-tail, Contains-get_or}
 use Rattle.interval.specs.Limits.{IsNumber, largest_number}
 use Rattle.interval.specs.Boxes.{Bounds, IsInRange, IsInside, InsideOrder}
 use Rattle.guarded_tell.specs.declared.kernel.Kernel.{Kernel}
@@ -23,15 +23,15 @@ use Rattle.solution_lists.specs.Solutions.{LiesIn, SolvesInside}
 use Rattle.best_bound.specs.Lists.{Among, with_seen, IsLeastCost}
 use Rattle.search.specs.declared.kind.Kind.{Kind}
 use Rattle.search.specs.declared.ends.Why.{Why}
-use Rattle.search.specs.Costs.{IsAtMost, IsTermIn, IsObjectiveIn}
+use Rattle.search.specs.Costs.{IsBelow, IsAtMost, IsTermIn, IsObjectiveIn}
 use Rattle.narrowing.specs.Narrowing.{MayGiveUp}
-use Rattle.search.specs.Machine.{Search, State, Node, is_dropped, is_solved, is_parted, MayFall, cut_by, best_after, Takes, GoesOn, Reached, begun, stepped}
+use Rattle.search.specs.Machine.{Search, State, Step, Node, is_dropped, is_solved, is_parted, MayFall, cut_by, best_after, Takes, GoesOn, Reached, begun, stepped}
 use Rattle.search.specs.Nodes.{IsNode}
 use Rattle.search.specs.Ends.{EndsDone, EndsOutOfNodes, EndsOutOfRounds, EndsSpent}
 use Rattle.search.specs.declared.closing.Closing.{Closing}
 use Rattle.search.specs.Closings.{IsClosing}
-use Rattle.search.specs.Laws.{IsInsideStart, RecordsSolutions, FindsLeast, MorePosted}
-use Rattle.search.specs.LeastEnds.{least_of, last_of, IsCost, PostsCosts, SeesCosts, IsBrokenOff, CostAtLeast}
+use Rattle.search.specs.Laws.{IsInsideStart, RecordsSolutions, FindsLeast, RecordsBelow, MorePosted}
+use Rattle.search.specs.LeastEnds.{least_of, last_of, IsCost, PostsCosts, SeesCosts, IsBrokenOff, CostsLess, CostAtLeast}
 use Rattle.search.proofs.StackLaws.{some_left, weight, Lies, top_lies, cut_inside, step_less}
 use Rattle.search.proofs.PremiseLaws.{long_sub, runs_sub}
 use Rattle.search.proofs.SearchLaws.{IsCounted, below_limit, full_here}
@@ -177,6 +177,21 @@ one_posted goal items rest a cost before after l e c k = record {
   posted = k;
 }
 
+-- what costs less than the lowest cost that was seen costs less than all that were seen before
+pub costs_less : (goal : Goal) (before after : List ℤ) (lowest : Option ℤ) (recorded : List (List ℤ)) → IsLeastCost after lowest → ((x : ℤ) → Among before x → Among after x) →
+    ((a : List ℤ) (cost : ℤ) → Contains recorded a → cost_of goal a ≡ Some cost → IsBelow cost lowest) → All (CostsLess goal before) recorded
+costs_less goal before after None recorded least kept below k d l cost c e h = absurd (subst (λ (xs : List ℤ). Among xs c) least (kept c h))
+costs_less goal before after (Some b) recorded least kept below k d l cost c e h =
+    let q = below (get_or recorded k d) cost (Contains-get_or recorded k d l) e in
+    let m = least.1 c (kept c h) in
+    omega (arith, ints, q, m)
+
+-- what holds of all holds of the last, if there is one
+pub last_holds : (P : List ℤ → Type 0) (found : List (List ℤ)) → All P found → IfSome (last_of found) P
+last_holds P [] h = tt
+last_holds P (x ∷ []) h = h 0 x (omega arith)
+last_holds P (x ∷ y ∷ others) h = last_holds P (y ∷ others) (All-tail P x (y ∷ others) h)
+
 -- what is taken from the end of a list is its last, or the list is empty
 last_push : (rest : List (List ℤ)) (x : List ℤ) → last_of (rest ++ x ∷ []) ≡ Some x
 last_push [] x = refl
@@ -264,12 +279,13 @@ module _ (order : InsideOrder) (branches : BranchLaws) (s : Search) (least : s.k
         abbrev looked_at : Bounds
         looked_at = cut_by Kind.Least s.model.goal lowest top
 
-        pub node_reached : (after : List Bounds) (recorded : List (List ℤ)) → IsNode s.model s.kernels looked_at rest after [] recorded →
-            Reached s (record { stack = after; best = best_after Kind.Least s.model.goal lowest recorded; count = count + 1; found = found ++ recorded })
-        node_reached after recorded h =
+        abbrev after_node : List Bounds → List (List ℤ) → State
+        after_node after recorded = record { stack = after; best = best_after Kind.Least s.model.goal lowest recorded; count = count + 1; found = found ++ recorded }
+
+        abbrev step : (after : List Bounds) (recorded : List (List ℤ)) → IsNode s.model s.kernels looked_at rest after [] recorded → Step s state (after_node after recorded)
+        step after recorded h =
             let same : recorded ≡ h.recorded = h.solutions in
-            stepped s state (record { stack = after; best = best_after Kind.Least s.model.goal lowest recorded; count = count + 1; found = found ++ recorded }) reached on
-            (record {
+            record {
               best = lowest;
               rest = rest;
               top = top;
@@ -282,7 +298,16 @@ module _ (order : InsideOrder) (branches : BranchLaws) (s : Search) (least : s.k
               falls = ap (λ (k : Kind). best_after k s.model.goal lowest recorded) (sym least);
               count = refl;
               found = refl;
-            })
+            }
+
+        pub node_reached : (after : List Bounds) (recorded : List (List ℤ)) → IsNode s.model s.kernels looked_at rest after [] recorded →
+            Reached s (record { stack = after; best = best_after Kind.Least s.model.goal lowest recorded; count = count + 1; found = found ++ recorded })
+        node_reached after recorded h = stepped s state (after_node after recorded) reached on (step after recorded h)
+
+        -- what the node records costs less than the lowest cost
+        pub node_below : RecordsBelow → (after : List Bounds) (recorded : List (List ℤ)) → IsNode s.model s.kernels looked_at rest after [] recorded →
+            (a : List ℤ) (cost : ℤ) → Contains recorded a → cost_of s.model.goal a ≡ Some cost → IsBelow cost lowest
+        node_below law after recorded h = law s state (after_node after recorded) least p reached (step after recorded h)
 
         pub out_of_rounds : (told : ℕ) → IsCounted s.node_limit told (count + 1) → MayGiveUp s.kernels s.round_limit looked_at → EndsOutOfRounds s told found
         out_of_rounds told h up = record {

@@ -4,7 +4,7 @@ use Rattle.interval.specs.Boxes.{Bounds}
 use Rattle.constraint_model.specs.declared.model.FznModel.{FznModel}
 use Rattle.decompose.specs.declared.program.Program.{Program}
 use Rattle.branching.specs.Tree.{SolutionsIn}
-use Rattle.best_bound.specs.Lists.{Among}
+use Rattle.best_bound.specs.Lists.{IsLeastNumber}
 use Rattle.search.specs.declared.kind.Kind.{Kind}
 use Rattle.search.specs.declared.ends.Why.{Why}
 use Rattle.search.specs.declared.ends.FirstEnd.{FirstEnd}
@@ -65,12 +65,18 @@ pub record IsAllDone (s : Search) (found : List (List ℤ)) : Type 0 where
   pub ends : EndsDone s found
   pub listed : SolutionsIn s.model s.kernels s.sub found
 
--- The run of subproblem `number` ends: the search is at its end, a limit has stopped it, or a lesser number was seen, of a
--- subproblem that has a solution.
+-- The run of subproblem `number` ends: the search is at its end, a limit has stopped it, or the least number that was seen,
+-- of a subproblem that has a solution, is a lesser one.
 abbrev pub IsFirstEnd : Search → ℕ → List ℕ → FirstEnd → Type 0
 IsFirstEnd s number seen (FirstEnd.Done answer) = IsFirstDone s answer
 IsFirstEnd s number seen (FirstEnd.Spent nodes why) = EndsSpent s why nodes []
-IsFirstEnd s number seen (FirstEnd.Cut lesser) = (lesser < number) × Among seen lesser
+IsFirstEnd s number seen (FirstEnd.Cut lesser) = (lesser < number) × IsLeastNumber seen (Some lesser)
+
+-- the run is cut by a lesser number
+abbrev pub IsCut : FirstEnd → Type 0
+IsCut (FirstEnd.Done answer) = ⊥
+IsCut (FirstEnd.Spent nodes why) = ⊥
+IsCut (FirstEnd.Cut lesser) = Unit {0}
 
 -- the number of the subproblem is posted where a solution was found, and nothing else
 abbrev pub posts_of : ℕ → List ℕ → FirstEnd → List ℕ

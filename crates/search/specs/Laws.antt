@@ -13,8 +13,8 @@ use Rattle.branching.specs.Points.{points_of}
 use Rattle.branching.specs.Tree.{SolutionsIn}
 use Rattle.solution_lists.specs.Solutions.{LiesIn, SolvesInside}
 use Rattle.search.specs.declared.kind.Kind.{Kind}
-use Rattle.search.specs.Costs.{IsAtMost}
-use Rattle.search.specs.Machine.{Search, State, Reached, IsDone, IsOutOfNodes, IsOutOfRounds}
+use Rattle.search.specs.Costs.{IsBelow, IsAtMost}
+use Rattle.search.specs.Machine.{Search, State, Step, Reached, IsDone, IsOutOfNodes, IsOutOfRounds}
 
 -- a search of a box inside the start of a model's program
 pub record IsInsideStart (s : Search) : Type 0 where
@@ -62,6 +62,11 @@ pub record IsLeastSoFar (s : Search) (state : State) : Type 0 where
 
 abbrev pub FindsLeast : Type 0
 FindsLeast = (s : Search) (state : State) → s.kind ≡ Kind.Least → IsInsideStart s → Reached s state → IsLeastSoFar s state
+
+-- what a node records costs less than the best, where that stayed or had fallen to before it
+abbrev pub RecordsBelow : Type 0
+RecordsBelow = (s : Search) (before after : State) → s.kind ≡ Kind.Least → IsInsideStart s → Reached s before → (step : Step s before after) →
+    (a : List ℤ) (cost : ℤ) → Contains step.recorded a → cost_of s.model.goal a ≡ Some cost → IsBelow cost step.best
 
 -- each solution that is recorded costs less than all that were recorded before it
 abbrev pub CostsFall : Type 0

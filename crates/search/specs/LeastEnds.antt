@@ -1,5 +1,5 @@
 -- What a run for the least cost answers, and what it posts.
-use Rattle.std.specs.Prelude.{◌≡◌, ℕ, ℤ, ◌≤ℤ◌, List, [], ◌∷◌, ◌++◌, map, reverse, Option, Some, None, Any, Contains}
+use Rattle.std.specs.Prelude.{◌≡◌, ℕ, ℤ, ◌≤ℤ◌, ◌<ℤ◌, List, [], ◌∷◌, ◌++◌, map, reverse, Option, Some, None, IfSome, Any, Contains}
 use Rattle.interval.specs.Boxes.{Bounds}
 use Rattle.constraint_model.specs.declared.model.Goal.{Goal}
 use Rattle.constraint_model.specs.declared.model.FznModel.{FznModel}
@@ -63,6 +63,15 @@ pub record IsBrokenOff (s : Search) (before after : List ℤ) : Type 0 where
   pub state : State
   pub reached : Reached s state
   pub posts : PostsCosts s.model.goal state.found before after
+
+-- the assignment costs less than each of these costs
+abbrev pub CostsLess : Goal → List ℤ → List ℤ → Type 0
+CostsLess goal costs a = (cost c : ℤ) → cost_of goal a ≡ Some cost → Among costs c → cost <ℤ c
+
+-- the solution that the end gives, if it gives one, costs less than each of these costs
+abbrev pub CostsBelow : Goal → List ℤ → LeastEnd → Type 0
+CostsBelow goal costs (LeastEnd.Done answer) = IfSome answer (CostsLess goal costs)
+CostsBelow goal costs (LeastEnd.Spent nodes why so_far) = IfSome so_far (CostsLess goal costs)
 
 -- each solution in the box costs at least one of these costs
 abbrev pub CostAtLeast : FznModel → Bounds → List ℤ → Type 0

@@ -1,13 +1,13 @@
 //! The run for the first solution.
 
-ghost use Rattle.std.specs.Prelude.{◌≡◌, ◌≢◌, ◌<◌, ℕ, ℤ, List, [], length, IfOk, OnErr, IfSome};
+ghost use Rattle.std.specs.Prelude.{◌≡◌, ◌≢◌, ◌<◌, ◌≤◌, ℕ, ℤ, List, [], length, IfOk, OnErr, IfSome, Some, None};
 ghost use Rattle.std.specs.Bool.{OnTrue, OnFalse};
 ghost use Rattle.interval.specs.Boxes.{IsInside};
 ghost use Rattle.branching.specs.Tree.{SolutionsIn};
-ghost use Rattle.best_bound.specs.Lists.{Among};
+ghost use Rattle.best_bound.specs.Lists.{Among, IsLeastNumber};
 ghost use Rattle.best_bound.specs.Seats.{IsFoundSeatOf, found_parts, numbers_seen, numbers_posted};
 ghost use Rattle.search.specs.Premises.{IsRun, CanSearch};
-ghost use Rattle.search.specs.Ends.{search_of, IsFirstEnd, posts_of};
+ghost use Rattle.search.specs.Ends.{search_of, IsFirstEnd, IsCut, posts_of};
 
 use crate::closing::{counted, is_full};
 use crate::ends::{FirstEnd, Why};
@@ -32,7 +32,8 @@ fn lesser<N: Numbers>(found: &Found<N>, seat: &mut FoundSeat, number: u32) -> Op
     ensures posted { numbers_posted seat.new ≡ numbers_posted seat.old }
     ensures seen { (n : ℕ) → Among (numbers_seen seat.old) n → Among (numbers_seen seat.new) n }
     ensures below { IfSome result (λ n. n < number) }
-    ensures among { IfSome result (Among (numbers_seen seat.new)) }
+    ensures least { IfSome result (λ n. IsLeastNumber (numbers_seen seat.new) (Some n)) }
+    ensures none { result ≡ None → (n : ℕ) → Among (numbers_seen seat.new) n → number ≤ n }
     ensures passes { IfSome result N.has_solution }
 {
     match found.seen(seat) {
@@ -67,6 +68,7 @@ fn search_first<R: Threads + Sync, L: Gate + Sync, N: Numbers>(
     ensures seen { (n : ℕ) → Among (numbers_seen seat.old) n → Among (numbers_seen seat.new) n }
     ensures end { IfOk result (IsFirstEnd (search_of run.now.model.now run.now.program.now run.now.node_limit run.now.round_limit Kind.First sub.now) number (numbers_seen seat.new)) }
     ensures cut { IfOk result (λ end. (n : ℕ) → end ≡ FirstEnd.Cut n → N.has_solution n) }
+    ensures at_once { (n : ℕ) → Among (numbers_seen seat.old) n → n < number → IfOk result IsCut }
 {
     law_branches();
     law_every_list();
@@ -121,6 +123,7 @@ pub(crate) fn first_in<R: Threads + Sync, L: Gate + Sync, N: Numbers>(
     ensures seen { (n : ℕ) → Among (numbers_seen seat.old) n → Among (numbers_seen seat.new) n }
     ensures end { IfOk result (IsFirstEnd (search_of run.now.model.now run.now.program.now run.now.node_limit run.now.round_limit Kind.First sub.now) number (numbers_seen seat.new)) }
     ensures cut { IfOk result (λ end. (n : ℕ) → end ≡ FirstEnd.Cut n → N.has_solution n) }
+    ensures at_once { (n : ℕ) → Among (numbers_seen seat.old) n → n < number → IfOk result IsCut }
     ensures posts { IfOk result (λ end. numbers_posted seat.new ≡ posts_of number (numbers_posted seat.old) end) }
     ensures err { OnErr result (numbers_posted seat.new ≡ numbers_posted seat.old) }
 {
@@ -132,7 +135,8 @@ pub(crate) fn first_in<R: Threads + Sync, L: Gate + Sync, N: Numbers>(
 }
 
 /// Searches a box, the subproblem `number`, for its first solution in the order of the search tree. It looks at `found`
-/// before each node, and is cut where a lesser number is there. Where it has a solution it posts its number.
+/// before each node, and is cut where a lesser number is there: at once where the seat has seen one before. Where it has a
+/// solution it posts its number.
 pub fn run_first<R: Threads + Sync, L: Gate + Sync, N: Numbers>(
     rt: &R,
     alloc: Global,
@@ -151,6 +155,7 @@ pub fn run_first<R: Threads + Sync, L: Gate + Sync, N: Numbers>(
     ensures seen { (n : ℕ) → Among (numbers_seen seat.old) n → Among (numbers_seen seat.new) n }
     ensures end { IfOk result (IsFirstEnd (search_of run.now.model.now run.now.program.now run.now.node_limit run.now.round_limit Kind.First sub.now) number (numbers_seen seat.new)) }
     ensures cut { IfOk result (λ end. (n : ℕ) → end ≡ FirstEnd.Cut n → N.has_solution n) }
+    ensures at_once { (n : ℕ) → Among (numbers_seen seat.old) n → n < number → IfOk result IsCut }
     ensures posts { IfOk result (λ end. numbers_posted seat.new ≡ posts_of number (numbers_posted seat.old) end) }
     ensures err { OnErr result (numbers_posted seat.new ≡ numbers_posted seat.old) }
 {

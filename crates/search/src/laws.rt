@@ -3,7 +3,7 @@
 ghost use Rattle.std.specs.Prelude.{length};
 ghost use Rattle.interval.specs.Boxes.{IsInside};
 ghost use Rattle.search.specs.Premises.{IsRun, CanSearch};
-ghost use Rattle.search.specs.Laws.{RecordsSolutions, PrefixLaws, FindsLeast, CostsFall, MorePosted, EndLaws, LimitLaws};
+ghost use Rattle.search.specs.Laws.{RecordsSolutions, PrefixLaws, FindsLeast, RecordsBelow, CostsFall, MorePosted, EndLaws, LimitLaws};
 
 use crate::run::Run;
 use branching::{law_branches, law_every_list, law_points};
@@ -34,6 +34,16 @@ pub fn law_found_first()
 /// A search for the least cost loses no solution that costs less than the best.
 pub fn law_finds_least()
     ensures { FindsLeast }
+{
+    law_inside_order();
+    law_branches();
+    law_fixed_is_point();
+    law_point_solves();
+}
+
+/// A node of a search for the least cost records what costs less than the best.
+pub(crate) fn law_records_below()
+    ensures { RecordsBelow }
 {
     law_inside_order();
     law_branches();

@@ -10,12 +10,12 @@ ghost use Rattle.best_bound.specs.Seats.{IsBestSeatOf, best_parts, costs_seen, c
 ghost use Rattle.search.specs.Costs.{IsObjectiveIn};
 ghost use Rattle.search.specs.Premises.{IsRun};
 ghost use Rattle.search.specs.Closings.{IsClosing};
-ghost use Rattle.search.specs.LeastEnds.{least_of, IsCost, PostsCosts, SeesCosts, IsLeastEnd, IsBrokenOff, CostAtLeast, OnDone};
+ghost use Rattle.search.specs.LeastEnds.{least_of, IsCost, PostsCosts, SeesCosts, IsLeastEnd, IsBrokenOff, CostsLess, CostsBelow, CostAtLeast, OnDone};
 
 use crate::closing::{Closing, counted, is_full};
 use crate::costs::cost;
 use crate::ends::{LeastEnd, Why};
-use crate::laws::{law_finds_least, law_more_posted, law_records_solutions};
+use crate::laws::{law_finds_least, law_more_posted, law_records_below, law_records_solutions};
 use crate::node::Visit;
 use crate::run::Run;
 use crate::searcher::Searcher;
@@ -80,6 +80,7 @@ fn search_least<R: Threads + Sync, L: Gate + Sync, C: Costs>(
     ensures closing { IfOk result (λ closing. IsClosing (least_of run.now.model.now run.now.program.now run.now.node_limit run.now.round_limit (costs_seen seat.new) sub.now) closing) }
     ensures posted { IfOk result (λ closing. PostsCosts run.now.model.now.goal closing.found (costs_posted seat.old) (costs_posted seat.new)) }
     ensures least { IfOk result (λ closing. closing.stopped ≡ None → CostAtLeast run.now.model.now sub.now (costs_seen seat.new)) }
+    ensures below { IfOk result (λ closing. All (CostsLess run.now.model.now.goal (costs_seen seat.old)) closing.found) }
     ensures err { OnErr result (IsBrokenOff (least_of run.now.model.now run.now.program.now run.now.node_limit run.now.round_limit (costs_seen seat.new) sub.now) (costs_posted seat.old) (costs_posted seat.new)) }
 {
     law_branches();
@@ -87,6 +88,7 @@ fn search_least<R: Threads + Sync, L: Gate + Sync, C: Costs>(
     law_more_posted();
     law_records_solutions();
     law_finds_least();
+    law_records_below();
     // its contract says that the bounds are in range
     let _length = sub.len();
     let mut searcher = Searcher::new(alloc, run, sub)?;
@@ -121,8 +123,8 @@ fn search_least<R: Threads + Sync, L: Gate + Sync, C: Costs>(
     })
 }
 
-/// Searches a box for a solution of least cost. Costs that other seats post are used as the best, and each that is found is
-/// posted; those stay posted where memory is refused later.
+/// Searches a box for a solution of least cost, one that costs less than all that the seat has seen. Costs that other seats
+/// post are used as the best, and each that is found is posted; those stay posted where memory is refused later.
 pub fn run_least<R: Threads + Sync, L: Gate + Sync, C: Costs>(
     rt: &R,
     alloc: Global,
@@ -141,6 +143,7 @@ pub fn run_least<R: Threads + Sync, L: Gate + Sync, C: Costs>(
     ensures kept { (cost : ℤ) → Among (costs_seen seat.old) cost → Among (costs_seen seat.new) cost }
     ensures end { IfOk result (λ end. IsLeastEnd (least_of run.now.model.now run.now.program.now run.now.node_limit run.now.round_limit (costs_seen seat.new) sub.now) (costs_posted seat.old) (costs_posted seat.new) end) }
     ensures least { IfOk result (λ end. OnDone end (CostAtLeast run.now.model.now sub.now (costs_seen seat.new))) }
+    ensures below { IfOk result (CostsBelow run.now.model.now.goal (costs_seen seat.old)) }
     ensures err { OnErr result (IsBrokenOff (least_of run.now.model.now run.now.program.now run.now.node_limit run.now.round_limit (costs_seen seat.new) sub.now) (costs_posted seat.old) (costs_posted seat.new)) }
 {
     let closing = search_least(rt, alloc, run, sub, best, seat)?;

@@ -276,7 +276,7 @@ impl Searcher {
     {
         if self.is_crossed {
             self.narrower.forget();
-            return Ok(Narrowed::Failed);
+            return Ok(Narrowed::Failed { rounds: 0 });
         }
         let what = Propagation {
             kernels: run.program.kernels.as_slice(),
@@ -309,12 +309,12 @@ impl Searcher {
         law_inside_order();
         self.cut(run, best)?;
         match self.narrow(rt, alloc, run)? {
-            Narrowed::GivenUp => Ok(Visit::GivenUp),
-            Narrowed::Failed => {
+            Narrowed::GivenUp { .. } => Ok(Visit::GivenUp),
+            Narrowed::Failed { .. } => {
                 self.back(run)?;
                 Ok(Visit::Done)
             }
-            Narrowed::Fixed => {
+            Narrowed::Fixed { .. } => {
                 self.settle(alloc, run, found)?;
                 Ok(Visit::Done)
             }

@@ -1,4 +1,4 @@
-use Rattle.std.proofs.Common.{length, ◌∙◌, sym, arith}
+use Rattle.std.proofs.Common.{◌∙◌, sym, arith}
 use Rattle.narrowing.proofs.Copies.{more_same, all_same, between_put}
 use Rattle.narrowing.proofs.lanes.take_bounds.Goals as goal
 

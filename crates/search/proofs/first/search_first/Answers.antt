@@ -1,4 +1,4 @@
-use Rattle.std.proofs.Common.{◌≡◌, None, ℕ, ◌+◌, [], refl, sym, ap, subst, ◌∙◌, inl, inr, arith}
+use Rattle.std.proofs.Common.{◌≡◌, None, ℕ, ◌+◌, [], ◌∷◌, refl, sym, ap, subst, ◌∙◌, inl, inr, arith}
 use Rattle.search.specs.declared.kind.Kind.{Kind}
 use Rattle.search.specs.declared.ends.Why.{Why}
 use Rattle.search.specs.Machine.{begun}
@@ -22,6 +22,7 @@ boxes-init g c = record {
   parts = refl;
   posted = refl;
   seen = λ n h. h;
+  fresh = λ n h l e. absurd (let q : c.args.sub.now ∷ [] ≡ [] = sym c.in_ok-searcher.ensures.boxes ∙ e in cc);
 }
 
 pub node-requires-clause-run : goal.node-requires-clause-run
@@ -51,6 +52,8 @@ boxes-preserved g c =
       parts = c.lesser.ensures.parts ∙ c.boxes.invariant.parts;
       posted = c.lesser.ensures.posted ∙ c.boxes.invariant.posted;
       seen = λ n h. c.lesser.ensures.seen n (c.boxes.invariant.seen n h);
+      fresh = λ n h l e.
+          let m = c.lesser.ensures.none c.in_default.is n (c.lesser.ensures.seen n (c.boxes.invariant.seen n h)) in omega (arith, l, m);
     }
 
 pub returns-in-GivenUp-clause-end : goal.returns-in-GivenUp-clause-end

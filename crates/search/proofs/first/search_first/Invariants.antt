@@ -1,4 +1,4 @@
-use Rattle.std.proofs.Common.{◌≡◌, ℕ, [], length, None}
+use Rattle.std.proofs.Common.{◌≡◌, ◌≢◌, ◌<◌, ℕ, [], length, None}
 use Rattle.std.specs.List.{sum_by}
 use Rattle.best_bound.specs.Lists.{Among}
 use Rattle.best_bound.specs.Seats.{IsFoundSeatOf, found_parts, numbers_seen, numbers_posted}
@@ -24,6 +24,7 @@ invariant-boxes g l = record {
   parts : found_parts l.seat ≡ found_parts l.initial.seat;
   posted : numbers_posted l.seat ≡ numbers_posted l.initial.seat;
   seen : (n : ℕ) → Among (numbers_seen l.initial.seat) n → Among (numbers_seen l.seat) n;
+  fresh : (n : ℕ) → Among (numbers_seen l.initial.seat) n → n < l.number → boxes_of l.searcher ≢ [];
 }
 
 abbrev pub decreases-boxes : goal.decreases-boxes

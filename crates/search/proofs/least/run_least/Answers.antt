@@ -1,6 +1,8 @@
+use Rattle.std.proofs.Common.{ℤ, List, Option, sym, subst}
+use Rattle.std.specs.Prelude.{IfSome}
 use Rattle.best_bound.specs.Seats.{costs_seen}
-use Rattle.search.specs.LeastEnds.{least_of}
-use Rattle.search.proofs.LeastRunLaws.{popped_last, done_of, spent_of}
+use Rattle.search.specs.LeastEnds.{least_of, CostsLess}
+use Rattle.search.proofs.LeastRunLaws.{popped_last, last_holds, done_of, spent_of}
 use Rattle.search.proofs.least.run_least.Goals as goal
 
 pub returns-in-Some-clause-end : goal.returns-in-Some-clause-end
@@ -24,3 +26,17 @@ returns-clause-end g c = record {
   );
   posts = c.in_ok-closing.ensures.posted;
 }
+
+pub returns-in-Some-clause-below : goal.returns-in-Some-clause-below
+returns-in-Some-clause-below g c =
+    let less = CostsLess c.args.run.now.model.now.goal (costs_seen c.args.seat.now) in
+    let last = popped_last c.in_ok-closing.closing.found c.pop-last.new.self.items c.into_vec-solutions.result.items c.pop-last.result c.into_vec-solutions.result.len c.pop-last.new.self.len
+    c.into_vec-solutions.ensures c.pop-last.ensures.items c.pop-last.ensures.rest c.pop-last.ensures.cases in
+    subst (λ (answer : Option (List ℤ)). IfSome answer less) (sym last) (last_holds less c.in_ok-closing.closing.found c.in_ok-closing.ensures.below)
+
+pub returns-clause-below : goal.returns-clause-below
+returns-clause-below g c =
+    let less = CostsLess c.args.run.now.model.now.goal (costs_seen c.args.seat.now) in
+    let last = popped_last c.in_ok-closing.closing.found c.pop-last.new.self.items c.into_vec-solutions.result.items c.pop-last.result c.into_vec-solutions.result.len c.pop-last.new.self.len
+    c.into_vec-solutions.ensures c.pop-last.ensures.items c.pop-last.ensures.rest c.pop-last.ensures.cases in
+    subst (λ (answer : Option (List ℤ)). IfSome answer less) (sym last) (last_holds less c.in_ok-closing.closing.found c.in_ok-closing.ensures.below)

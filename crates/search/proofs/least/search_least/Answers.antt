@@ -1,19 +1,20 @@
 use Rattle.std.proofs.Common.{◌≡◌, ◌+◌, ◌-◌, ◌≤◌, Some, ◌++◌, ℤ, List, [], None, length, get_or, ℕ, ap, refl, sym, subst, ◌∙◌, arith, inl, inr}
 use Rattle.std.specs.List.{All}
+use Rattle.std.proofs.lemmas.List.Elements.{All-nil, All-append}
 use Rattle.solution_lists.specs.Solutions.{SolvesInside}
 use Rattle.best_bound.specs.Seats.{costs_seen, costs_posted}
 use Rattle.best_bound.specs.declared.seat.BestSeat.{BestSeat}
 use Rattle.search.specs.declared.kind.Kind.{Kind}
 use Rattle.search.specs.Machine.{Reached, begun, cut_by, best_after}
 use Rattle.search.specs.Nodes.{IsVisit}
-use Rattle.search.specs.LeastEnds.{least_of, PostsCosts, SeesCosts, IsBrokenOff}
+use Rattle.search.specs.LeastEnds.{least_of, PostsCosts, SeesCosts, IsBrokenOff, CostsLess}
 use Rattle.search.specs.Costs.{IsObjectiveIn}
 use Rattle.search.specs.Premises.{CanSearch}
 use Rattle.search.specs.Stacks.{boxes_of, count_of}
 use Rattle.search.proofs.PremiseLaws.{can_search}
 use Rattle.search.proofs.RunLaws.{of_false}
 use Rattle.search.proofs.SearchLaws.{counted_more, of_done, of_given_up}
-use Rattle.search.proofs.LeastRunLaws.{premises, reached_after_look, falls_to, kept_by, lowest_number, objective_in, with_objective, few_vars, node_reached, out_of_rounds, node_less, recorded_solve, at_most_one, can_post, cost_posted, node_low, posts_more, posts_none, covered, contains_of, among_of, on_any_err, broken_at_start, broken_at_node}
+use Rattle.search.proofs.LeastRunLaws.{premises, reached_after_look, falls_to, kept_by, lowest_number, objective_in, with_objective, few_vars, node_reached, node_below, costs_less, out_of_rounds, node_less, recorded_solve, at_most_one, can_post, cost_posted, node_low, posts_more, posts_none, covered, contains_of, among_of, on_any_err, broken_at_start, broken_at_node}
 use Rattle.search.proofs.least.search_least.Goals as goal
 
 pub boxes-init : goal.boxes-init
@@ -30,6 +31,7 @@ boxes-init g c = record {
   parts = refl;
   kept = λ x h. h;
   posted = subst (λ (xs : List (List ℤ)). PostsCosts c.args.run.now.model.now.goal xs (costs_posted c.args.seat.now) (costs_posted c.args.seat.now)) (sym c.new-found.ensures) (posts_none c.args.run.now.model.now.goal (costs_posted c.args.seat.now));
+  below = subst (All (CostsLess c.args.run.now.model.now.goal (costs_seen c.args.seat.now))) (sym c.new-found.ensures) (All-nil (CostsLess c.args.run.now.model.now.goal (costs_seen c.args.seat.now)));
 }
 
 pub node-requires-clause-run : goal.node-requires-clause-run
@@ -93,6 +95,11 @@ boxes-preserved g c =
       posted = subst (λ (xs : List (List ℤ)). PostsCosts c.args.run.now.model.now.goal xs (costs_posted c.args.seat.now) (costs_posted c.record_fresh.new.seat)) (sym found)
           (posts_more c.args.run.now.model.now.goal c.boxes.found c.node.new.found (costs_posted c.args.seat.now) (costs_posted c.seen-lowest.new.seat) (costs_posted c.record_fresh.new.seat)
           (subst (PostsCosts c.args.run.now.model.now.goal c.boxes.found (costs_posted c.args.seat.now)) (sym c.seen-lowest.ensures.posted) c.boxes.invariant.posted) posts);
+      below = subst (All (CostsLess c.args.run.now.model.now.goal (costs_seen c.args.seat.now))) (sym found)
+          (All-append (CostsLess c.args.run.now.model.now.goal (costs_seen c.args.seat.now)) c.boxes.found c.node.new.found c.boxes.invariant.below
+          (costs_less c.args.run.now.model.now.goal (costs_seen c.args.seat.now) (costs_seen c.seen-lowest.new.seat) c.seen-lowest.result c.node.new.found c.seen-lowest.ensures.least
+          (λ x h. kept_by (costs_seen c.boxes.seat) (costs_seen c.seen-lowest.new.seat) c.seen-lowest.result c.seen-lowest.ensures.seen x (c.boxes.invariant.kept x h))
+          (node_below c.law_inside_order.ensures c.law_branches.ensures (least_of c.args.run.now.model.now c.args.run.now.program.now c.args.run.now.node_limit c.args.run.now.round_limit (costs_seen c.seen-lowest.new.seat) c.args.sub.now) refl (premises c.args.run.now.model.now c.args.run.now.program.now c.args.run.now.node_limit c.args.run.now.round_limit c.args.sub.now c.requires.run.program c.requires.run.model c.requires.inside c.len-length.ensures.in_range (costs_seen c.seen-lowest.new.seat)) c.requires.run.model (boxes_of c.boxes.searcher) c.boxes.invariant.lowest c.boxes.invariant.count c.boxes.found (reached_after_look c.args.run.now.model.now c.args.run.now.program.now c.args.run.now.node_limit c.args.run.now.round_limit c.args.sub.now c.requires.run.program c.requires.run.model c.requires.inside c.len-length.ensures.in_range c.law_more_posted.ensures (costs_seen c.boxes.seat) (costs_seen c.seen-lowest.new.seat) c.seen-lowest.result (record { stack = (boxes_of c.boxes.searcher); best = c.boxes.invariant.lowest; count = c.boxes.invariant.count; found = c.boxes.found }) c.seen-lowest.ensures.seen c.boxes.invariant.reached) t.rest t.top t.taken c.boxes.nodes c.if-is_full.ensures.short c.boxes.invariant.counted c.if-is_full.ensures.below c.seen-lowest.result (falls_to (costs_seen c.boxes.seat) (costs_seen c.seen-lowest.new.seat) c.boxes.invariant.lowest c.seen-lowest.result (kept_by (costs_seen c.boxes.seat) (costs_seen c.seen-lowest.new.seat) c.seen-lowest.result c.seen-lowest.ensures.seen) c.boxes.invariant.low c.seen-lowest.ensures.least) c.law_records_below.ensures (boxes_of c.node.new.self) c.node.new.found (of_done c.args.run.now.model.now c.args.run.now.program.now.kernels c.args.run.now.round_limit (cut_by Kind.Least c.args.run.now.model.now.goal c.seen-lowest.result t.top) t.rest (boxes_of c.node.new.self) [] c.node.new.found c.in_ok-node.field-0 c.in-Done.is (subst (λ (xs : List (List ℤ)). IsVisit c.args.run.now.model.now c.args.run.now.program.now.kernels c.args.run.now.round_limit (cut_by Kind.Least c.args.run.now.model.now.goal c.seen-lowest.result t.top) t.rest (boxes_of c.node.new.self) xs c.node.new.found c.in_ok-node.field-0) c.new-fresh.ensures t.visit)))));
     }
 
 pub returns-in-GivenUp-clause-closing : goal.returns-in-GivenUp-clause-closing

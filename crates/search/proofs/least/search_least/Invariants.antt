@@ -1,9 +1,9 @@
 use Rattle.std.proofs.Common.{◌≡◌, ℕ, ℤ, Option, length}
-use Rattle.std.specs.List.{sum_by}
+use Rattle.std.specs.List.{All, sum_by}
 use Rattle.best_bound.specs.Lists.{Among}
 use Rattle.best_bound.specs.Seats.{IsBestSeatOf, best_parts, costs_seen, costs_posted}
 use Rattle.search.specs.Machine.{Reached}
-use Rattle.search.specs.LeastEnds.{least_of, PostsCosts}
+use Rattle.search.specs.LeastEnds.{least_of, PostsCosts, CostsLess}
 use Rattle.search.specs.Stacks.{boxes_of, count_of, IsReady}
 use Rattle.search.proofs.StackLaws.{weight}
 use Rattle.search.proofs.SearchLaws.{IsCounted}
@@ -25,6 +25,7 @@ invariant-boxes g l = record {
   parts : best_parts l.seat ≡ best_parts l.initial.seat;
   kept : (cost : ℤ) → Among (costs_seen l.initial.seat) cost → Among (costs_seen l.seat) cost;
   posted : PostsCosts l.run.model.now.goal l.found (costs_posted l.initial.seat) (costs_posted l.seat);
+  below : All (CostsLess l.run.model.now.goal (costs_seen l.initial.seat)) l.found;
 }
 
 abbrev pub decreases-boxes : goal.decreases-boxes

@@ -14,25 +14,25 @@ cut-requires-clause-open g c = opened c.args.self.now.is_open (left_boxes c.args
 pub returns-in-GivenUp-clause-visit : goal.returns-in-GivenUp-clause-visit
 returns-in-GivenUp-clause-visit g c =
     top_given_up c.args.run.now.model.now c.args.run.now.program.now.kernels c.args.run.now.round_limit c.args.best (boxes_of c.args.self.now) (left_boxes c.args.self.now.boxes.stack) (boxes_of c.narrow.new.self) c.args.self.now.boxes.current c.cut.new.self.boxes.current c.args.found.now c.args.found.now
-    (when_open c.args.self.now.is_open _ (opened c.args.self.now.is_open _ c.requires.next)) c.in_ok-cut.ensures.current (subst (IsNarrowed c.args.run.now.program.now.kernels c.args.run.now.round_limit c.cut.new.self.boxes.current c.narrow.new.self.boxes.current) c.in-GivenUp.is c.in_ok-narrow.ensures.narrowed) refl
+    (when_open c.args.self.now.is_open _ (opened c.args.self.now.is_open _ c.requires.next)) c.in_ok-cut.ensures.current (subst (IsNarrowed c.args.run.now.program.now.kernels c.args.run.now.round_limit c.cut.new.self.boxes.current c.narrow.new.self.boxes.current) c.in-GivenUp.is c.in_ok-narrow.ensures.narrowed).0 refl
 
 pub returns-in_ok-back-in-Failed-clause-visit : goal.returns-in_ok-back-in-Failed-clause-visit
 returns-in_ok-back-in-Failed-clause-visit g c =
     top_dropped c.args.run.now.model.now c.args.run.now.program.now.kernels c.args.run.now.round_limit c.args.best (boxes_of c.args.self.now) (left_boxes c.args.self.now.boxes.stack) (boxes_of c.back.new.self) c.args.self.now.boxes.current c.cut.new.self.boxes.current c.args.found.now c.args.found.now
-    (when_open c.args.self.now.is_open _ (opened c.args.self.now.is_open _ c.requires.next)) c.in_ok-cut.ensures.current (subst (IsNarrowed c.args.run.now.program.now.kernels c.args.run.now.round_limit c.cut.new.self.boxes.current c.narrow.new.self.boxes.current) c.in-Failed.is c.in_ok-narrow.ensures.narrowed)
+    (when_open c.args.self.now.is_open _ (opened c.args.self.now.is_open _ c.requires.next)) c.in_ok-cut.ensures.current (subst (IsNarrowed c.args.run.now.program.now.kernels c.args.run.now.round_limit c.cut.new.self.boxes.current c.narrow.new.self.boxes.current) c.in-Failed.is c.in_ok-narrow.ensures.narrowed).0
     (c.in_ok-back-in-Failed.ensures.boxes ∙ ap left_boxes (c.in_ok-narrow.ensures.stack ∙ c.in_ok-cut.ensures.stack)) refl
 
 pub settle-requires-clause-closed : goal.settle-requires-clause-closed
-settle-requires-clause-closed g c = (subst (IsNarrowed c.args.run.now.program.now.kernels c.args.run.now.round_limit c.cut.new.self.boxes.current c.narrow.new.self.boxes.current) c.in-Fixed.is c.in_ok-narrow.ensures.narrowed).closed
+settle-requires-clause-closed g c = (subst (IsNarrowed c.args.run.now.program.now.kernels c.args.run.now.round_limit c.cut.new.self.boxes.current c.narrow.new.self.boxes.current) c.in-Fixed.is c.in_ok-narrow.ensures.narrowed).0.closed
 
 pub settle-requires-clause-front : goal.settle-requires-clause-front
 settle-requires-clause-front g c =
     subst (λ (f : Front). IsFrontNear c.args.run.now.model.now c.narrow.new.self.boxes.current f) (sym c.in_ok-narrow.ensures.front)
-    (near_inside c.law_inside_order.ensures c.args.run.now.model.now c.cut.new.self.boxes.current c.narrow.new.self.boxes.current c.cut.new.self.front (subst (IsNarrowed c.args.run.now.program.now.kernels c.args.run.now.round_limit c.cut.new.self.boxes.current c.narrow.new.self.boxes.current) c.in-Fixed.is c.in_ok-narrow.ensures.narrowed).inside (c.in_ok-cut.ensures.ready.front c.in_ok-cut.ensures.open))
+    (near_inside c.law_inside_order.ensures c.args.run.now.model.now c.cut.new.self.boxes.current c.narrow.new.self.boxes.current c.cut.new.self.front (subst (IsNarrowed c.args.run.now.program.now.kernels c.args.run.now.round_limit c.cut.new.self.boxes.current c.narrow.new.self.boxes.current) c.in-Fixed.is c.in_ok-narrow.ensures.narrowed).0.inside (c.in_ok-cut.ensures.ready.front c.in_ok-cut.ensures.open))
 
 pub returns-in_ok-settle-in-Fixed-clause-visit : goal.returns-in_ok-settle-in-Fixed-clause-visit
 returns-in_ok-settle-in-Fixed-clause-visit g c =
     top_settled c.args.run.now.model.now c.args.run.now.program.now.kernels c.args.run.now.round_limit c.args.best (boxes_of c.args.self.now) (left_boxes c.args.self.now.boxes.stack) (boxes_of c.settle.new.self) c.args.self.now.boxes.current c.cut.new.self.boxes.current c.args.found.now c.settle.new.found
-    (when_open c.args.self.now.is_open _ (opened c.args.self.now.is_open _ c.requires.next)) c.in_ok-cut.ensures.current c.narrow.new.self.boxes.current (subst (IsNarrowed c.args.run.now.program.now.kernels c.args.run.now.round_limit c.cut.new.self.boxes.current c.narrow.new.self.boxes.current) c.in-Fixed.is c.in_ok-narrow.ensures.narrowed)
+    (when_open c.args.self.now.is_open _ (opened c.args.self.now.is_open _ c.requires.next)) c.in_ok-cut.ensures.current c.narrow.new.self.boxes.current (subst (IsNarrowed c.args.run.now.program.now.kernels c.args.run.now.round_limit c.cut.new.self.boxes.current c.narrow.new.self.boxes.current) c.in-Fixed.is c.in_ok-narrow.ensures.narrowed).0
     (subst (λ (ls : List Left). IsSettled c.args.run.now.model.now c.narrow.new.self.boxes.current (left_boxes ls) (boxes_of c.settle.new.self) c.args.found.now c.settle.new.found) (c.in_ok-narrow.ensures.stack ∙ c.in_ok-cut.ensures.stack)
     c.in_ok-settle-in-Fixed.ensures.settled)

@@ -1,0 +1,11 @@
+pub mod Digits
+pub mod Pieces
+pub mod Lines
+pub mod Cuts
+pub mod Readings
+pub mod Names
+pub mod Runs
+pub mod States
+pub mod Orders
+pub mod Solved
+pub mod MadeTexts

@@ -2,7 +2,7 @@
 use Rattle.std.proofs.Common.{◌≡◌, ℕ, zero, suc, ℤ, Bool, true, false, not, ◌<◌, ◌≤◌, List, [], ◌∷◌, ◌∙◌, length, replicate, arith, ap, subst, sym, refl}
 use Rattle.std.specs.Prelude.{slice_index, slice_set, unsigned_abs}
 use Rattle.std.specs.List.{All}
-use Rattle.std.proofs.lemmas.List.{get_or-replicate, length-replicate}
+use Rattle.std.proofs.lemmas.List.{get_or-replicate, length-replicate, length-set}
 use Rattle.std.proofs.lemmas.List.Elements.{All-nil, All-cons}
 use Rattle.interval.specs.Limits.{IsBound, bound_limit, largest_number, box_limit}
 use Rattle.interval.specs.Boxes.{Bounds, IsInRange, low_of, high_of, put_of}
@@ -10,8 +10,7 @@ use Rattle.guarded_tell.specs.declared.kernel.Kernel.{Kernel}
 use Rattle.guarded_tell.specs.declared.kernel.Kernel.TheVariants.{Abs}
 use Rattle.guarded_tell.specs.Kernels.{vars_of, HasNumbers, IsKernel}
 use Rattle.moved_set.specs.Sets.{IsIn}
-use Rattle.moved_fixpoint.specs.Moved.{Set, count_of, AreMovedOrQuiet, QuietUnlessMoved}
-use Rattle.moved_fixpoint.specs.Runs.{Fit}
+use Rattle.moved_fixpoint.specs.Moved.{Set, count_of, AreMovedOrQuiet, Fit, QuietUnlessMoved}
 
 two_variables : (i : ℕ) → i < 2 → slice_index (0 ∷ 1 ∷ []) i < 4
 two_variables zero h = omega arith
@@ -31,11 +30,18 @@ pub all_marked : QuietUnlessMoved → (count : ℕ) (b : Bounds) (kernels : List
 all_marked law count b kernels set n e same h all = law.all b kernels set (subst (λ (m : ℕ). All (IsKernel m) kernels) (sym h) all)
     (λ v l. subst (λ (s : Set). IsIn s v) (sym e) (get_or-replicate n v true false (omega arith)))
 
--- sets of as many variables as a box has, one of them of all
-pub marked_fit : (count : ℕ) (b : Bounds) (moved noted : Set) (n : ℕ) → moved ≡ replicate n true → n ≡ count → count_of noted ≡ count → length b ≡ count → Fit b moved noted
-marked_fit count b moved noted n e same other h = record {
-  moved_count = ap (λ (s : Set). length s) e ∙ length-replicate n true ∙ same ∙ sym h;
-  noted_count = other ∙ sym h;
+-- all variables are marked
+pub marked_fit : (count kernels : ℕ) (old moved asked : Set) (n : ℕ) → moved ≡ replicate n true → n ≡ count → Fit count kernels old asked → Fit count kernels moved asked
+marked_fit count kernels old moved asked n e same fit = record {
+  moved_count = ap (λ (s : Set). length s) e ∙ length-replicate n true ∙ same;
+  asked_count = fit.asked_count;
+}
+
+-- one more is
+pub put_fits : (count kernels : ℕ) (asked set marked : Set) (v : ℕ) → marked ≡ slice_set set v true → Fit count kernels set asked → Fit count kernels marked asked
+put_fits count kernels asked set marked v e fit = record {
+  moved_count = ap (λ (s : Set). length s) e ∙ length-set set v true ∙ fit.moved_count;
+  asked_count = fit.asked_count;
 }
 
 -- where a variable got other bounds and was marked, each kernel is quiet unless one of its variables moved

@@ -22,7 +22,7 @@ fn absolute() -> [Kernel; 1]
     [Kernel::Abs { x: 0, y: 1 }]
 }
 
-/// How propagation of a box ends where all may have moved. No kernel has a place for its hint.
+/// How propagation of a box ends where all may have moved.
 fn settle_all(
     alloc: Global,
     b: &mut TrailedBox,
@@ -36,7 +36,7 @@ fn settle_all(
     ensures { OnOk result (length b.new.current ≡ 4) }
 {
     law_quiet_unless_moved();
-    let mut sets = MovedSets::new(alloc, 4, 0)?;
+    let mut sets = MovedSets::new(alloc, 4, kernels.len())?;
     sets.moved.mark_all();
     settle_moved(b, kernels, masks, &mut sets, round_limit)
 }

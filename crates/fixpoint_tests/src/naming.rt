@@ -1,12 +1,11 @@
-//! Which kernels name a variable of a set: 70 kernels of two variables each, and kernels that share long lists.
+//! Which kernels are asked for by a variable: 70 kernels of two variables each, and kernels that share long lists.
 
 ghost use Rattle.std.specs.Prelude.{◌≡◌, ◌<◌, ◌≤◌, ◌+◌, length, All, IfOk};
 ghost use Rattle.guarded_tell.specs.Kernels.{IsKernel};
-ghost use Rattle.moved_set.specs.Sets.{IsNaming};
 
 use guarded_tell::Kernel;
 use interval::NoMemory;
-use moved_set::{Masks, MovedSet};
+use moved_set::{AskedSet, Masks, MovedSet};
 use shared_list::SharedList;
 use std::alloc::{AllocError, Global};
 use std::test::Fail;
@@ -36,20 +35,22 @@ fn seventy_kernels(alloc: Global) -> Result<Vec<Kernel>, AllocError>
 fn found(
     alloc: Global,
     masks: &Masks,
+    kernels: usize,
     all: bool,
     from: usize,
     to: usize,
 ) -> Result<(usize, usize), NoMemory>
     requires count { masks.now.count ≡ 130 }
-    requires from { from ≤ length masks.now.sets }
-    requires to { to ≤ length masks.now.sets }
+    requires kernels { kernels ≡ length masks.now.sets }
+    requires from { from ≤ kernels }
+    requires to { to ≤ kernels }
 {
-    let mut moved = MovedSet::new(alloc, 130)?;
-    moved.mark(65);
+    let mut asked = AskedSet::new(alloc, kernels)?;
+    masks.ask(65, &mut asked);
     if all {
-        moved.mark_all();
+        asked.ask_all();
     }
-    Ok((masks.next(from, &moved), masks.next_back(to, &moved)))
+    Ok((asked.next(from), asked.next_back(to)))
 }
 
 #[test]
@@ -57,7 +58,7 @@ fn kernels_are_found_one_after_the_other(rt: HostRuntime) -> Result<(), Fail> {
     let kernels = seventy_kernels(rt.alloc())?;
     let masks = Masks::new(rt.alloc(), kernels.as_slice(), 130)?;
     for (all, from, next, to, last) in [(false, 6, 65, 65, 6), (true, 9, 9, 9, 9)] {
-        let places = found(rt.alloc(), &masks, all, from, to)?;
+        let places = found(rt.alloc(), &masks, kernels.len(), all, from, to)?;
         assert_eq!(rt; places, (next, last));
     }
     Ok(())
@@ -144,6 +145,19 @@ fn sharing_kernels(alloc: Global) -> Result<Vec<Kernel>, AllocError>
     Ok(kernels)
 }
 
+/// Notes a variable, and asks the kernels that name it.
+fn note(masks: &Masks, moved: &mut MovedSet, asked: &mut AskedSet, v: u32)
+    requires variable { v < 200 }
+    requires count { masks.now.count ≡ 200 }
+    requires moved { length moved.old ≡ 200 }
+    requires asked { length asked.old ≡ length masks.now.sets }
+    ensures moved { length moved.new ≡ length moved.old }
+    ensures asked { length asked.new ≡ length asked.old }
+{
+    moved.mark(v);
+    masks.ask(v, asked);
+}
+
 /// Whether a kernel names a variable of the set.
 fn names_one(kernel: &Kernel, set: &MovedSet) -> bool
     requires kernel { IsKernel 200 kernel.now }
@@ -152,11 +166,10 @@ fn names_one(kernel: &Kernel, set: &MovedSet) -> bool
     (0..kernel.var_count()).any(|place| set.contains(kernel.var_at(place)))
 }
 
-/// Whether from each place on the next kernel is the one that is found by asking each, upwards and downwards.
-fn are_found(kernels: &[Kernel], masks: &Masks, set: &MovedSet) -> bool
+/// Whether from each place on the next kernel is the one that is found by looking at each, upwards and downwards.
+fn are_found(kernels: &[Kernel], asked: &AskedSet, set: &MovedSet) -> bool
     requires kernels { All (IsKernel 200) kernels.now }
-    requires masks { IsNaming kernels.now masks.now }
-    requires count { masks.now.count ≡ 200 }
+    requires asked { length asked.now ≡ length kernels.now }
     requires set { length set.now ≡ 200 }
 {
     let mut first = kernels.len();
@@ -170,30 +183,27 @@ fn are_found(kernels: &[Kernel], masks: &Masks, set: &MovedSet) -> bool
         if names_one(&kernels[below], set) {
             last = below + 1;
         }
-        agrees = agrees
-            && masks.next(from, set) == first
-            && masks.next_back(below + 1, set) == last;
+        agrees = agrees && asked.next(from) == first && asked.next_back(below + 1) == last;
     }
     agrees
 }
 
-/// Each variable alone, each with another one, and all.
+/// Each variable alone, and each with another one.
 #[test]
 fn kernels_of_shared_lists_are_found(rt: HostRuntime) -> Result<(), Fail> {
     let kernels = sharing_kernels(rt.alloc())?;
     let masks = Masks::new(rt.alloc(), kernels.as_slice(), 200)?;
     let mut moved = MovedSet::new(rt.alloc(), 200)?;
-    for k in 0..401 {
+    let mut asked = AskedSet::new(rt.alloc(), kernels.len())?;
+    for k in 0..400 {
         moved.clear();
+        asked.clear();
         let v = (k / 2) % 200;
-        moved.mark(v);
+        note(&masks, &mut moved, &mut asked, v);
         if k % 2 == 1 {
-            moved.mark((v * 7 + 3) % 200);
+            note(&masks, &mut moved, &mut asked, (v * 7 + 3) % 200);
         }
-        if k == 400 {
-            moved.mark_all();
-        }
-        assert!(rt; are_found(kernels.as_slice(), &masks, &moved), "at {k}");
+        assert!(rt; are_found(kernels.as_slice(), &asked, &moved), "at {k}");
     }
     Ok(())
 }

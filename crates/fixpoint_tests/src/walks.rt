@@ -1,14 +1,13 @@
 //! Walks along boxes of drawn programs, where propagation that asks what moved has to end as propagation that runs all
 //! kernels in each round.
 
-ghost use Rattle.std.specs.Prelude.{◌≡◌, ◌<◌, List, IfOk, OnOk, length, true};
+ghost use Rattle.std.specs.Prelude.{◌≡◌, ◌<◌, ℕ, List, IfOk, OnOk, length, true};
 ghost use Rattle.interval.specs.Limits.{IsBound};
 ghost use Rattle.guarded_tell.specs.declared.kernel.Kernel.{Kernel};
 ghost use Rattle.std.specs.List.{All};
 ghost use Rattle.guarded_tell.specs.Kernels.{IsKernel};
 ghost use Rattle.fixpoint_laws.specs.Fixpoints.{IsClosed};
-ghost use Rattle.moved_fixpoint.specs.Moved.{AreMasksOf, AreMovedOrQuiet};
-ghost use Rattle.moved_fixpoint.specs.Runs.{Fit};
+ghost use Rattle.moved_fixpoint.specs.Moved.{AreMasksOf, AreMovedOrQuiet, Fit, count_of};
 
 use crate::drawn::{Draws, program, start};
 use fixpoint_laws::{Limited, Settled, settle_alone};
@@ -57,10 +56,10 @@ fn settle_both(
 ) -> Result<Ended, NoMemory>
     requires kernels { All (IsKernel (length b.old.current)) kernels.now }
     requires masks { AreMasksOf kernels.now (length b.old.current) masks.now }
-    requires sets { Fit b.old.current sets.old.moved sets.old.noted }
+    requires sets { Fit (length b.old.current) (length kernels.now) sets.old.moved sets.old.asking.asked }
     requires quiet { AreMovedOrQuiet sets.old.moved b.old.current kernels.now }
     ensures length { OnOk result (length b.new.current ≡ length b.old.current) }
-    ensures sets { OnOk result (Fit b.old.current sets.new.moved sets.new.noted) }
+    ensures sets { OnOk result (Fit (length b.old.current) (length kernels.now) sets.new.moved sets.new.asking.asked) }
     ensures closed { IfOk result (λ ended. ended.fixed ≡ true → IsClosed b.new.current kernels.now) }
 {
     let mut all = b.current().copy(alloc)?;
@@ -98,9 +97,9 @@ fn other_bounds(draws: &mut Draws, b: &TrailedBox, v: u32) -> (i64, i64)
 /// Gives a variable other bounds, and notes it.
 fn put_one(draws: &mut Draws, b: &mut TrailedBox, sets: &mut MovedSets) -> Result<(), NoMemory>
     requires length { length b.old.current ≡ 40 }
-    requires sets { Fit b.old.current sets.old.moved sets.old.noted }
+    requires sets { count_of sets.old.moved ≡ 40 }
     ensures length { OnOk result (length b.new.current ≡ 40) }
-    ensures sets { OnOk result (Fit b.new.current sets.new.moved sets.new.noted) }
+    ensures sets { OnOk result ((kernels : ℕ) → Fit 40 kernels sets.old.moved sets.old.asking.asked → Fit 40 kernels sets.new.moved sets.new.asking.asked) }
     ensures quiet { OnOk result ((kernels : List Kernel) → All (IsKernel 40) kernels → AreMovedOrQuiet sets.old.moved b.old.current kernels → AreMovedOrQuiet sets.new.moved b.new.current kernels) }
 {
     law_quiet_unless_moved();

@@ -2,9 +2,10 @@ pub mod Joining
 pub mod Telling
 pub mod Hearing
 pub mod Gathering
+pub mod AskedLaws
 pub mod RunLemmas
 pub mod Rounding
 pub mod Settling
 pub mod Widths
+pub mod DrawnLaws
 pub mod QuietLaws
-pub mod Asking

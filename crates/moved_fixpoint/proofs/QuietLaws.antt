@@ -9,7 +9,7 @@ use Rattle.guarded_tell.specs.declared.kernel.Kernel.{Kernel}
 use Rattle.guarded_tell.specs.Kernels.{vars_of, IsKernel, IsClosedUnder}
 use Rattle.moved_set.specs.Sets.{IsIn}
 use Rattle.moved_fixpoint.specs.Moved.{Set, count_of, Misses, QuietUnlessMoved}
-use Rattle.moved_fixpoint.specs.Runs.{SameUnlessIn}
+use Rattle.moved_fixpoint.specs.Runs.{SameAt}
 use Rattle.moved_fixpoint.proofs.Telling.{same_elsewhere}
 use Rattle.moved_fixpoint.proofs.RunLemmas.{Local, TellPlace, stays_closed}
 
@@ -44,10 +44,10 @@ quiet_unless_moved place local = record {
   closed = λ b kernels set closed j k h misses. closed.quiet j k h;
   all = λ b kernels set kernel each j k h misses. all_moved place b (get_or kernels j k) set (kernel j k h) each misses _ refl;
   put = λ b kernels set v low high kernel in_set quiet j k h misses.
-      stays_closed place local (get_or kernels j k) (slice_set set v true) (put_of b v low high) b (kernel j k h)
-      (elsewhere b set v low high in_set) misses
+      stays_closed place local (get_or kernels j k) (put_of b v low high) b (kernel j k h)
+      (λ i d l. elsewhere b set v low high in_set (get_or (vars_of (get_or kernels j k)) i d) (misses i d l))
       (quiet j k h (λ i d l is_in. misses i d l (marked_more set v _ in_set is_in)));
 } where
-  elsewhere : (b : Bounds) (set : Set) (v : ℕ) (low high : ℤ) → v < count_of set → SameUnlessIn (slice_set set v true) (put_of b v low high) b
+  elsewhere : (b : Bounds) (set : Set) (v : ℕ) (low high : ℤ) → v < count_of set → (w : ℕ) → (IsIn (slice_set set v true) w → ⊥) → SameAt (put_of b v low high) b w
   elsewhere b set v low high h w out =
       same_elsewhere b v low high w (λ e. out (subst (λ (x : ℕ). IsIn (slice_set set v true) x) (sym e) (marked set v h)))

@@ -1,34 +1,35 @@
 -- Where a round stands after some of its kernels: those from `lo` up to `hi` have been run or passed over.
-use Rattle.std.proofs.Common.{◌≡◌, ◌≢◌, ℕ, ◌+◌, ◌-◌, ◌<◌, ◌≤◌, List, length, get_or, ◌⊎◌, inl, inr, sym, refl, ◌∙◌, subst, arith}
+use Rattle.std.proofs.Common.{◌≡◌, ◌≢◌, ℕ, ◌+◌, ◌-◌, ◌<◌, ◌≤◌, List, [], ◌∷◌, false, length, get_or, ◌⊎◌, inl, inr, sym, refl, ◌∙◌, subst, arith}
 use Rattle.std.specs.List.{All}
-use Rattle.std.proofs.lemmas.Bool.{cases_lt}
+use Rattle.std.proofs.lemmas.Bool.{cases_lt, cases_eq}
 use Rattle.std.proofs.lemmas.Int.{ints}
-use Rattle.std.proofs.lemmas.List.{get_or_read}
 use Rattle.interval.specs.Boxes.{Bounds, IsInside, IsProper, IsCrossed, InsideOrder}
 use Rattle.guarded_tell.specs.declared.kernel.Kernel.{Kernel}
 use Rattle.guarded_tell.specs.Words.{Tell}
 use Rattle.guarded_tell.specs.Kernels.{vars_of, tells, IsKernel, IsClosedUnder}
 use Rattle.fixpoint_laws.specs.Rounds.{HaveRun}
 use Rattle.fixpoint_laws.specs.OneRound.{IsHeardBetween}
-use Rattle.moved_set.specs.Sets.{IsIn, Meets, Naming, set_at, IsNaming}
+use Rattle.moved_set.specs.Sets.{IsIn}
 use Rattle.moved_fixpoint.specs.declared.joiner.Progress.{Progress}
 use Rattle.moved_fixpoint.specs.declared.joiner.Progress.TheVariants.{Still, Moved, Crossed}
-use Rattle.moved_fixpoint.specs.Moved.{Set, IsEmpty, Misses, IsQuietUnlessIn, AreMovedOrQuiet}
+use Rattle.moved_fixpoint.specs.Moved.{Set, count_of}
+use Rattle.moved_fixpoint.specs.Asked.{AreAskedOrQuiet}
 use Rattle.moved_fixpoint.specs.Heard.{GoesOn}
-use Rattle.moved_fixpoint.specs.Runs.{Fit, Grows, SameAt, KernelRuns}
+use Rattle.moved_fixpoint.specs.Runs.{HasVisited, KernelRuns}
 use Rattle.moved_fixpoint.specs.Round.{IsRound}
+use Rattle.moved_fixpoint.proofs.AskedLaws.{in_range, not_in, unset}
 use Rattle.moved_fixpoint.proofs.Telling.{keeps_inside}
-use Rattle.moved_fixpoint.proofs.Asking.{kernel_missed}
 use Rattle.moved_fixpoint.proofs.RunLemmas.{Local, TellPlace, stays_closed}
 
-pub record Stands (kernels : List Kernel) (a : Bounds) (lo hi : ℕ) (b : Bounds) (m n : Set) (p : Progress) : Type 0 where
+pub record Stands (kernels : List Kernel) (a : Bounds) (lo hi : ℕ) (b : Bounds) (s : Set) (p : Progress) : Type 0 where
   pub run : HaveRun kernels a b
-  pub fit : Fit b m n
+  pub same_count : count_of s ≡ length kernels
   pub proper : GoesOn p → IsProper b
-  pub to_come : GoesOn p → (j : ℕ) (k : Kernel) → j < length kernels → (j < lo) ⊎ (hi ≤ j) → IsQuietUnlessIn m b (get_or kernels j k)
-  pub passed : GoesOn p → (j : ℕ) (k : Kernel) → j < length kernels → lo ≤ j → j < hi → IsQuietUnlessIn n b (get_or kernels j k)
+  pub quiet : GoesOn p → AreAskedOrQuiet s b kernels
   pub heard : GoesOn p → (j : ℕ) (k : Kernel) → j < length kernels → lo ≤ j → j < hi → IsHeardBetween (get_or kernels j k) a b
-  pub still : p ≡ Still → (b ≡ a) × IsEmpty n
+  pub still : p ≡ Still → b ≡ a
+  pub settled : p ≡ Still → (j : ℕ) (k : Kernel) → j < length kernels → lo ≤ j → j < hi → IsClosedUnder (get_or kernels j k) b
+  pub empty : p ≡ Still → (j : ℕ) → lo ≤ j → j < hi → get_or s j false ≡ false
   pub moves : p ≡ Moved → b ≢ a
   pub crossed : p ≡ Crossed → IsCrossed b
 
@@ -40,196 +41,184 @@ sides lo hi j = elim (cases_lt j lo) [
 ]
 
 -- before the first kernel, from either end
-pub stands_first : InsideOrder → (kernels : List Kernel) (a : Bounds) (at : ℕ) (m n : Set) → IsProper a → Fit a m n →
-    AreMovedOrQuiet m a kernels → IsEmpty n → Stands kernels a at at a m n Still
-stands_first order kernels a at m n proper fit quiet empty = record {
+pub stands_first : InsideOrder → (kernels : List Kernel) (a : Bounds) (at : ℕ) (s : Set) → IsProper a → count_of s ≡ length kernels →
+    AreAskedOrQuiet s a kernels → Stands kernels a at at a s Still
+stands_first order kernels a at s proper count quiet = record {
   run = record { inside = order.itself a; keeps_closed = λ c closed i. i };
-  fit = fit;
+  same_count = count;
   proper = λ g. proper;
-  to_come = λ g j k h out. quiet j k h;
-  passed = λ g j k h l u. absurd (omega arith);
+  quiet = λ g. quiet;
   heard = λ g j k h l u. absurd (omega arith);
-  still = λ e. (refl, empty);
+  still = λ e. refl;
+  settled = λ e j k h l u. absurd (omega arith);
+  empty = λ e j l u. absurd (omega arith);
   moves = λ e. absurd (cc);
   crossed = λ e. absurd (cc);
 }
 
 -- after the last
-pub stands_last : (kernels : List Kernel) (a : Bounds) (lo hi : ℕ) (b : Bounds) (m n : Set) (p : Progress) → Stands kernels a lo hi b m n p →
-    lo ≤ 0 → length kernels ≤ hi → IsRound kernels a b m n p
-stands_last kernels a lo hi b m n p s l h = record {
-  run = s.run;
-  fit = s.fit;
-  proper = s.proper;
-  quiet = λ g j k i. s.passed g j k i (omega arith) (omega arith);
-  heard = λ g j k i. s.heard g j k i (omega arith) (omega arith);
-  still = s.still;
-  moves = s.moves;
-  crossed = s.crossed;
+pub stands_last : (kernels : List Kernel) (a : Bounds) (lo hi : ℕ) (b : Bounds) (s : Set) (p : Progress) → Stands kernels a lo hi b s p →
+    lo ≤ 0 → length kernels ≤ hi → IsRound kernels a b s p
+stands_last kernels a lo hi b s p x l h = record {
+  run = x.run;
+  same_count = x.same_count;
+  proper = x.proper;
+  quiet = x.quiet;
+  heard = λ g j k i. x.heard g j k i (omega arith) (omega arith);
+  still = λ e. (
+    x.still e,
+    λ j k i. x.settled e j k i (omega arith) (omega arith),
+    λ j is_in. let there = in_range s j is_in in let len = x.same_count in not_in s j (x.empty e j (omega arith) (omega arith)) is_in,
+  );
+  moves = x.moves;
+  crossed = x.crossed;
 }
 
+not_still : (p : Progress) → (GoesOn p → ⊥) → p ≡ Still → ⊥
+not_still p over e = over (subst (λ (x : Progress). GoesOn x) (sym e) tt)
+
 -- a round that is over before its end
-pub stands_over : (kernels : List Kernel) (a : Bounds) (lo hi : ℕ) (b : Bounds) (m n : Set) (p : Progress) → Stands kernels a lo hi b m n p →
-    (GoesOn p → ⊥) → IsRound kernels a b m n p
-stands_over kernels a lo hi b m n p s over = record {
-  run = s.run;
-  fit = s.fit;
-  proper = s.proper;
+pub stands_over : (kernels : List Kernel) (a : Bounds) (lo hi : ℕ) (b : Bounds) (s : Set) (p : Progress) → Stands kernels a lo hi b s p →
+    (GoesOn p → ⊥) → IsRound kernels a b s p
+stands_over kernels a lo hi b s p x over = record {
+  run = x.run;
+  same_count = x.same_count;
+  proper = x.proper;
   quiet = λ g. absurd (over g);
   heard = λ g. absurd (over g);
-  still = s.still;
-  moves = s.moves;
-  crossed = s.crossed;
+  still = λ e. absurd (not_still p over e);
+  moves = x.moves;
+  crossed = x.crossed;
 }
 
 module _ (order : InsideOrder) (place : TellPlace) (local : Local) (kernels : List Kernel) (a : Bounds) (all : All (IsKernel (length a)) kernels)
-    (lo hi : ℕ) (b : Bounds) (m n : Set) (p : Progress) (s : Stands kernels a lo hi b m n p) where
-  -- kernels that are passed over were quiet, and are
-  pub stands_passed : (lo' hi' : ℕ) → lo' ≤ lo → hi ≤ hi' →
-      ((j : ℕ) (k : Kernel) → lo' ≤ j → j < hi' → (j < lo) ⊎ (hi ≤ j) → Misses m (vars_of (get_or kernels j k))) →
-      Stands kernels a lo' hi' b m n p
-  stands_passed lo' hi' l h missed = record {
-    run = s.run;
-    fit = s.fit;
-    proper = s.proper;
-    to_come = λ g j k i out. s.to_come g j k i (further j out);
-    passed = λ g j k i above below. elim (sides lo hi j) [
-      | inl x ↦ s.passed g j k i x.0 x.1
-      | inr out ↦ λ misses. s.to_come g j k i out (missed j k above below out)
-    ];
+    (lo hi : ℕ) (b : Bounds) (s : Set) (p : Progress) (x : Stands kernels a lo hi b s p) where
+  -- kernels that aren't asked are passed over: they are quiet
+  pub stands_passed : (lo' hi' : ℕ) → ((j : ℕ) → lo' ≤ j → j < hi' → (j < lo) ⊎ (hi ≤ j) → get_or s j false ≡ false) →
+      Stands kernels a lo' hi' b s p
+  stands_passed lo' hi' missed = record {
+    run = x.run;
+    same_count = x.same_count;
+    proper = x.proper;
+    quiet = x.quiet;
     heard = λ g j k i above below. elim (sides lo hi j) [
-      | inl x ↦ s.heard g j k i x.0 x.1
-      | inr out ↦ heard_quiet (get_or kernels j k) (s.to_come g j k i out (missed j k above below out))
+      | inl y ↦ x.heard g j k i y.0 y.1
+      | inr out ↦ heard_quiet (get_or kernels j k) (x.quiet g j k i (not_in s j (missed j above below out)))
     ];
-    still = s.still;
-    moves = s.moves;
-    crossed = s.crossed;
+    still = x.still;
+    settled = λ e j k i above below. elim (sides lo hi j) [
+      | inl y ↦ x.settled e j k i y.0 y.1
+      | inr out ↦ x.quiet (subst (λ (q : Progress). GoesOn q) (sym e) tt) j k i (not_in s j (missed j above below out))
+    ];
+    empty = λ e j above below. elim (sides lo hi j) [ inl y ↦ x.empty e j y.0 y.1 | inr out ↦ missed j above below out ];
+    moves = x.moves;
+    crossed = x.crossed;
   } where
-    further : (j : ℕ) → (j < lo') ⊎ (hi' ≤ j) → (j < lo) ⊎ (hi ≤ j)
-    further j (inl x) = inl (omega arith)
-    further j (inr x) = inr (omega arith)
-
     heard_quiet : (k : Kernel) → IsClosedUnder k b → IsHeardBetween k a b
-    heard_quiet k closed = record { between = b; inside = s.run.inside; holds = order.itself b; heard = closed.kept }
+    heard_quiet k closed = record { between = b; inside = x.run.inside; holds = order.itself b; heard = closed.kept }
 
   -- one more kernel is run
-  module _ (i : ℕ) (i_in : i < length kernels) (k : Kernel) (is : k ≡ get_or kernels i k) (c : Bounds) (m' n' : Set) (p' : Progress)
-      (r : KernelRuns k b m n p c m' n' p') where
-    here : (d : Kernel) → get_or kernels i d ≡ k
-    here d = sym (get_or_read kernels i k i_in is d)
-
+  module _ (i : ℕ) (i_in : i < length kernels) (c : Bounds) (s' : Set) (p' : Progress) (run : KernelRuns kernels i b s p c s' p') where
     is_kernel : (j : ℕ) (d : Kernel) → j < length kernels → IsKernel (length b) (get_or kernels j d)
-    is_kernel j d h = let e = s.run.inside.same_length in subst (λ (x : ℕ). IsKernel x (get_or kernels j d)) (sym e) (all j d h)
-
-    misses_before : (old new : Set) (vars : List ℕ) → Grows old new → Misses new vars → Misses old vars
-    misses_before old new vars g misses v d h is_in = misses v d h (g.grows _ is_in)
+    is_kernel j d h = let e = x.run.inside.same_length in subst (λ (y : ℕ). IsKernel y (get_or kernels j d)) (sym e) (all j d h)
 
     heard_on : (j : ℕ) (d : Kernel) → j < length kernels → IsHeardBetween (get_or kernels j d) a b → IsHeardBetween (get_or kernels j d) a c
     heard_on j d h w =
-        let within = w.inside.same_length in
+        let r = run d in
         record {
           between = w.between;
           inside = w.inside;
           holds = order.through c b w.between r.run.inside w.holds;
-          heard = λ x t o. keeps_inside b c _ (in_box j d h w x t o) r.run.inside (w.heard x t o);
+          heard = λ y t o. keeps_inside b c _ (in_box j d h w y t o) r.run.inside (w.heard y t o);
         } where
-          in_box : (j : ℕ) (d : Kernel) → j < length kernels → (w : IsHeardBetween (get_or kernels j d) a b) → (x : ℕ) (t : Tell) →
-              x < length (tells (get_or kernels j d) w.between) → (get_or (tells (get_or kernels j d) w.between) x t).var < length b
-          in_box j d h w x t o =
+          in_box : (j : ℕ) (d : Kernel) → j < length kernels → (w : IsHeardBetween (get_or kernels j d) a b) → (y : ℕ) (t : Tell) →
+              y < length (tells (get_or kernels j d) w.between) → (get_or (tells (get_or kernels j d) w.between) y t).var < length b
+          in_box j d h w y t o =
               let same = w.inside.same_length in
-              let same_b = s.run.inside.same_length in
-              let q = place (get_or kernels j d) w.between (subst (λ (y : ℕ). IsKernel y (get_or kernels j d)) (sym same) (all j d h)) x t o in
+              let same_b = x.run.inside.same_length in
+              let q = place (get_or kernels j d) w.between (subst (λ (z : ℕ). IsKernel z (get_or kernels j d)) (sym same) (all j d h)) y t o in
               let q1 = q.1 in omega arith
 
     heard_here : (d : Kernel) → GoesOn p' → IsHeardBetween (get_or kernels i d) a c
-    heard_here d g = subst (λ (x : Kernel). IsHeardBetween x a c) (sym (here d))
-        (record { between = b; inside = s.run.inside; holds = r.run.inside; heard = r.heard g })
+    heard_here d g = let r = run d in record { between = b; inside = x.run.inside; holds = r.run.inside; heard = r.heard g }
 
-    quiet_on : (old new : Set) → Grows old new → (same : (w : ℕ) → (IsIn new w → ⊥) → SameAt c b w) → (j : ℕ) (d : Kernel) → j < length kernels →
-        IsQuietUnlessIn old b (get_or kernels j d) → IsQuietUnlessIn new c (get_or kernels j d)
-    quiet_on old new g same j d h quiet misses =
-        stays_closed place local (get_or kernels j d) new c b (is_kernel j d h) same misses
-        (quiet (misses_before old new (vars_of (get_or kernels j d)) g misses))
+    quiet_on : GoesOn p' → AreAskedOrQuiet s' c kernels
+    quiet_on g j d h none = elim (cases_eq j i) [
+      | inl e ↦ subst (λ (y : ℕ). IsClosedUnder (get_or kernels y d) c) (sym e) (let r = run d in r.closed g (λ is_in. none (subst (λ (y : ℕ). IsIn s' y) (sym e) is_in)))
+      | inr ne ↦ let r = run d in
+          stays_closed place local (get_or kernels j d) c b (is_kernel j d h) (r.unmoved g j d h none)
+          (x.quiet (r.going g) j d h (λ is_in. none (r.kept g j ne is_in)))
+    ]
 
-    pub stands_run : (lo' hi' : ℕ) → ((j : ℕ) → lo' ≤ j → j < hi' → ((lo ≤ j) × (j < hi)) ⊎ (j ≡ i)) →
-        ((j : ℕ) → (j < lo') ⊎ (hi' ≤ j) → (j < lo) ⊎ (hi ≤ j)) → Stands kernels a lo' hi' c m' n' p'
-    stands_run lo' hi' cover out = record {
+    middle_of : (d : Kernel) → c ≡ a → b ≡ a
+    middle_of d e = let r = run d in order.equal b a x.run.inside (subst (λ (y : Bounds). IsInside y b) e r.run.inside)
+
+    crossed_on : (d : Kernel) → IsCrossed b → IsCrossed c
+    crossed_on d (v, h, less) =
+        let r = run d in let length_is = r.run.inside.same_length in let low = r.run.inside.lows v h in let high = r.run.inside.highs v h in (v, omega arith, omega (arith, ints))
+
+    pub stands_run : (d : Kernel) (lo' hi' : ℕ) → ((j : ℕ) → lo' ≤ j → j < hi' → ((lo ≤ j) × (j < hi)) ⊎ (j ≡ i)) → Stands kernels a lo' hi' c s' p'
+    stands_run d lo' hi' cover = record {
       run = record {
-        inside = order.through c b a r.run.inside s.run.inside;
-        keeps_closed = λ x closed j. r.run.keeps_closed x closed.proper
-            (subst (λ (l : Kernel). IsClosedUnder l x) (sym is) (closed.quiet i k i_in)) (s.run.keeps_closed x closed j);
+        inside = let r = run d in order.through c b a r.run.inside x.run.inside;
+        keeps_closed = λ y closed j. let r = run d in r.run.keeps_closed y closed.proper (closed.quiet i d i_in) (x.run.keeps_closed y closed j);
       };
-      fit = fit_on;
-      proper = λ g. r.proper g (s.proper (r.going g));
-      to_come = λ g j d h away. quiet_on m m' r.moved_grows (r.unmoved g) j d h (s.to_come (r.going g) j d h (out j away));
-      passed = λ g j d h above below. elim (cover j above below) [
-        | inl x ↦ quiet_on n n' r.noted_grows (r.unnoted g) j d h (s.passed (r.going g) j d h x.0 x.1)
-        | inr e ↦ subst (λ (x : ℕ). IsQuietUnlessIn n' c (get_or kernels x d)) (sym e)
-            (subst (λ (x : Kernel). IsQuietUnlessIn n' c x) (sym (here d)) (r.closed g))
+      same_count = let r = run d in r.same_count ∙ x.same_count;
+      proper = λ g. let r = run d in r.proper g (x.proper (r.going g));
+      quiet = quiet_on;
+      heard = λ g j k h above below. elim (cover j above below) [
+        | inl y ↦ heard_on j k h (let r = run d in x.heard (r.going g) j k h y.0 y.1)
+        | inr e ↦ subst (λ (y : ℕ). IsHeardBetween (get_or kernels y k) a c) (sym e) (heard_here k g)
       ];
-      heard = λ g j d h above below. elim (cover j above below) [
-        | inl x ↦ heard_on j d h (s.heard (r.going g) j d h x.0 x.1)
-        | inr e ↦ subst (λ (x : ℕ). IsHeardBetween (get_or kernels x d) a c) (sym e) (heard_here d g)
+      still = λ e. let r = run d in let q = r.still e in q.1 ∙ x.still q.0;
+      settled = λ e j k h above below. elim (cover j above below) [
+        | inl y ↦ let r = run d in let q = r.still e in subst (λ (z : Bounds). IsClosedUnder (get_or kernels j k) z) (sym q.1) (x.settled q.0 j k h y.0 y.1)
+        | inr f ↦ subst (λ (y : ℕ). IsClosedUnder (get_or kernels y k) c) (sym f) (let r = run k in (r.still e).2)
       ];
-      still = λ e. let q = r.still e in let f = s.still q.0 in (q.1 ∙ f.0, subst (λ (x : Set). IsEmpty x) (sym q.2) f.1);
-      moves = λ e. elim (r.moves e) [
-        | inl q ↦ (λ same. s.moves q (middle_of same))
-        | inr q ↦ (λ same. q (same ∙ sym (middle_of same)))
+      empty = λ e j above below. let r = run d in let q = r.still e in let len = x.same_count in
+          subst (λ (t : Set). get_or t j false ≡ false) (sym q.3) (unset s i j (omega arith) (elim (cover j above below) [ inl y ↦ inl (x.empty q.0 j y.0 y.1) | inr f ↦ inr f ]));
+      moves = λ e. let r = run d in elim (r.moves e) [
+        | inl q ↦ (λ same. x.moves q (middle_of d same))
+        | inr q ↦ (λ same. q (same ∙ sym (middle_of d same)))
       ];
-      crossed = λ e. elim (r.crossed e) [ inl q ↦ crossed_on (s.crossed q) | inr q ↦ q ];
-    } where
-      middle_of : c ≡ a → b ≡ a
-      middle_of e = order.equal b a s.run.inside (subst (λ (x : Bounds). IsInside x b) e r.run.inside)
+      crossed = λ e. let r = run d in elim (r.crossed e) [ inl q ↦ crossed_on d (x.crossed q) | inr q ↦ q ];
+    }
 
-      fit_on : Fit c m' n'
-      fit_on =
-          let length_is = r.run.inside.same_length in let count_m = r.moved_grows.same_count in let count_n = r.noted_grows.same_count in
-          record { moved_count = count_m ∙ s.fit.moved_count ∙ sym length_is; noted_count = count_n ∙ s.fit.noted_count ∙ sym length_is }
+-- where there is a place, there is a kernel
+some_kernel : (kernels : List Kernel) (i : ℕ) → i < length kernels → Kernel
+some_kernel [] i h = absurd (omega arith)
+some_kernel (k ∷ ks) i h = k
 
-      crossed_on : IsCrossed b → IsCrossed c
-      crossed_on (v, h, less) =
-          let length_is = r.run.inside.same_length in let low = r.run.inside.lows v h in let high = r.run.inside.highs v h in (v, omega arith, omega (arith, ints))
+pub run_count : (kernels : List Kernel) (i : ℕ) (b : Bounds) (s : Set) (p : Progress) (c : Bounds) (s' : Set) (p' : Progress) → i < length kernels →
+    KernelRuns kernels i b s p c s' p' → count_of s' ≡ count_of s
+run_count kernels i b s p c s' p' h run = let r = run (some_kernel kernels i h) in r.same_count
 
 -- one place more at the upper end, or at the lower
 pub up_cover : (i j : ℕ) → j < i + 1 → ((0 ≤ j) × (j < i)) ⊎ (j ≡ i)
 up_cover i j h = elim (cases_lt j i) [ inl l ↦ inl (omega arith, l) | inr g ↦ inr (omega arith) ]
 
-pub up_out : (i j : ℕ) → (j < 0) ⊎ (i + 1 ≤ j) → (j < 0) ⊎ (i ≤ j)
-up_out i j (inl x) = inl x
-up_out i j (inr x) = inr (omega arith)
-
 pub down_cover : (i n j : ℕ) → i - 1 ≤ j → j < n → ((i ≤ j) × (j < n)) ⊎ (j ≡ i - 1)
 down_cover i n j l h = elim (cases_lt j i) [ inl x ↦ inr (omega arith) | inr g ↦ inl (omega arith, h) ]
 
-pub down_out : (i n j : ℕ) → (j < i - 1) ⊎ (n ≤ j) → (j < i) ⊎ (n ≤ j)
-down_out i n j (inl x) = inl (omega arith)
-down_out i n j (inr x) = inr x
-
 module _ (order : InsideOrder) (place : TellPlace) (local : Local) (kernels : List Kernel) (a : Bounds) (all : All (IsKernel (length a)) kernels) where
-  pub stands_up : (i : ℕ) (b : Bounds) (m n : Set) (p : Progress) → Stands kernels a 0 i b m n p → i < length kernels → (k : Kernel) → k ≡ get_or kernels i k →
-      (c : Bounds) (m' n' : Set) (p' : Progress) → KernelRuns k b m n p c m' n' p' → Stands kernels a 0 (i + 1) c m' n' p'
-  stands_up i b m n p s h k is c m' n' p' r =
-      stands_run order place local kernels a all 0 i b m n p s i h k is c m' n' p' r 0 (i + 1) (λ j l u. up_cover i j u) (up_out i)
+  pub stands_up : (i : ℕ) (b : Bounds) (s : Set) (p : Progress) → Stands kernels a 0 i b s p → i < length kernels →
+      (c : Bounds) (s' : Set) (p' : Progress) → KernelRuns kernels i b s p c s' p' → Stands kernels a 0 (i + 1) c s' p'
+  stands_up i b s p x h c s' p' r = stands_run order place local kernels a all 0 i b s p x i h c s' p' r (some_kernel kernels i h) 0 (i + 1) (λ j l u. up_cover i j u)
 
-  pub stands_down : (i : ℕ) (b : Bounds) (m n : Set) (p : Progress) → Stands kernels a i (length kernels) b m n p → 0 < i → i ≤ length kernels →
-      (k : Kernel) → k ≡ get_or kernels (i - 1) k → (c : Bounds) (m' n' : Set) (p' : Progress) → KernelRuns k b m n p c m' n' p' →
-      Stands kernels a (i - 1) (length kernels) c m' n' p'
-  stands_down i b m n p s some h k is c m' n' p' r =
-      stands_run order place local kernels a all i (length kernels) b m n p s (i - 1) (omega arith) k is c m' n' p' r (i - 1) (length kernels)
-      (down_cover i (length kernels)) (down_out i (length kernels))
+  pub stands_down : (i : ℕ) (b : Bounds) (s : Set) (p : Progress) → Stands kernels a i (length kernels) b s p → 0 < i → i ≤ length kernels →
+      (c : Bounds) (s' : Set) (p' : Progress) → KernelRuns kernels (i - 1) b s p c s' p' → Stands kernels a (i - 1) (length kernels) c s' p'
+  stands_down i b s p x some h c s' p' r =
+      stands_run order place local kernels a all i (length kernels) b s p x (i - 1) (omega arith) c s' p' r (some_kernel kernels (i - 1) (omega arith)) (i - 1) (length kernels) (down_cover i (length kernels))
 
-  -- kernels of which masks say that they name no variable of the set are passed over
-  module _ (naming : Naming) (is : IsNaming kernels naming) (b : Bounds) (m n : Set) (p : Progress) where
-    pub passed_up : (i j : ℕ) → Stands kernels a 0 i b m n p → i ≤ j → j ≤ length kernels →
-        ((x : ℕ) → i ≤ x → x < j → Meets (set_at naming x) m → ⊥) → Stands kernels a 0 j b m n p
-    passed_up i j s l h misses = stands_passed order place local kernels a all 0 i b m n p s 0 j (omega arith) l missed where
-      missed : (x : ℕ) (k : Kernel) → 0 ≤ x → x < j → (x < 0) ⊎ (i ≤ x) → Misses m (vars_of (get_or kernels x k))
-      missed x k above below (inl y) = absurd (omega arith)
-      missed x k above below (inr y) = kernel_missed kernels naming is m x (omega arith) (misses x y below) k
+  module _ (b : Bounds) (s : Set) (p : Progress) where
+    pub passed_up : (i j : ℕ) → Stands kernels a 0 i b s p → ((y : ℕ) → i ≤ y → y < j → get_or s y false ≡ false) → Stands kernels a 0 j b s p
+    passed_up i j x misses = stands_passed order place local kernels a all 0 i b s p x 0 j missed where
+      missed : (y : ℕ) → 0 ≤ y → y < j → (y < 0) ⊎ (i ≤ y) → get_or s y false ≡ false
+      missed y above below (inl z) = absurd (omega arith)
+      missed y above below (inr z) = misses y z below
 
-    pub passed_down : (i j : ℕ) → Stands kernels a i (length kernels) b m n p → j ≤ i → i ≤ length kernels →
-        ((x : ℕ) → j ≤ x → x < i → Meets (set_at naming x) m → ⊥) → Stands kernels a j (length kernels) b m n p
-    passed_down i j s l h misses = stands_passed order place local kernels a all i (length kernels) b m n p s j (length kernels) l (omega arith) missed where
-      missed : (x : ℕ) (k : Kernel) → j ≤ x → x < length kernels → (x < i) ⊎ (length kernels ≤ x) → Misses m (vars_of (get_or kernels x k))
-      missed x k above below (inl y) = kernel_missed kernels naming is m x below (misses x above y) k
-      missed x k above below (inr y) = absurd (omega arith)
+    pub passed_down : (i j : ℕ) → Stands kernels a i (length kernels) b s p → ((y : ℕ) → j ≤ y → y < i → get_or s y false ≡ false) → Stands kernels a j (length kernels) b s p
+    passed_down i j x misses = stands_passed order place local kernels a all i (length kernels) b s p x j (length kernels) missed where
+      missed : (y : ℕ) → j ≤ y → y < length kernels → (y < i) ⊎ (length kernels ≤ y) → get_or s y false ≡ false
+      missed y above below (inl z) = misses y above z
+      missed y above below (inr z) = absurd (omega arith)

@@ -1,7 +1,8 @@
 -- All tells of one kernel, heard by the box that they were made for.
-use Rattle.std.proofs.Common.{◌≡◌, ◌<◌, ℕ, ℤ, false, List, length, get_or, sym, subst, arith}
-use Rattle.std.proofs.lemmas.List.Elements.{All-filter}
-use Rattle.std.specs.List.{All, Contains}
+use Rattle.std.proofs.Common.{◌≡◌, ◌≢◌, ℕ, ℤ, ◌<◌, ◌⊎◌, inl, inr, Bool, true, false, cond, refl, List, [], ◌∷◌, length, get_or, set, sym, subst, ◌∙◌, ap, arith}
+use Rattle.std.proofs.lemmas.List.{get_or_default, get_or-set_other, get_or-set_same, length-set}
+use Rattle.std.proofs.lemmas.List.Elements.{All-filter, All-head, All-tail}
+use Rattle.std.specs.List.{All, Contains, filter}
 use Rattle.std.proofs.lemmas.Int.{ints}
 use Rattle.interval.specs.Limits.{IsBound}
 use Rattle.interval.specs.Boxes.{Bounds, IsInRange, IsInside, IsProper, InsideOrder}
@@ -12,13 +13,16 @@ use Rattle.guarded_tell.specs.declared.kernel.Kernel.{Kernel}
 use Rattle.guarded_tell.specs.Words.{Keeps, KeepsSide, IsProperIn, IsInsideIn, AgreeIn}
 use Rattle.guarded_tell.specs.Hearing.{HearsAll}
 use Rattle.guarded_tell.specs.Kernels.{vars_of, tells, IsKernel, IsClosedUnder}
-use Rattle.moved_set.specs.Sets.{IsIn}
-use Rattle.moved_fixpoint.specs.declared.joiner.Progress.{Progress}
 use Rattle.guarded_tell.specs.Narrowing.{narrows, narrowing_tells}
-use Rattle.moved_fixpoint.specs.Moved.{Set, Misses}
+use Rattle.moved_set.specs.Sets.{IsIn, Naming, IsNaming, set_at}
 use Rattle.fixpoint_laws.specs.Changes.{TightensOne}
+use Rattle.moved_fixpoint.specs.declared.joiner.Progress.{Progress}
+use Rattle.moved_fixpoint.specs.declared.joiner.Progress.TheVariants.{Still, Moved, Crossed, Refused}
+use Rattle.moved_fixpoint.specs.Moved.{Set, count_of}
+use Rattle.moved_fixpoint.specs.Asked.{AreAsked}
 use Rattle.moved_fixpoint.specs.Heard.{GoesOn, Hears, joined}
-use Rattle.moved_fixpoint.specs.Runs.{SameAt, SameUnlessIn, KernelRuns}
+use Rattle.moved_fixpoint.specs.Runs.{SameAt, Spares, HasVisited, KernelRuns}
+use Rattle.moved_fixpoint.proofs.AskedLaws.{in_range}
 use Rattle.moved_fixpoint.proofs.Hearing.{Effect, IsPlaced, effect, effect_of_all}
 
 -- the laws of the kernels, as their functions state them
@@ -34,14 +38,16 @@ TellPlace = (k : Kernel) (b : Bounds) → IsKernel (length b) k →
 abbrev pub Tighter : Type 0
 Tighter = (b : Bounds) (t : Tell) → narrows b t ≡ false → Keeps b t
 
+abbrev pub Tight : Type 0
+Tight = (b : Bounds) (t : Tell) → narrows b t ≡ true → Keeps b t → ⊥
+
 abbrev pub Local : Type 0
 Local = (k : Kernel) (b c : Bounds) → AgreeIn (vars_of k) b c → tells k b ≡ tells k c
 
-pub agree_unless : (k : Kernel) (s : Set) (after before : Bounds) → SameUnlessIn s after before → Misses s (vars_of k) →
-    AgreeIn (vars_of k) after before
-agree_unless k s after before same misses = record {
-  lows = λ i h. let e = same _ (misses i 0 h) in e.low;
-  highs = λ i h. let e = same _ (misses i 0 h) in e.high;
+pub agree_in : (k : Kernel) (after before : Bounds) → All (SameAt after before) (vars_of k) → AgreeIn (vars_of k) after before
+agree_in k after before same = record {
+  lows = λ i h. let e = same i 0 h in e.low;
+  highs = λ i h. let e = same i 0 h in e.high;
 }
 
 pub proper_unless : (k : Kernel) (after before : Bounds) → AgreeIn (vars_of k) after before → IsProperIn (vars_of k) before →
@@ -54,10 +60,10 @@ keeps_side_same Low a b v x same k = let l = same.low in omega (arith, ints)
 keeps_side_same High a b v x same k = let h = same.high in omega (arith, ints)
 
 -- a kernel none of whose variables moved is as quiet as before
-pub stays_closed : TellPlace → Local → (k : Kernel) (s : Set) (after before : Bounds) → IsKernel (length before) k →
-    SameUnlessIn s after before → Misses s (vars_of k) → IsClosedUnder k before → IsClosedUnder k after
-stays_closed place local k s after before kernel same misses closed =
-    let agree = agree_unless k s after before same misses in
+pub stays_closed : TellPlace → Local → (k : Kernel) (after before : Bounds) → IsKernel (length before) k →
+    All (SameAt after before) (vars_of k) → IsClosedUnder k before → IsClosedUnder k after
+stays_closed place local k after before kernel same closed =
+    let agree = agree_in k after before same in
     record {
       proper = proper_unless k after before agree closed.proper;
       kept = subst (λ (ts : List Tell). All (Keeps after) ts) (sym (local k after before agree))
@@ -65,7 +71,17 @@ stays_closed place local k s after before kernel same misses closed =
     } where
       kept_on : (t : Tell) → Contains (vars_of k) t.var → Keeps before t → Keeps after t
       kept_on t (j, l, e) keeps =
-          keeps_side_same t.side after before t.var t.bound (same t.var (λ is_in. misses j t.var l (subst (λ (x : ℕ). IsIn s x) (sym e) is_in))) keeps
+          keeps_side_same t.side after before t.var t.bound (subst (λ (x : ℕ). SameAt after before x) e (same j t.var l)) keeps
+
+-- a box that keeps all tells is narrowed by none
+one_none : (t : Tell) (rest : List Tell) (s : Bool) → (s ≡ true → ⊥) → length rest ≡ 0 → length (cond s (t ∷ rest) rest) ≡ 0
+one_none t rest true never e = absurd (never refl)
+one_none t rest false never e = e
+
+none_narrow : Tight → (b : Bounds) (ts : List Tell) → All (Keeps b) ts → length (filter (narrows b) ts) ≡ 0
+none_narrow tight b [] keeps = refl
+none_narrow tight b (t ∷ ts) keeps =
+    one_none t (filter (narrows b) ts) (narrows b t) (λ e. tight b t e (All-head (Keeps b) t ts keeps)) (none_narrow tight b ts (All-tail (Keeps b) t ts keeps))
 
 module _ (place : TellPlace) (k : Kernel) (b : Bounds) (kernel : IsKernel (length b) k) where
   pub all_placed : All (IsPlaced (length b)) (tells k b)
@@ -77,52 +93,79 @@ module _ (place : TellPlace) (k : Kernel) (b : Bounds) (kernel : IsKernel (lengt
   pub proper_in : IsProper b → IsProperIn (vars_of k) b
   proper_in proper i h = proper _ (kernel.variables.each i h)
 
-  module _ (local : Local) (monotone : Monotone) (range : IsInRange b) (proper : IsProper b) (m n : Set) (p : Progress)
-      (after : Bounds) (m' n' : Set) (p' : Progress) (e : Effect b m n p (tells k b) after m' n' p') where
-    inside_own : (c : Bounds) → IsInside c b → IsInsideIn (vars_of k) c b
-    inside_own c i = record { lows = λ j h. i.lows _ (kernel.variables.each j h); highs = λ j h. i.highs _ (kernel.variables.each j h) }
-
-    closed_own : GoesOn p' → Misses n' (vars_of k) → IsClosedUnder k after
-    closed_own g misses =
-        let same = agree_unless k n' after b (e.unnoted g) misses in
-        record {
-          proper = proper_unless k after b same (proper_in proper);
-          kept = subst (λ (ts : List Tell). All (Keeps after) ts) (sym (local k after b same)) (e.heard g);
-        }
-
-    pub kernel_runs : KernelRuns k b m n p after m' n' p'
-    kernel_runs = record {
-      run = record {
-        inside = e.inside;
-        keeps_closed = λ c proper_c closed i. e.holds c i (monotone k b c kernel range i.same_length (proper_in proper) closed (inside_own c i));
-      };
-      moved_grows = e.moved_grows;
-      noted_grows = e.noted_grows;
-      going = e.going;
-      unmoved = e.unmoved;
-      unnoted = e.unnoted;
-      heard = e.heard;
-      closed = closed_own;
-      still = e.still;
-      moves = e.moves;
-      proper = e.proper;
-      crossed = e.crossed;
-    }
-
   -- the box hears what was gathered: all tells of the kernel that narrow it
   module _ (told : List Tell) (is : told ≡ narrowing_tells k b) where
     pub gathered_placed : All (IsPlaced (length b)) told
     gathered_placed = subst (λ (ts : List Tell). All (IsPlaced (length b)) ts) (sym is) narrowing_placed
 
-    pub gathered_runs : InsideOrder → TightensOne → Tighter → Local → Monotone → IsInRange b → IsProper b → (m n m₀ n₀ : Set) (p : Progress) → m₀ ≡ m → n₀ ≡ n →
-        (after : Bounds) (m' n' : Set) (p' : Progress) → HearsAll Hears (joined b m₀ n₀ p) told (joined after m' n' p') → KernelRuns k b m n p after m' n' p'
-    gathered_runs order tightens tighter local monotone range proper m n m₀ n₀ p e f after m' n' p' heard =
-        let from_m : HearsAll Hears (joined b m n₀ p) told (joined after m' n' p') =
-        subst (λ (x : Set). HearsAll Hears (joined b x n₀ p) told (joined after m' n' p')) e heard in
-        let from_n : HearsAll Hears (joined b m n p) told (joined after m' n' p') =
-        subst (λ (x : Set). HearsAll Hears (joined b m x p) told (joined after m' n' p')) f from_m in
-        let own : HearsAll Hears (joined b m n p) (narrowing_tells k b) (joined after m' n' p') =
-        subst (λ (ts : List Tell). HearsAll Hears (joined b m n p) ts (joined after m' n' p')) is from_n in
-        kernel_runs local monotone range proper m n p after m' n' p'
-        (effect_of_all tighter b (tells k b) all_placed m n p after m' n' p'
-        (effect order tightens (joined b m n p) (narrowing_tells k b) (joined after m' n' p') narrowing_placed own))
+    -- the round is over, as nothing could be gathered
+    module _ (local : Local) (monotone : Monotone) (range : IsInRange b) (proper : IsProper b) (kernels : List Kernel) (i : ℕ) (here : k ≡ get_or kernels i k) (i_in : i < length kernels)
+        (naming : Naming) (named : IsNaming kernels naming) (old : Set) (count : count_of old ≡ length kernels) (p : Progress) (tight : Tight) where
+      inside_own : (c : Bounds) → IsInside c b → IsInsideIn (vars_of k) c b
+      inside_own c i = record { lows = λ j h. i.lows _ (kernel.variables.each j h); highs = λ j h. i.highs _ (kernel.variables.each j h) }
+
+      module _ (after : Bounds) (new : Set) (p' : Progress) (e : Effect b p (tells k b) told after p') (asked : AreAsked naming told (set old i false) new) where
+        -- of a kernel that isn't asked then, no variable moved
+        spared : GoesOn p' → (j : ℕ) (d : Kernel) → j < length kernels → (IsIn new j → ⊥) → All (SameAt after b) (vars_of (get_or kernels j d))
+        spared g j d h none x w l =
+            let v : ℕ = get_or (vars_of (get_or kernels j d)) x w in
+            let len = length-set old i false in
+            e.unmoved g v (λ y t m same.
+            let names : IsIn (set_at naming j) v = (named.each j d v h).1 (x, l, get_or_default (vars_of (get_or kernels j d)) x v w l) in
+            none (asked.told j (omega arith) y t m (subst (λ (n : ℕ). IsIn (set_at naming j) n) same names)))
+
+        own_spared : GoesOn p' → (IsIn new i → ⊥) → All (SameAt after b) (vars_of k)
+        own_spared g none = subst (λ (x : Kernel). All (SameAt after b) (vars_of x)) (sym here) (spared g i k i_in none)
+
+        kept_set : (j : ℕ) → j ≢ i → IsIn old j → IsIn new j
+        kept_set j ne is_in = asked.kept j (get_or-set_other old i j false false ne ∙ is_in)
+
+        closed_still : after ≡ b → All (Keeps after) (tells k b) → IsClosedUnder k after
+        closed_still same heard = subst (λ (x : Bounds). IsClosedUnder k x) (sym same)
+            (record { proper = proper_in proper; kept = subst (λ (x : Bounds). All (Keeps x) (tells k b)) same heard })
+
+        silent : after ≡ b → All (Keeps after) (tells k b) → new ≡ set old i false
+        silent same heard = asked.none (ap length is ∙ none_narrow tight b (tells k b) (subst (λ (x : Bounds). All (Keeps x) (tells k b)) same heard))
+
+        closed_own : GoesOn p' → (IsIn new i → ⊥) → IsClosedUnder k after
+        closed_own g none =
+            let same = agree_in k after b (own_spared g none) in
+            record {
+              proper = proper_unless k after b same (proper_in proper);
+              kept = subst (λ (ts : List Tell). All (Keeps after) ts) (sym (local k after b same)) (e.heard g);
+            }
+
+        kernel_runs : HasVisited kernels i k b old p after new p'
+        kernel_runs = record {
+          run = record {
+            inside = e.inside;
+            keeps_closed = λ c proper_c closed i. e.holds c i (monotone k b c kernel range i.same_length (proper_in proper) closed (inside_own c i));
+          };
+          same_count = asked.same_count ∙ length-set old i false;
+          going = e.going;
+          kept = λ g j ne is_in. kept_set j ne is_in;
+          unmoved = spared;
+          heard = e.heard;
+          closed = closed_own;
+          still = λ s. let q = e.still s in let h = e.heard (subst (λ (x : Progress). GoesOn x) (sym s) tt) in (q.0, q.1, closed_still q.1 h, silent q.1 h);
+          moves = e.moves;
+          proper = e.proper;
+          crossed = e.crossed;
+        }
+
+      pub gathered_runs : InsideOrder → TightensOne → Tighter → (after : Bounds) (new : Set) (p' : Progress) → HearsAll Hears (joined b p) told (joined after p') →
+          AreAsked naming told (set old i false) new → HasVisited kernels i k b old p after new p'
+      gathered_runs order tightens tighter after new p' heard asked =
+          let own : Effect b p told told after p' = effect order tightens (joined b p) told (joined after p') gathered_placed heard in
+          let narrowing : Effect b p (narrowing_tells k b) told after p' = subst (λ (ts : List Tell). Effect b p ts told after p') is own in
+          kernel_runs after new p' (effect_of_all tighter b (tells k b) told all_placed p after p' narrowing) asked
+
+-- the kernel by any default
+pub any_default : (kernels : List Kernel) (i : ℕ) (k : Kernel) (before : Bounds) (asked : Set) (p : Progress) (after : Bounds) (asked_after : Set) (p_after : Progress) →
+    i < length kernels → k ≡ get_or kernels i k → HasVisited kernels i k before asked p after asked_after p_after →
+    KernelRuns kernels i before asked p after asked_after p_after
+any_default kernels i k before asked p after asked_after p_after h is v d =
+    subst (λ (x : Kernel). HasVisited kernels i x before asked p after asked_after p_after) (is ∙ get_or_default kernels i k d h) v
+
+pub here_is : (kernels : List Kernel) (n i : ℕ) (k : Kernel) → All (IsKernel n) kernels → i < length kernels → k ≡ get_or kernels i k → IsKernel n k
+here_is kernels n i k all h is = subst (IsKernel n) (sym is) (all i k h)

@@ -1,36 +1,37 @@
 -- Rounds until one moves nothing, the box is crossed or the limit is spent.
-use Rattle.std.proofs.Common.{◌≡◌, ◌≢◌, ℕ, ◌+◌, ◌<◌, ◌≤◌, ◌↔◌, List, arith, ap, sym, refl, ◌∙◌, subst}
+use Rattle.std.proofs.Common.{◌≡◌, ◌≢◌, ℕ, ◌+◌, ◌<◌, ◌≤◌, ◌↔◌, List, length, arith, ap, sym, refl, ◌∙◌, subst}
+use Rattle.std.specs.List.{All}
 use Rattle.std.proofs.lemmas.Int.{ints}
 use Rattle.interval.specs.Boxes.{Bounds, IsProper, IsCrossed, InsideOrder, width_sum_of}
 use Rattle.guarded_tell.specs.declared.kernel.Kernel.{Kernel}
+use Rattle.guarded_tell.specs.Kernels.{IsClosedUnder}
 use Rattle.fixpoint_laws.specs.Fixpoints.{IsClosed}
 use Rattle.fixpoint_laws.specs.Rounds.{HaveRun}
 use Rattle.fixpoint_laws.specs.OneRound.{LeadsIn, RoundsLead}
 use Rattle.fixpoint_laws.specs.declared.limited.Limited.TheVariants.{Fixed, Failed, RoundsSpent}
 use Rattle.moved_fixpoint.specs.declared.joiner.Progress.TheVariants.{Still, Moved, Crossed}
-use Rattle.moved_fixpoint.specs.Moved.{Set, count_of, IsEmpty, AreMovedOrQuiet}
-use Rattle.moved_fixpoint.specs.Runs.{Fit}
+use Rattle.moved_fixpoint.specs.Moved.{Set, count_of, IsEmpty}
+use Rattle.moved_fixpoint.specs.Asked.{AreAskedOrQuiet}
 use Rattle.moved_fixpoint.specs.Round.{IsRound}
 use Rattle.moved_fixpoint.specs.Ends.{HasEnded}
 
 -- where propagation from a stands after some rounds, before the next
-pub record Goes (kernels : List Kernel) (limit : ℕ) (a : Bounds) (rounds : ℕ) (b : Bounds) (m n : Set) : Type 0 where
+pub record Goes (kernels : List Kernel) (limit : ℕ) (a : Bounds) (rounds : ℕ) (b : Bounds) (m : Set) : Type 0 where
   pub proper : IsProper b
   pub run : HaveRun kernels a b
   pub first : rounds ≡ 0 → b ≡ a
   pub leads : LeadsIn kernels rounds a b
   pub widths : rounds + width_sum_of b ≤ width_sum_of a
   pub within_limit : limit ≢ 0 → rounds < limit
-  pub fit : Fit b m n
-  pub quiet : AreMovedOrQuiet m b kernels
-  pub empty : IsEmpty n
+  pub fit : count_of m ≡ length kernels
+  pub quiet : AreAskedOrQuiet m b kernels
 
 not_both : (b : Bounds) → IsCrossed b → IsProper b → ⊥
 not_both b (v, h, c) p = omega (arith, ints, p v h)
 
 module _ (order : InsideOrder) (lead : RoundsLead) (kernels : List Kernel) (limit : ℕ) (a : Bounds) where
-  pub goes_first : (m n : Set) → IsProper a → Fit a m n → AreMovedOrQuiet m a kernels → IsEmpty n → Goes kernels limit a 0 a m n
-  goes_first m n proper fit quiet empty = record {
+  pub goes_first : (m : Set) → IsProper a → count_of m ≡ length kernels → AreAskedOrQuiet m a kernels → Goes kernels limit a 0 a m
+  goes_first m proper fit quiet = record {
     proper = proper;
     run = record { inside = order.itself a; keeps_closed = λ c closed i. i };
     first = λ e. refl;
@@ -39,19 +40,18 @@ module _ (order : InsideOrder) (lead : RoundsLead) (kernels : List Kernel) (limi
     within_limit = λ ne. zero_below limit ne;
     fit = fit;
     quiet = quiet;
-    empty = empty;
   } where
     zero_below : (l : ℕ) → l ≢ 0 → 0 < l
     zero_below l ne = omega arith
 
-  module _ (rounds : ℕ) (b : Bounds) (m n : Set) (g : Goes kernels limit a rounds b m n) where
+  module _ (rounds : ℕ) (b : Bounds) (m : Set) (g : Goes kernels limit a rounds b m) where
     proper_start : IsProper a
     proper_start = order.outer_is_proper b a g.proper g.run.inside
 
     never_zero : (r : ℕ) → (r + 1 ≡ 0) ↔ IsCrossed a
     never_zero r = ((λ e. absurd (omega arith)), (λ x. absurd (not_both a x proper_start)))
 
-    module _ (c : Bounds) (m' n' : Set) where
+    module _ (c : Bounds) (m' : Set) where
       run_on : HaveRun kernels b c → HaveRun kernels a c
       run_on r = record {
         inside = order.through c b a r.inside g.run.inside;
@@ -59,7 +59,7 @@ module _ (order : InsideOrder) (lead : RoundsLead) (kernels : List Kernel) (limi
       }
 
       -- a round that moved nothing
-      pub ended_fixed : IsRound kernels b c m' n' Still → HasEnded kernels limit a c (Fixed (rounds + 1))
+      pub ended_fixed : IsRound kernels b c m' Still → HasEnded kernels limit a c (Fixed (rounds + 1))
       ended_fixed r = record {
         same_length = all_run.inside.same_length;
         fixed = record { closed = closed; inside = all_run.inside; greatest = all_run.keeps_closed };
@@ -79,14 +79,14 @@ module _ (order : InsideOrder) (lead : RoundsLead) (kernels : List Kernel) (limi
         all_run : HaveRun kernels a c
         all_run = run_on r.run
 
-        still : (c ≡ b) × IsEmpty n'
+        still : (c ≡ b) × All (λ k. IsClosedUnder k c) kernels × IsEmpty m'
         still = r.still refl
 
         closed : IsClosed c kernels
-        closed = record { proper = r.proper tt; quiet = λ j k h. r.quiet tt j k h (λ i d l. still.1 _) }
+        closed = record { proper = r.proper tt; quiet = still.1 }
 
       -- a round that crossed the box
-      pub ended_failed : IsRound kernels b c m' n' Crossed → HasEnded kernels limit a c (Failed (rounds + 1))
+      pub ended_failed : IsRound kernels b c m' Crossed → HasEnded kernels limit a c (Failed (rounds + 1))
       ended_failed r = record {
         same_length = all_run.inside.same_length;
         fixed = tt;
@@ -103,7 +103,7 @@ module _ (order : InsideOrder) (lead : RoundsLead) (kernels : List Kernel) (limi
         all_run : HaveRun kernels a c
         all_run = run_on r.run
 
-      module _ (r : IsRound kernels b c m' n' Moved) where
+      module _ (r : IsRound kernels b c m' Moved) where
         moved_proper : IsProper c
         moved_proper = r.proper tt
 
@@ -138,26 +138,17 @@ module _ (order : InsideOrder) (lead : RoundsLead) (kernels : List Kernel) (limi
           all_run : HaveRun kernels a c
           all_run = run_on r.run
 
-        -- the next round asks for what moved in this one
-        pub goes_on : (limit ≢ 0 → rounds + 1 ≢ limit) → (m'' n'' : Set) → m'' ≡ n' → Fit c m'' n'' → IsEmpty n'' →
-            Goes kernels limit a (rounds + 1) c m'' n''
-        goes_on below m'' n'' e fit empty = record {
+        -- the next round asks for what is asked at the end of this one
+        pub goes_on : (limit ≢ 0 → rounds + 1 ≢ limit) → Goes kernels limit a (rounds + 1) c m'
+        goes_on below = record {
           proper = moved_proper;
           run = run_on r.run;
           first = λ z. absurd (omega arith);
           leads = leads_on;
           widths = let v = g.widths in let f = falls in omega arith;
           within_limit = λ ne. below_limit (g.within_limit ne) (below ne);
-          fit = fit;
-          quiet = subst (λ (s : Set). AreMovedOrQuiet s c kernels) (sym e) (r.quiet tt);
-          empty = empty;
+          fit = r.same_count;
+          quiet = r.quiet tt;
         } where
           below_limit : rounds < limit → rounds + 1 ≢ limit → rounds + 1 < limit
           below_limit l ne = omega arith
-
--- what moved in a round is what moved before the next
-pub fit_next : (c : Bounds) (m n m' n' : Set) → Fit c m n → m' ≡ n → count_of n' ≡ count_of n → Fit c m' n'
-fit_next c m n m' n' fit e count = record {
-  moved_count = ap count_of e ∙ fit.noted_count;
-  noted_count = count ∙ fit.noted_count;
-}

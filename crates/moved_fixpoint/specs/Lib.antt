@@ -1,4 +1,5 @@
 pub mod Moved
+pub mod Asked
 pub mod Heard
 pub mod Runs
 pub mod Round

@@ -1,4 +1,4 @@
--- Kernels whose variables haven't moved are quiet: what propagation that passes them over rests on.
+-- Kernels whose variables haven't moved are quiet: what propagation begins with.
 use Rattle.std.specs.Prelude.{ℕ, ℤ, Bool, true, List, length, ◌≡◌, ◌<◌, slice_set}
 use Rattle.std.specs.List.{All}
 use Rattle.interval.specs.Boxes.{Bounds, put_of}
@@ -7,16 +7,21 @@ use Rattle.guarded_tell.specs.Kernels.{vars_of, IsKernel, IsClosedUnder}
 use Rattle.fixpoint_laws.specs.Fixpoints.{IsClosed}
 use Rattle.moved_set.specs.Sets.{IsIn, Naming, IsNaming}
 
--- a set of variables, as contracts see it, and of how many variables
+-- a set of variables or of kernels, as contracts see it, and of how many
 abbrev pub Set : Type 0
 Set = List Bool
 
 abbrev pub count_of : Set → ℕ
 count_of set = length set
 
--- no variable is in the set
+-- none is in the set
 abbrev pub IsEmpty : Set → Type 0
 IsEmpty set = (v : ℕ) → IsIn set v → ⊥
+
+-- the sets are of so many variables, and of so many kernels
+pub record Fit (variables kernels : ℕ) (moved asked : Set) : Type 0 where
+  pub moved_count : count_of moved ≡ variables
+  pub asked_count : count_of asked ≡ kernels
 
 -- none of these variables is in the set
 abbrev pub Misses : Set → List ℕ → Type 0

@@ -1,16 +1,14 @@
-//! How tells are joined into a box, with the variables that moved noted.
+//! How tells are joined into a box.
 
 ghost use Rattle.std.specs.Prelude.{◌≡◌, ◌<◌, ◌↔◌, length, IsTrue};
 ghost use Rattle.std.specs.List.{All};
 ghost use Rattle.interval.specs.Limits.{IsBound};
 ghost use Rattle.guarded_tell.specs.Hearing.{HearsAll};
-ghost use Rattle.moved_fixpoint.specs.Heard.{GainsOne, GoesOn, HasPut, IsHeard, Hears, joined};
-ghost use Rattle.moved_fixpoint.specs.Runs.{Fit};
+ghost use Rattle.moved_fixpoint.specs.Heard.{GoesOn, HasPut, IsHeard, Hears, joined};
 
 use fixpoint_laws::law_tightens_one;
 use guarded_tell::{Side, Tell};
 use interval::law_inside_order;
-use moved_set::MovedSet;
 use trailed_box::TrailedBox;
 
 /// How far a round has come.
@@ -38,41 +36,26 @@ impl Progress {
     }
 }
 
-/// Joins tells into a box, one after the other, until it is crossed or memory is refused, and notes the variables that
-/// move.
-pub(crate) fn join_all(
-    told: &[Tell],
-    b: &mut TrailedBox,
-    moved: &mut MovedSet,
-    noted: &mut MovedSet,
-    mut progress: Progress,
-) -> Progress
+/// Joins tells into a box, one after the other, until it is crossed or memory is refused.
+pub(crate) fn join_all(told: &[Tell], b: &mut TrailedBox, mut progress: Progress) -> Progress
     requires placed { All (λ t. (t.var < length b.old.current) × IsBound t.bound) told.now }
-    requires sets { Fit b.old.current moved.old noted.old }
     ensures stack { b.new.stack ≡ b.old.stack }
-    ensures heard { HearsAll Hears (joined b.old.current moved.old noted.old progress) told.now (joined b.new.current moved.new noted.new result) }
+    ensures heard { HearsAll Hears (joined b.old.current progress) told.now (joined b.new.current result) }
 {
     law_inside_order();
     law_tightens_one();
     for t in told {
-        progress = join(*t, b, moved, noted, progress);
+        progress = join(*t, b, progress);
     }
     progress
 }
 
-/// Joins a tell into a box, unless the round is over, and notes its variable where it moves.
-fn join(
-    t: Tell,
-    b: &mut TrailedBox,
-    moved: &mut MovedSet,
-    noted: &mut MovedSet,
-    progress: Progress,
-) -> Progress
+/// Joins a tell into a box, unless the round is over.
+fn join(t: Tell, b: &mut TrailedBox, progress: Progress) -> Progress
     requires variable { t.var < length b.old.current }
     requires bound { IsBound t.bound }
-    requires sets { Fit b.old.current moved.old noted.old }
     ensures stack { b.new.stack ≡ b.old.stack }
-    ensures heard { IsHeard b.old.current moved.old noted.old progress t b.new.current moved.new noted.new result }
+    ensures heard { IsHeard b.old.current progress t b.new.current result }
 {
     if !progress.goes_on() {
         return progress;
@@ -82,38 +65,26 @@ fn join(
     match t.side {
         Side::Low => {
             if low < t.bound {
-                return put_and_note(b, moved, noted, t.var, t.bound, high);
+                return put_bounds(b, t.var, t.bound, high);
             }
         }
         Side::High => {
             if t.bound < high {
-                return put_and_note(b, moved, noted, t.var, low, t.bound);
+                return put_bounds(b, t.var, low, t.bound);
             }
         }
     }
     progress
 }
 
-/// Puts bounds of a variable, and notes it. Nothing is put where memory is refused.
-fn put_and_note(
-    b: &mut TrailedBox,
-    moved: &mut MovedSet,
-    noted: &mut MovedSet,
-    v: u32,
-    low: i64,
-    high: i64,
-) -> Progress
+/// Puts bounds of a variable. Nothing is put where memory is refused.
+fn put_bounds(b: &mut TrailedBox, v: u32, low: i64, high: i64) -> Progress
     requires variable { v < length b.old.current }
     requires low_in_range { IsBound low }
     requires high_in_range { IsBound high }
-    requires sets { Fit b.old.current moved.old noted.old }
     ensures stack { b.new.stack ≡ b.old.stack }
     ensures put { HasPut result b.old.current v low high b.new.current }
-    ensures moves { GainsOne v moved.old moved.new }
-    ensures notes { GainsOne v noted.old noted.new }
 {
-    moved.mark(v);
-    noted.mark(v);
     if b.put(v, low, high).is_err() {
         Progress::Refused
     } else if low > high {

@@ -1,6 +1,7 @@
-//! Propagation that asks what moved: kernels whose variables haven't moved are passed over.
+//! Propagation that asks what moved: a kernel is visited where one of its variables moved since its last visit.
 #![tactic(auto)]
 
+mod drawing;
 mod joiner;
 mod laws;
 mod round;
@@ -10,5 +11,5 @@ mod settle;
 mod told;
 
 pub use laws::law_quiet_unless_moved;
-pub use sets::MovedSets;
+pub use sets::{AskedSets, MovedSets};
 pub use settle::{settle_moved, settle_proper};

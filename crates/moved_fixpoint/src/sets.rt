@@ -3,59 +3,67 @@
 ghost use Rattle.std.specs.Prelude.{◌≡◌, false, length, IfOk};
 ghost use Rattle.guarded_tell.specs.Words.{IsProperIn};
 ghost use Rattle.guarded_tell.specs.Kernels.{vars_of, IsKernel};
-ghost use Rattle.moved_fixpoint.specs.Moved.{count_of, IsEmpty};
 ghost use Rattle.guarded_tell.specs.Narrowing.{narrowing_tells};
+ghost use Rattle.moved_fixpoint.specs.Moved.{count_of, Fit, IsEmpty};
 
 use crate::told::Told;
 use guarded_tell::{Hint, Kernel};
 use interval::{BoxOf, NoMemory};
-use moved_set::MovedSet;
+use moved_set::{AskedSet, MovedSet};
 use std::alloc::Global;
 
-/// The variables that moved, and what makes a kernel's visits faster: room for what it tells, and a hint.
+/// The variables that moved since the last call, and what the rounds work with.
 #[derive(Drop)]
 pub struct MovedSets {
-    /// Those that moved in the last round or in this one.
+    /// Those variables.
     pub moved: MovedSet,
-    /// Those that moved in this round.
-    pub noted: MovedSet,
+    /// The kernels that are asked.
+    pub asking: AskedSets,
+}
+
+impl MovedSets {
+    /// No variable of so many moved, and no kernel of so many is asked.
+    pub fn new(alloc: Global, count: u32, kernels: usize) -> Result<MovedSets, NoMemory>
+        ensures moved { IfOk result (λ s. IsEmpty s.moved) }
+        ensures asked { IfOk result (λ s. IsEmpty s.asking.asked) }
+        ensures fit { IfOk result (λ s. Fit count kernels s.moved s.asking.asked) }
+    {
+        Ok(MovedSets {
+            moved: MovedSet::new(alloc, count)?,
+            asking: AskedSets::new(alloc, kernels)?,
+        })
+    }
+}
+
+/// The kernels that are asked, and what makes their visits faster: room for what one tells, and hints.
+#[derive(Drop)]
+pub struct AskedSets {
+    /// Those that are asked for in this round or in the next.
+    pub asked: AskedSet,
     /// What the kernel told that was visited last.
     pub(crate) told: Told,
     // one for each kernel
     hints: Vec<Hint>,
 }
 
-impl MovedSets {
-    /// Two empty sets of so many variables, for so many kernels. A kernel beyond these is only visited more slowly.
-    pub fn new(alloc: Global, count: u32, kernels: usize) -> Result<MovedSets, NoMemory>
-        ensures moved { IfOk result (λ s. IsEmpty s.moved × (count_of s.moved ≡ count)) }
-        ensures noted { IfOk result (λ s. IsEmpty s.noted × (count_of s.noted ≡ count)) }
+impl AskedSets {
+    /// No kernel of so many is asked.
+    fn new(alloc: Global, kernels: usize) -> Result<AskedSets, NoMemory>
+        ensures none { IfOk result (λ s. IsEmpty s.asked) }
+        ensures count { IfOk result (λ s. count_of s.asked ≡ kernels) }
     {
-        Ok(MovedSets {
-            moved: MovedSet::new(alloc, count)?,
-            noted: MovedSet::new(alloc, count)?,
+        Ok(AskedSets {
+            asked: AskedSet::new(alloc, kernels)?,
             told: Told::new(alloc),
             hints: vec![in alloc; Hint::new(); kernels]?,
         })
-    }
-
-    /// What moved in the round that ends is what moved before the next.
-    pub(crate) fn begin_round(&mut self)
-        requires { count_of self.old.noted ≡ count_of self.old.moved }
-        ensures moved { self.new.moved ≡ self.old.noted }
-        ensures count { count_of self.new.noted ≡ count_of self.old.noted }
-        ensures empty { IsEmpty self.new.noted }
-    {
-        std::mem::swap(&mut self.moved, &mut self.noted);
-        self.noted.clear();
     }
 
     /// Gathers those tells of the kernel at a place that narrow the box.
     pub(crate) fn gather(&mut self, kernel: &Kernel, place: usize, b: &BoxOf)
         requires kernel { IsKernel (length b.now) kernel.now }
         requires proper { IsProperIn (vars_of kernel.now) b.now }
-        ensures moved { self.new.moved ≡ self.old.moved }
-        ensures noted { self.new.noted ≡ self.old.noted }
+        ensures asked { self.new.asked ≡ self.old.asked }
         ensures told { self.new.told.refused ≡ false → self.new.told.tells.items ≡ narrowing_tells kernel.now b.now }
     {
         if place < self.hints.len() {

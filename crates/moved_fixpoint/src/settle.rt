@@ -5,14 +5,15 @@ ghost use Rattle.std.specs.List.{All};
 ghost use Rattle.interval.specs.Boxes.{IsProper};
 ghost use Rattle.guarded_tell.specs.Kernels.{IsKernel};
 ghost use Rattle.fixpoint_laws.specs.Rounds.{HaveRun};
-ghost use Rattle.moved_fixpoint.specs.Moved.{AreMasksOf, IsEmpty, AreMovedOrQuiet};
-ghost use Rattle.moved_fixpoint.specs.Runs.{Fit};
+ghost use Rattle.moved_fixpoint.specs.Moved.{AreMasksOf, AreMovedOrQuiet, Fit, IsEmpty, count_of};
+ghost use Rattle.moved_fixpoint.specs.Asked.{AreAskedOrQuiet};
 ghost use Rattle.moved_fixpoint.specs.Round.{IsRound};
 ghost use Rattle.moved_fixpoint.specs.Ends.{HasEnded};
 
+use crate::drawing::draw;
 use crate::joiner::Progress;
 use crate::round::{run_down, run_up};
-use crate::sets::MovedSets;
+use crate::sets::{AskedSets, MovedSets};
 use fixpoint_laws::{Limited, law_rounds_lead};
 use guarded_tell::Kernel;
 use interval::{NoMemory, is_crossed, law_inside_order};
@@ -25,16 +26,15 @@ fn run_round(
     kernels: &[Kernel],
     masks: &Masks,
     b: &mut TrailedBox,
-    sets: &mut MovedSets,
+    sets: &mut AskedSets,
 ) -> Progress
     requires kernels { All (IsKernel (length b.old.current)) kernels.now }
     requires masks { AreMasksOf kernels.now (length b.old.current) masks.now }
-    requires sets { Fit b.old.current sets.old.moved sets.old.noted }
+    requires set { count_of sets.old.asked ≡ length kernels.now }
     requires proper { IsProper b.old.current }
-    requires quiet { AreMovedOrQuiet sets.old.moved b.old.current kernels.now }
-    requires empty { IsEmpty sets.old.noted }
+    requires quiet { AreAskedOrQuiet sets.old.asked b.old.current kernels.now }
     ensures stack { b.new.stack ≡ b.old.stack }
-    ensures round { IsRound kernels.now b.old.current b.new.current sets.new.moved sets.new.noted result }
+    ensures round { IsRound kernels.now b.old.current b.new.current sets.new.asked result }
 {
     if up {
         run_up(kernels, masks, b, sets)
@@ -55,17 +55,17 @@ fn run_rounds(
     b: &mut TrailedBox,
     kernels: &[Kernel],
     masks: &Masks,
-    sets: &mut MovedSets,
+    sets: &mut AskedSets,
     round_limit: u64,
 ) -> Result<Limited, NoMemory>
     requires kernels { All (IsKernel (length b.old.current)) kernels.now }
     requires masks { AreMasksOf kernels.now (length b.old.current) masks.now }
-    requires sets { Fit b.old.current sets.old.moved sets.old.noted }
+    requires set { count_of sets.old.asked ≡ length kernels.now }
     requires proper { IsProper b.old.current }
-    requires quiet { AreMovedOrQuiet sets.old.moved b.old.current kernels.now }
-    requires empty { IsEmpty sets.old.noted }
+    requires quiet { AreAskedOrQuiet sets.old.asked b.old.current kernels.now }
     ensures stack { b.new.stack ≡ b.old.stack }
-    ensures sets { Fit b.old.current sets.new.moved sets.new.noted }
+    ensures empty { IsEmpty sets.new.asked }
+    ensures set { count_of sets.new.asked ≡ length kernels.now }
     ensures ends { IfOk result (HasEnded kernels.now round_limit b.old.current b.new.current) }
     ensures err { OnErr result (HaveRun kernels.now b.old.current b.new.current) }
 {
@@ -80,18 +80,27 @@ fn run_rounds(
         match run_round(up, kernels, masks, b, sets) {
             Progress::Still => return Ok(Limited::Fixed { rounds }),
             Progress::Moved => {}
-            Progress::Crossed => return Ok(Limited::Failed { rounds }),
-            Progress::Refused => return Err(NoMemory),
+            Progress::Crossed => {
+                sets.asked.clear();
+                return Ok(Limited::Failed { rounds });
+            }
+            Progress::Refused => {
+                sets.asked.clear();
+                return Err(NoMemory);
+            }
         }
         if are_spent(round_limit, rounds) {
+            sets.asked.clear();
             return Ok(Limited::RoundsSpent { rounds });
         }
-        sets.begin_round();
         up = !up;
     }
 }
 
-/// Narrows a proper box as [`settle_moved`] does.
+/// Narrows the proper box of `b` to the greatest closed box inside it, in rounds that visit only those kernels of which some
+/// variable moved since their last visit, until a round moves nothing. Where no closed box is inside, the box ends crossed.
+/// After `round_limit` rounds (0: no limit) it stops. Each kernel that names none of the variables of `sets.moved` has to be
+/// quiet on the box; that set is empty then, and no kernel is asked. The stack stays as it is.
 pub fn settle_proper(
     b: &mut TrailedBox,
     kernels: &[Kernel],
@@ -101,25 +110,22 @@ pub fn settle_proper(
 ) -> Result<Limited, NoMemory>
     requires kernels { All (IsKernel (length b.old.current)) kernels.now }
     requires masks { AreMasksOf kernels.now (length b.old.current) masks.now }
-    requires sets { Fit b.old.current sets.old.moved sets.old.noted }
+    requires sets { Fit (length b.old.current) (length kernels.now) sets.old.moved sets.old.asking.asked }
     requires quiet { AreMovedOrQuiet sets.old.moved b.old.current kernels.now }
     requires proper { IsProper b.old.current }
     ensures stack { b.new.stack ≡ b.old.stack }
-    ensures sets { Fit b.old.current sets.new.moved sets.new.noted }
+    ensures sets { Fit (length b.old.current) (length kernels.now) sets.new.moved sets.new.asking.asked }
     ensures empty { IsEmpty sets.new.moved }
+    ensures none_asked { IsEmpty sets.new.asking.asked }
     ensures ends { IfOk result (HasEnded kernels.now round_limit b.old.current b.new.current) }
     ensures err { OnErr result (HaveRun kernels.now b.old.current b.new.current) }
 {
-    sets.noted.clear();
-    let ending = run_rounds(b, kernels, masks, sets, round_limit);
+    draw(masks, &sets.moved, &mut sets.asking.asked);
     sets.moved.clear();
-    ending
+    run_rounds(b, kernels, masks, &mut sets.asking, round_limit)
 }
 
-/// Narrows the box of `b` to the greatest closed box inside it, in rounds that run only those kernels of which some
-/// variable moved, until a round moves nothing. Where no closed box is inside, the box ends crossed. After `round_limit`
-/// rounds (0: no limit) it stops. Each kernel that names none of the variables of `sets.moved` has to be quiet on the box;
-/// that set is empty then. The stack stays as it is.
+/// Narrows the box of `b` in the same way, which may be crossed.
 pub fn settle_moved(
     b: &mut TrailedBox,
     kernels: &[Kernel],
@@ -129,17 +135,19 @@ pub fn settle_moved(
 ) -> Result<Limited, NoMemory>
     requires kernels { All (IsKernel (length b.old.current)) kernels.now }
     requires masks { AreMasksOf kernels.now (length b.old.current) masks.now }
-    requires sets { Fit b.old.current sets.old.moved sets.old.noted }
+    requires sets { Fit (length b.old.current) (length kernels.now) sets.old.moved sets.old.asking.asked }
     requires quiet { AreMovedOrQuiet sets.old.moved b.old.current kernels.now }
     ensures stack { b.new.stack ≡ b.old.stack }
-    ensures sets { Fit b.old.current sets.new.moved sets.new.noted }
+    ensures sets { Fit (length b.old.current) (length kernels.now) sets.new.moved sets.new.asking.asked }
     ensures empty { IsEmpty sets.new.moved }
+    ensures none_asked { IsEmpty sets.new.asking.asked }
     ensures ends { IfOk result (HasEnded kernels.now round_limit b.old.current b.new.current) }
     ensures err { OnErr result (HaveRun kernels.now b.old.current b.new.current) }
 {
     law_inside_order();
     if is_crossed(b.current()) {
         sets.moved.clear();
+        sets.asking.asked.clear();
         return Ok(Limited::Failed { rounds: 0 });
     }
     settle_proper(b, kernels, masks, sets, round_limit)

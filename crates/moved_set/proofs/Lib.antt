@@ -1,13 +1,12 @@
 pub mod SetLaws
 pub mod GroupLaws
 pub mod FlatLaws
-pub mod MaskLaws
 pub mod ListedLaws
 pub mod PartLaws
 pub mod RowLaws
 pub mod NamingLaws
-pub mod AskLaws
-pub mod JoinedLaws
-pub mod ListLaws
+pub mod BitLaws
+pub mod AskedLaws
+pub mod AskingLaws
 pub mod ClauseLists
 pub mod EquationLists

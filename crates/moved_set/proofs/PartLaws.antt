@@ -1,16 +1,14 @@
 -- Kernels' variables in two parts.
-use Rattle.std.proofs.Common.{◌≡◌, ◌≢◌, ℕ, zero, suc, ◌+◌, ◌-◌, ◌<◌, ◌≤◌, List, [], ◌∷◌, ◌++◌, Bool, true, false, ◌||◌, length, get_or, take, drop, slice_range, refl, sym, ◌∙◌, ap, subst, ⊎_elim, arith, inl, inr, ◌⊎◌}
-use Rattle.std.specs.List.{list_any}
+use Rattle.std.proofs.Common.{◌≡◌, ◌≢◌, ℕ, zero, suc, ◌+◌, ◌-◌, ◌<◌, ◌≤◌, List, [], ◌∷◌, ◌++◌, length, get_or, take, drop, slice_range, refl, sym, ◌∙◌, ap, subst, ⊎_elim, arith, inl, inr, ◌⊎◌}
 use Rattle.std.specs.Prelude.{All, Contains}
 use Rattle.std.proofs.lemmas.Bool.{cases_eq, cases_lt}
 use Rattle.std.proofs.lemmas.List.{length_push, length-drop, get_or-map, get_or-drop, get_or_append_left, get_or_push, get_or_past, get_or_default, take_more}
 use Rattle.std.proofs.lemmas.List.Elements.{Contains-get_or, Contains-append_left, Contains-append_right, Contains-append_cases}
-use Rattle.std.proofs.lemmas.List.Folds.{list_any-append}
 use Rattle.guarded_tell.specs.declared.kernel.Kernel.{Kernel}
 use Rattle.guarded_tell.specs.Words.{AreVariables}
 use Rattle.guarded_tell.specs.Kernels.{vars_of}
 use Rattle.moved_set.specs.declared.parts.Part.{Part}
-use Rattle.moved_set.specs.Parts.{vars_at, list_at, part_at, HasList, IsPart, own_of, AreLists, AreParts, GrowsBy}
+use Rattle.moved_set.specs.Parts.{vars_at, list_at, part_at, HasList, IsPart, own_of, own_at, AreLists, AreParts, GrowsBy}
 
 -- the variables of the kernel at a place, as the code lends it
 pub vars_lent : (kernels : List Kernel) (j : ℕ) (k : Kernel) → j < length kernels → k ≡ get_or kernels j k → vars_at kernels j ≡ vars_of k
@@ -161,28 +159,16 @@ named_in_part vars lists part v is =
       ],
     )
 
-or_swapped : (a b c : Bool) → ((a || c) || b) ≡ ((a || b) || c)
-or_swapped true b c = refl
-or_swapped false true true = refl
-or_swapped false true false = refl
-or_swapped false false true = refl
-or_swapped false false false = refl
-
--- the same, as tests
-pub any_in_part : (test : ℕ → Bool) (vars : List ℕ) (lists : List (List ℕ)) (part : Part) → IsPart vars lists part
-    → (list_any test (own_of vars lists part) || list_any test (list_at lists part.list)) ≡ list_any test vars
-any_in_part test vars lists part is =
-    let list : List ℕ = list_at lists part.list in
-    let front : List ℕ = take part.before vars in
-    let back : List ℕ = drop (part.before + length list) vars in
-    ap (λ (b : Bool). b || list_any test list) (list_any-append test front back)
-    ∙ or_swapped (list_any test front) (list_any test list) (list_any test back)
-    ∙ ap (λ (b : Bool). b || list_any test back) (sym (list_any-append test front list))
-    ∙ sym (list_any-append test (front ++ list) back) ∙ ap (list_any test) (sym is.has.parted)
-
 -- the own variables are below the limit, where all are
 pub own_below : (limit : ℕ) (vars : List ℕ) (lists : List (List ℕ)) (part : Part) → AreVariables limit vars → IsPart vars lists part → All (λ v. v < limit) (own_of vars lists part)
 own_below limit vars lists part are is k d h =
     let own : List ℕ = own_of vars lists part in
     let v : ℕ = get_or own k d in
     below_all limit vars v are ((named_in_part vars lists part v is).1 (inl (Contains-get_or own k d h)))
+
+-- those of the kernel at a place
+pub owns_below : (limit j : ℕ) (kernels : List Kernel) (lists : List (List ℕ)) (parts : List Part) → j < length kernels
+    → ((k : Kernel) → AreVariables limit (vars_of (get_or kernels j k))) → AreParts kernels (length kernels) lists parts → All (λ v. v < limit) (own_at kernels lists parts j)
+owns_below limit j [] lists parts h below are = absurd (omega arith)
+owns_below limit j (k ∷ ks) lists parts h below are =
+    own_below limit (vars_at (k ∷ ks) j) lists (part_at parts j) (subst (AreVariables limit) (sym (vars_are (k ∷ ks) j k h)) (below k)) (are.each j h)

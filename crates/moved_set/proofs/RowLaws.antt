@@ -1,12 +1,12 @@
 -- Rows of the numbers that have a key.
-use Rattle.std.proofs.Common.{◌≡◌, ◌≢◌, ℕ, ◌+◌, ◌<◌, ◌≤◌, List, [], ◌∷◌, ◌++◌, length, get_or, set, refl, sym, ◌∙◌, ap, subst, ⊎_elim, arith, inl, inr, ◌⊎◌}
-use Rattle.std.specs.Prelude.{Vec, Contains}
+use Rattle.std.proofs.Common.{◌≡◌, ◌≢◌, ℕ, ◌+◌, ◌*◌, ◌<◌, ◌≤◌, List, [], ◌∷◌, ◌++◌, length, get_or, set, refl, sym, ◌∙◌, ap, subst, ⊎_elim, arith, inl, inr, ◌⊎◌}
+use Rattle.std.specs.Prelude.{Vec, All, Contains}
 use Rattle.std.specs.declared.alloc.Global.{Global}
 use Rattle.std.proofs.lemmas.Bool.{cases_eq, cases_lt}
 use Rattle.std.proofs.lemmas.Grind.{get_or-set_at}
 use Rattle.std.proofs.lemmas.List.{length_push, length-set, get_or-map, get_or_append_left, get_or_push, get_or-set_other}
 use Rattle.std.proofs.lemmas.List.Elements.{Contains-get_or, Contains-push, Contains-push_cases, Contains-append_left}
-use Rattle.moved_set.specs.Rows.{IsRising, PutsOnce, row_at, IsRowTo, AreRowsTo}
+use Rattle.moved_set.specs.Rows.{PutsOnce, row_at, IsRowTo, AreRowsTo}
 
 pub none_of : (x : ℕ) → Contains [] x → ⊥
 none_of x c = let lt = c.1 in omega arith
@@ -19,122 +19,81 @@ row_is rows k d h = get_or-map (λ (row : Vec ℕ Global). row.items) rows k d [
 pub row_lent : (rows : List (Vec ℕ Global)) (k : ℕ) (row : Vec ℕ Global) (lent : List ℕ) → k < length rows → row ≡ get_or rows k row → lent ≡ row.items → lent ≡ row_at rows k
 row_lent rows k row lent h is same = same ∙ ap (λ (r : Vec ℕ Global). r.items) is ∙ sym (row_is rows k row h)
 
-rising_push : (row : List ℕ) (j : ℕ) → IsRising row → ((i : ℕ) → Contains row i → i ≤ j) → IsRising (row ++ j ∷ [])
-rising_push row j rising most a b le lt =
-    let all : List ℕ = row ++ j ∷ [] in
-    let len : length all ≡ length row + 1 = length_push row j in
-    let inside : b < length row → get_or all a 0 ≤ get_or all b 0 =
-    λ h.
-    let up = rising a b le h in
-    let one : get_or all a 0 ≡ get_or row a 0 = get_or_append_left row (j ∷ []) 0 a (omega arith) in
-    let two : get_or all b 0 ≡ get_or row b 0 = get_or_append_left row (j ∷ []) 0 b h in
-    omega arith in
-    let last : length row ≤ b → get_or all a 0 ≤ get_or all b 0 =
-    λ h.
-    let two : get_or all b 0 ≡ j = get_or_push row j 0 b (omega arith) in
-    let before : a < length row → get_or all a 0 ≤ get_or all b 0 =
-    λ k.
-    let one : get_or all a 0 ≡ get_or row a 0 = get_or_append_left row (j ∷ []) 0 a k in
-    let below = most (get_or row a 0) (Contains-get_or row a 0 k) in
-    omega arith in
-    let same : length row ≤ a → get_or all a 0 ≤ get_or all b 0 =
-    λ k. let one : get_or all a 0 ≡ j = get_or_push row j 0 a (omega arith) in omega arith in
-    ⊎_elim before same (cases_lt a (length row)) in
-    ⊎_elim inside last (cases_lt b (length row))
-
 -- ---- one row
 
 -- the row also has the next number, if its key is among these
-pub record IsRowWith (keys : ℕ → List ℕ) (to : ℕ) (some : List ℕ) (key : ℕ) (row : List ℕ) : Type 0 where
-  pub rising : IsRising row
-  pub exactly : (j : ℕ) → (Contains row j → ((j < to) × Contains (keys j) key) ⊎ ((j ≡ to) × Contains some key)) × (((j < to) × Contains (keys j) key) ⊎ ((j ≡ to) × Contains some key) → Contains row j)
+abbrev pub IsRowWith : (ℕ → List ℕ) → ℕ → List ℕ → ℕ → List ℕ → Type 0
+IsRowWith keys to some key row =
+    (j : ℕ) → (Contains row j → ((j < to) × Contains (keys j) key) ⊎ ((j ≡ to) × Contains some key)) × (((j < to) × Contains (keys j) key) ⊎ ((j ≡ to) × Contains some key) → Contains row j)
 
 with_none : (keys : ℕ → List ℕ) (to key : ℕ) (row : List ℕ) → IsRowTo keys to key row → IsRowWith keys to [] key row
-with_none keys to key row is = record {
-  rising = is.rising;
-  exactly = λ j. (
-    λ c. inl ((is.exactly j).0 c),
-    λ s. elim s [
-      | inl p ↦ (is.exactly j).1 p
-      | inr p ↦ absurd (none_of key p.1)
-    ],
-  );
-}
+with_none keys to key row is j = (
+  λ c. inl ((is j).0 c),
+  λ s. elim s [
+    | inl p ↦ (is j).1 p
+    | inr p ↦ absurd (none_of key p.1)
+  ],
+)
 
 with_put : (keys : ℕ → List ℕ) (to : ℕ) (some : List ℕ) (w key : ℕ) (row : List ℕ) → w ≡ key → IsRowWith keys to some key row → IsRowWith keys to (some ++ w ∷ []) key (row ++ to ∷ [])
-with_put keys to some w key row same is = record {
-  rising = rising_push row to is.rising (λ i c. elim ((is.exactly i).0 c) [
-    | inl p ↦ let lt = p.0 in omega arith
-    | inr p ↦ let e = p.0 in omega arith
-  ]);
-  exactly = λ j. (
-    λ c. elim (Contains-push_cases row to j c) [
-      | inl before ↦ elim ((is.exactly j).0 before) [
-        | inl p ↦ inl p
-        | inr p ↦ inr (p.0, Contains-append_left some (w ∷ []) key p.1)
-      ]
-      | inr here ↦ inr (sym here, subst (Contains (some ++ w ∷ [])) same (Contains-push some w))
-    ],
-    λ s. elim s [
-      | inl p ↦ Contains-append_left row (to ∷ []) j ((is.exactly j).1 (inl p))
-      | inr p ↦ subst (Contains (row ++ to ∷ [])) (sym p.0) (Contains-push row to)
-    ],
-  );
-}
+with_put keys to some w key row same is j = (
+  λ c. elim (Contains-push_cases row to j c) [
+    | inl before ↦ elim ((is j).0 before) [
+      | inl p ↦ inl p
+      | inr p ↦ inr (p.0, Contains-append_left some (w ∷ []) key p.1)
+    ]
+    | inr here ↦ inr (sym here, subst (Contains (some ++ w ∷ [])) same (Contains-push some w))
+  ],
+  λ s. elim s [
+    | inl p ↦ Contains-append_left row (to ∷ []) j ((is j).1 (inl p))
+    | inr p ↦ subst (Contains (row ++ to ∷ [])) (sym p.0) (Contains-push row to)
+  ],
+)
 
 with_kept : (keys : ℕ → List ℕ) (to : ℕ) (some : List ℕ) (w key : ℕ) (row : List ℕ) → w ≡ key → Contains row to → IsRowWith keys to some key row → IsRowWith keys to (some ++ w ∷ []) key row
-with_kept keys to some w key row same there is = record {
-  rising = is.rising;
-  exactly = λ j. (
-    λ c. elim ((is.exactly j).0 c) [
-      | inl p ↦ inl p
-      | inr p ↦ inr (p.0, Contains-append_left some (w ∷ []) key p.1)
-    ],
-    λ s. elim s [
-      | inl p ↦ (is.exactly j).1 (inl p)
-      | inr p ↦ subst (Contains row) (sym p.0) there
-    ],
-  );
-}
+with_kept keys to some w key row same there is j = (
+  λ c. elim ((is j).0 c) [
+    | inl p ↦ inl p
+    | inr p ↦ inr (p.0, Contains-append_left some (w ∷ []) key p.1)
+  ],
+  λ s. elim s [
+    | inl p ↦ (is j).1 (inl p)
+    | inr p ↦ subst (Contains row) (sym p.0) there
+  ],
+)
 
 with_other : (keys : ℕ → List ℕ) (to : ℕ) (some : List ℕ) (w key : ℕ) (row : List ℕ) → w ≢ key → IsRowWith keys to some key row → IsRowWith keys to (some ++ w ∷ []) key row
-with_other keys to some w key row ne is = record {
-  rising = is.rising;
-  exactly = λ j. (
-    λ c. elim ((is.exactly j).0 c) [
-      | inl p ↦ inl p
-      | inr p ↦ inr (p.0, Contains-append_left some (w ∷ []) key p.1)
-    ],
-    λ s. elim s [
-      | inl p ↦ (is.exactly j).1 (inl p)
-      | inr p ↦ elim (Contains-push_cases some w key p.1) [
-        | inl before ↦ (is.exactly j).1 (inr (p.0, before))
-        | inr here ↦ absurd (ne here)
-      ]
-    ],
-  );
-}
+with_other keys to some w key row ne is j = (
+  λ c. elim ((is j).0 c) [
+    | inl p ↦ inl p
+    | inr p ↦ inr (p.0, Contains-append_left some (w ∷ []) key p.1)
+  ],
+  λ s. elim s [
+    | inl p ↦ (is j).1 (inl p)
+    | inr p ↦ elim (Contains-push_cases some w key p.1) [
+      | inl before ↦ (is j).1 (inr (p.0, before))
+      | inr here ↦ absurd (ne here)
+    ]
+  ],
+)
 
 with_all : (keys : ℕ → List ℕ) (to key : ℕ) (some row : List ℕ) → keys to ≡ some → IsRowWith keys to some key row → IsRowTo keys (to + 1) key row
-with_all keys to key some row all is = record {
-  rising = is.rising;
-  exactly = λ j. (
-    λ c. elim ((is.exactly j).0 c) [
-      | inl p ↦ let lt = p.0 in (omega arith, p.1)
-      | inr p ↦
-          let e = p.0 in
-          (omega arith, subst (λ (ks : List ℕ). Contains ks key) (sym all ∙ ap keys (sym e)) p.1)
-    ],
-    λ p.
-        let lt = p.0 in
-        let before : j < to → Contains row j = λ below. (is.exactly j).1 (inl (below, p.1)) in
-        let last : to ≤ j → Contains row j =
-        λ above.
-        let e : j ≡ to = omega arith in
-        (is.exactly j).1 (inr (e, subst (λ (ks : List ℕ). Contains ks key) (ap keys e ∙ all) p.1)) in
-        ⊎_elim before last (cases_lt j to),
-  );
-}
+with_all keys to key some row all is j = (
+  λ c. elim ((is j).0 c) [
+    | inl p ↦ let lt = p.0 in (omega arith, p.1)
+    | inr p ↦
+        let e = p.0 in
+        (omega arith, subst (λ (ks : List ℕ). Contains ks key) (sym all ∙ ap keys (sym e)) p.1)
+  ],
+  λ p.
+      let lt = p.0 in
+      let before : j < to → Contains row j = λ below. (is j).1 (inl (below, p.1)) in
+      let last : to ≤ j → Contains row j =
+      λ above.
+      let e : j ≡ to = omega arith in
+      (is j).1 (inr (e, subst (λ (ks : List ℕ). Contains ks key) (ap keys e ∙ all) p.1)) in
+      ⊎_elim before last (cases_lt j to),
+)
 
 -- ---- all rows
 
@@ -160,10 +119,7 @@ rows_empty keys count rows row is are =
           subst (IsRowTo keys 0 key) (sym same) (are.each key lt) in
           let new : count ≤ key → IsRowTo keys 0 key (row_at (rows ++ row ∷ []) key) =
           λ le.
-          let empty : IsRowTo keys 0 key [] = record {
-            rising = λ a b x y. absurd (omega arith);
-            exactly = λ j. (λ c. absurd (none_of j c), λ p. let lt = p.0 in absurd (omega arith));
-          } in
+          let empty : IsRowTo keys 0 key [] = λ j. (λ c. absurd (none_of j c), λ p. let lt = p.0 in absurd (omega arith)) in
           let same : row_at (rows ++ row ∷ []) key ≡ [] =
           here ∙ ap (λ (r : Vec ℕ Global). r.items) (get_or_push rows row row key (omega arith)) ∙ is in
           subst (IsRowTo keys 0 key) (sym same) empty in
@@ -215,3 +171,15 @@ pub rows_one : (keys : ℕ → List ℕ) (to w count : ℕ) (rows : List (Vec �
     → old ≡ get_or rows w old → new.items ≡ old.items ++ to ∷ [] → AreRowsTo keys to count rows → AreRowsTo keys (to + 1) count (set rows w new)
 rows_one keys to w count rows old new h all o n are =
     rows_end keys to count (w ∷ []) (set rows w new) all (rows_put keys to [] (w ∷ []) w count rows old new h refl o (inl n) (rows_begin keys to count rows are))
+
+-- the numbers have words
+pub rows_below : (keys : ℕ → List ℕ) (to count words : ℕ) (rows lent : List (Vec ℕ Global)) → lent ≡ rows → to < 32 * words → AreRowsTo keys to count rows
+    → (i : ℕ) → i < length lent → All (λ j. j < 32 * words) (row_at lent i)
+rows_below keys to count words rows lent is fits are i h =
+    let len = are.length_is in
+    let same = ap length is in
+    subst (λ (rs : List (Vec ℕ Global)). All (λ j. j < 32 * words) (row_at rs i)) (sym is)
+    (λ k d l.
+    let j : ℕ = get_or (row_at rows i) k d in
+    let below : j < to = ((are.each i (omega arith) j).0 (Contains-get_or (row_at rows i) k d l)).0 in
+    omega arith)

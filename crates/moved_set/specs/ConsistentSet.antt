@@ -6,5 +6,5 @@ use Rattle.moved_set.specs.declared.set.MovedSet.TheInside.{Inside}
 
 -- the words are as many as the count asks for, and the list is one of the set
 pub record IsConsistent (s : Inside) : Type 0 where
-  pub words : length s.words.items ≡ (s.count + 63) / 64
+  pub words : length s.words.items ≡ (s.count + 31) / 32
   pub listing : IsListing s.few (set_of s.words.items s.count)

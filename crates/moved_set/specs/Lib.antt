@@ -3,9 +3,10 @@ pub mod Listed
 pub mod Words
 pub mod Flat
 pub mod Building
-pub mod Questions
 pub mod Consistent
 pub mod ConsistentSet
 pub mod Parts
-pub mod Joined
 pub mod Rows
+pub mod Asked
+pub mod Asking
+pub mod ConsistentAsked

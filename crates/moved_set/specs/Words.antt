@@ -1,4 +1,4 @@
--- A set of numbers as bits: number v has bit v % 64 of word v / 64.
+-- A set of numbers as bits: number v has bit v % 32 of word v / 32.
 use Rattle.std.specs.Prelude.{ℕ, ◌/◌, ◌%◌, ◌==◌, Bool, ◌&&◌, List, map, slice_index}
 use Rattle.std.specs.Int.{bit_at}
 use Rattle.std.specs.List.{list_any, range_with_len}
@@ -10,7 +10,7 @@ has_bit word k = bit_at word k == 1
 
 -- the number v is in the set that the words are
 abbrev pub has : List ℕ → ℕ → Bool
-has words v = has_bit (slice_index words (v / 64)) (v % 64)
+has words v = has_bit (slice_index words (v / 32)) (v % 32)
 
 -- which of the numbers below the count are in the set
 abbrev pub set_of : List ℕ → ℕ → List Bool
@@ -18,11 +18,7 @@ set_of words count = map (has words) (range_with_len 0 count)
 
 -- the number v is one of a mask's, or of some mask's
 abbrev pub hits : ℕ → Mask → Bool
-hits v m = (m.place == v / 64) && has_bit m.bits (v % 64)
+hits v m = (m.place == v / 32) && has_bit m.bits (v % 32)
 
 abbrev pub names : List Mask → ℕ → Bool
 names masks v = list_any (hits v) masks
-
--- which of the numbers below the count some mask has
-abbrev pub named_by : ℕ → List Mask → List Bool
-named_by count masks = map (names masks) (range_with_len 0 count)

@@ -89,13 +89,4 @@ impl Few {
         self.used = 0;
         self.whole = false;
     }
-
-    /// Becomes the other list.
-    pub(crate) fn copy_from(&mut self, other: &Few)
-        ensures { self.new ≡ other.now }
-    {
-        self.places.as_mut_slice().copy_from_slice(&other.places);
-        self.used = other.used;
-        self.whole = other.whole;
-    }
 }

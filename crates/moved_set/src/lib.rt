@@ -1,15 +1,17 @@
-//! Sets of variables, and the question which kernels name a variable of a set.
+//! Sets of variables and of kernels, and for each variable the kernels that name it.
 #![tactic(auto)]
 
+mod asked;
+mod bits;
 mod build;
 mod few;
 mod groups;
-mod kernel_masks;
 mod mask;
 mod masks;
 mod parts;
 mod rows;
 mod set;
 
+pub use asked::AskedSet;
 pub use masks::Masks;
 pub use set::MovedSet;

@@ -1,9 +1,8 @@
 //! Sets of variables.
 
-ghost use Rattle.std.specs.Prelude.{◌≡◌, ◌<◌, ◌*◌, ◌+◌, ◌/◌, ℕ, true, false, length, replicate, slice_set, slice_index, slice_index_or, EachIndex, IfOk, IfSome, bit_or};
+ghost use Rattle.std.specs.Prelude.{◌≡◌, ◌<◌, ◌+◌, ◌/◌, true, false, length, replicate, slice_set, slice_index_or, IfOk, IfSome};
 ghost use Rattle.moved_set.specs.Listed.{AreAllOf};
-ghost use Rattle.moved_set.specs.Sets.{IsUnion};
-ghost use Rattle.moved_set.specs.Words.{has, has_bit};
+ghost use Rattle.moved_set.specs.Words.{has};
 
 use crate::few::Few;
 use interval::NoMemory;
@@ -13,7 +12,7 @@ use std::marker::Model;
 /// A set of variables, as bits, and as a list while they are few. Contracts see for each variable whether it is in the set.
 #[derive(Drop)]
 pub struct MovedSet {
-    words: Vec<u64>,
+    words: Vec<u32>,
     count: u32,
     few: Few,
 }
@@ -64,7 +63,7 @@ impl MovedSet {
     {
         let is_known = is_set(self.words.as_slice(), v);
         self.few.put(v, is_known);
-        self.words[v as usize / 64] |= 1 << (v % 64);
+        self.words[v as usize / 32] |= 1 << (v % 32);
     }
 
     /// Takes all variables off.
@@ -79,30 +78,12 @@ impl MovedSet {
     pub fn mark_all(&mut self)
         ensures { self.new ≡ replicate (length self.old) true }
     {
-        self.words.as_mut_slice().fill(u64::MAX);
+        self.words.as_mut_slice().fill(u32::MAX);
         self.few.give_up();
-    }
-
-    /// Puts the variables of the other set into this one too.
-    pub fn unite(&mut self, other: &MovedSet)
-        requires { length other.now ≡ length self.old }
-        ensures { IsUnion self.old other.now self.new }
-    {
-        unite_words(self.words.as_mut_slice(), other.words.as_slice());
-        self.few.give_up();
-    }
-
-    /// Becomes the other set.
-    pub fn copy_from(&mut self, other: &MovedSet)
-        requires { length other.now ≡ length self.old }
-        ensures { self.new ≡ other.now }
-    {
-        self.words.as_mut_slice().copy_from_slice(&other.words);
-        self.few.copy_from(&other.few);
     }
 
     /// The variables of the set, if they are few.
-    pub(crate) fn few(&self) -> Option<&[u32]>
+    pub fn few(&self) -> Option<&[u32]>
         ensures { IfSome result (λ variables. AreAllOf self.now variables.now) }
     {
         if self.few.is_whole() {
@@ -111,37 +92,19 @@ impl MovedSet {
             None
         }
     }
-
-    /// A word: the bits of 64 variables.
-    pub(crate) fn word(&self, place: u32) -> u64
-        requires { place * 64 < length self.now }
-        ensures { (k : ℕ) → k < 64 → place * 64 + k < length self.now → has_bit result k ≡ slice_index_or self.now (place * 64 + k) false }
-    {
-        self.words[place as usize]
-    }
 }
 
 /// Whether the bit of a variable is 1.
-fn is_set(words: &[u64], v: u32) -> bool
-    requires { v / 64 < length words.now }
+fn is_set(words: &[u32], v: u32) -> bool
+    requires { v / 32 < length words.now }
     ensures { result ≡ has words.now v }
 {
-    (words[v as usize / 64] >> (v % 64)) & 1 == 1
+    (words[v as usize / 32] >> (v % 32)) & 1 == 1
 }
 
 /// How many words hold the bits of so many variables.
-pub(crate) fn word_count(count: u32) -> usize
-    ensures { result ≡ (count + 63) / 64 }
+fn word_count(count: u32) -> usize
+    ensures { result ≡ (count + 31) / 32 }
 {
-    (count as usize + 63) / 64
-}
-
-/// Gives each word the bits of the other's word at its place too.
-fn unite_words(words: &mut [u64], other: &[u64])
-    requires { length other.now ≡ length words.old }
-    ensures { EachIndex words.new (λ k. slice_index words.new k ≡ bit_or (slice_index words.old k) (slice_index other.now k)) }
-{
-    for place in 0..words.len() {
-        words[place] |= other[place];
-    }
+    (count as usize + 31) / 32
 }

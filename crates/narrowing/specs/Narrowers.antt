@@ -3,17 +3,16 @@ use Rattle.std.specs.Prelude.{◌≡◌, ◌≤◌, ℕ, List, [], ◌∷◌, le
 use Rattle.interval.specs.Boxes.{Bounds}
 use Rattle.guarded_tell.specs.declared.kernel.Kernel.{Kernel}
 use Rattle.fixpoint_laws.specs.Fixpoints.{IsClosed}
-use Rattle.moved_fixpoint.specs.Moved.{count_of, IsEmpty, AreMovedOrQuiet}
+use Rattle.moved_fixpoint.specs.Moved.{count_of, Fit, IsEmpty, AreMovedOrQuiet}
 use Rattle.rounds.specs.Shares.{IsCut}
 use Rattle.rounds.specs.Engines.{engine_len, engine_shares}
 use Rattle.narrowing.specs.declared.alone.Alone.{Alone}
 use Rattle.narrowing.specs.declared.lanes.Lanes.{Lanes}
 use Rattle.narrowing.specs.declared.narrower.Narrower.{Narrower}
 
--- what narrows alone serves boxes of so many variables
-pub record IsAloneFor (alone : Alone) (count : ℕ) : Type 0 where
-  pub moved : count_of alone.sets.moved ≡ count
-  pub noted : count_of alone.sets.noted ≡ count
+-- what narrows alone serves these kernels and boxes of so many variables
+abbrev pub IsAloneFor : Alone → List Kernel → ℕ → Type 0
+IsAloneFor alone kernels count = Fit count (length kernels) alone.sets.moved alone.sets.asking.asked
 
 -- lanes serve these kernels and boxes of so many variables
 pub record AreLanesFor (lanes : Lanes) (kernels : List Kernel) (count : ℕ) : Type 0 where
@@ -28,7 +27,7 @@ len_of (Narrower.Alone alone) = count_of alone.sets.moved
 len_of (Narrower.Lanes lanes) = length lanes.into
 
 abbrev pub Serves : Narrower → List Kernel → ℕ → Type 0
-Serves (Narrower.Alone alone) kernels count = IsAloneFor alone count
+Serves (Narrower.Alone alone) kernels count = IsAloneFor alone kernels count
 Serves (Narrower.Lanes lanes) kernels count = AreLanesFor lanes kernels count
 
 -- the narrower serves these kernels and boxes of so many variables

@@ -1,8 +1,9 @@
 //! What narrows alone, by propagation that asks what moved.
 
-ghost use Rattle.std.specs.Prelude.{◌≡◌, ◌≤◌, ℕ, length, All, IfOk, OnErr};
+ghost use Rattle.std.specs.Prelude.{◌≡◌, ◌≤◌, ℕ, List, length, All, IfOk, OnErr};
 ghost use Rattle.interval.specs.Limits.{box_limit};
 ghost use Rattle.interval.specs.Boxes.{IsProper};
+ghost use Rattle.guarded_tell.specs.declared.kernel.Kernel.{Kernel};
 ghost use Rattle.guarded_tell.specs.Kernels.{IsKernel};
 ghost use Rattle.fixpoint_laws.specs.Rounds.{HaveRun};
 ghost use Rattle.moved_fixpoint.specs.Moved.{AreMasksOf, IsEmpty, AreMovedOrQuiet};
@@ -12,6 +13,7 @@ ghost use Rattle.narrowing.specs.Narrowers.{IsAloneFor};
 use crate::narrowed::Narrowed;
 use crate::propagation::Propagation;
 use fixpoint_laws::Limited;
+use guarded_tell::Kernel;
 use interval::{BoxOf, NoMemory};
 use moved_fixpoint::{MovedSets, settle_proper};
 use rounds::Gate;
@@ -34,18 +36,18 @@ pub struct Alone {
 }
 
 impl Alone {
-    /// For boxes of so many variables and so many kernels. No variable is noted.
-    pub(crate) fn new(alloc: Global, len: u32, kernels: usize) -> Result<Alone, NoMemory>
-        ensures { IfOk result (λ alone. IsAloneFor alone len) }
+    /// For these kernels and boxes of so many variables. No variable is noted.
+    pub(crate) fn new(alloc: Global, kernels: &[Kernel], len: u32) -> Result<Alone, NoMemory>
+        ensures { IfOk result (λ alone. IsAloneFor alone kernels.now len) }
     {
         Ok(Alone {
-            sets: MovedSets::new(alloc, len, kernels)?,
+            sets: MovedSets::new(alloc, len, kernels.len())?,
         })
     }
 
     /// Notes no variable any more.
     pub(crate) fn forget(&mut self)
-        ensures fits { (count : ℕ) → IsAloneFor self.old count → IsAloneFor self.new count }
+        ensures fits { (kernels : List Kernel) (count : ℕ) → IsAloneFor self.old kernels count → IsAloneFor self.new kernels count }
         ensures none { IsEmpty self.new.sets.moved }
     {
         self.sets.moved.clear();
@@ -59,10 +61,10 @@ impl Alone {
     ) -> Result<Narrowed, NoMemory>
         requires kernels { All (IsKernel (length b.old.current)) what.now.kernels.now }
         requires masks { AreMasksOf what.now.kernels.now (length b.old.current) what.now.masks.now }
-        requires fits { IsAloneFor self.old (length b.old.current) }
+        requires fits { IsAloneFor self.old what.now.kernels.now (length b.old.current) }
         requires quiet { AreMovedOrQuiet self.old.sets.moved b.old.current what.now.kernels.now }
         requires proper { IsProper b.old.current }
-        ensures fits { IsAloneFor self.new (length b.old.current) }
+        ensures fits { IsAloneFor self.new what.now.kernels.now (length b.old.current) }
         ensures stack { b.new.stack ≡ b.old.stack }
         ensures same_length { length b.new.current ≡ length b.old.current }
         ensures none { IsEmpty self.new.sets.moved }

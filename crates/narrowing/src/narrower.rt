@@ -49,7 +49,7 @@ impl Narrower {
         ensures lanes { IfOk result (λ made. lanes_of made ≡ lanes_for kernels.now lanes) }
     {
         if lanes == 1 || kernels.is_empty() {
-            Ok(Narrower::Alone(Alone::new(alloc, len, kernels.len())?))
+            Ok(Narrower::Alone(Alone::new(alloc, kernels, len)?))
         } else {
             Ok(Narrower::Lanes(Lanes::new(alloc, kernels, len, lanes)?))
         }

@@ -6,7 +6,7 @@ use Rattle.fixpoint_laws.specs.Fixpoints.{IsClosed}
 use Rattle.constraint_model.specs.declared.model.FznModel.{FznModel}
 use Rattle.branching.specs.Parts.{IsBranch, AreParts}
 use Rattle.branching.specs.Tree.{AreFixed}
-use Rattle.moved_fixpoint.specs.Moved.{count_of}
+use Rattle.moved_fixpoint.specs.Moved.{Fit}
 use Rattle.subproblems.specs.declared.cutting.Cut.{Cut}
 use Rattle.subproblems.specs.Cuts.{IsCutInto}
 use Rattle.subproblem_walk.specs.declared.cutter.Bench.{Bench}
@@ -59,7 +59,6 @@ IsKeptOrParted model closed Node.Failed = ⊥
 IsKeptOrParted model closed (Node.Fixed kept) = (kept ≡ closed) × AreFixed model closed
 IsKeptOrParted model closed (Node.Parted pair left right) = IsPartedAt model closed pair left right
 
--- what propagation of boxes of so many variables works with
-pub record IsBenchFor (bench : Bench) (count : ℕ) : Type 0 where
-  pub moved : count_of bench.sets.moved ≡ count
-  pub noted : count_of bench.sets.noted ≡ count
+-- what propagation of these kernels works with, on boxes of so many variables
+abbrev pub IsBenchFor : Bench → List Kernel → ℕ → Type 0
+IsBenchFor bench kernels count = Fit count (length kernels) bench.sets.moved bench.sets.asking.asked

@@ -16,6 +16,7 @@ use crate::tree::Tree;
 use branching::{Branching, Front, branch_from};
 use constraint_model::FznModel;
 use fixpoint_laws::Limited;
+use guarded_tell::Kernel;
 use interval::{BoxOf, NoMemory, is_crossed, law_inside_order};
 use moved_fixpoint::{MovedSets, law_quiet_unless_moved, settle_proper};
 use std::alloc::Global;
@@ -46,12 +47,12 @@ pub struct Bench {
 }
 
 impl Bench {
-    /// For boxes of as many variables, and so many kernels.
-    pub(crate) fn new(alloc: Global, start: &BoxOf, kernels: usize) -> Result<Bench, NoMemory>
-        ensures { IfOk result (λ bench. IsBenchFor bench (length start.now)) }
+    /// For these kernels and boxes of as many variables.
+    pub(crate) fn new(alloc: Global, start: &BoxOf, kernels: &[Kernel]) -> Result<Bench, NoMemory>
+        ensures { IfOk result (λ bench. IsBenchFor bench kernels.now (length start.now)) }
     {
         Ok(Bench {
-            sets: MovedSets::new(alloc, start.len(), kernels)?,
+            sets: MovedSets::new(alloc, start.len(), kernels.len())?,
         })
     }
 }
@@ -60,7 +61,7 @@ impl Bench {
 fn note(sets: &mut MovedSets, changed: Option<u32>)
     requires { IfSome changed (λ pair. pair < count_of sets.old.moved) }
     ensures moved { count_of sets.new.moved ≡ count_of sets.old.moved }
-    ensures noted { sets.new.noted ≡ sets.old.noted }
+    ensures asked { sets.new.asking.asked ≡ sets.old.asking.asked }
     ensures quiet { (kernels : List Kernel) (b : Bounds) → length b ≡ count_of sets.old.moved → All (IsKernel (length b)) kernels →
         IsMadeBy changed kernels b → AreMovedOrQuiet sets.new.moved b kernels }
 {
@@ -125,9 +126,9 @@ pub(crate) fn cut_changed(
     requires cut { CanBeCut tree.now.model.now tree.now.program.now.kernels b }
     requires masks { AreMasksOf tree.now.program.now.kernels (length b) tree.now.masks.now }
     requires changed { IsMadeBy changed tree.now.program.now.kernels b }
-    requires bench { IsBenchFor bench.old (length b) }
+    requires bench { IsBenchFor bench.old tree.now.program.now.kernels (length b) }
     ensures node { IfOk result (IsNodeOf tree.now.model.now tree.now.program.now.kernels b) }
-    ensures bench { IsBenchFor bench.new (length b) }
+    ensures bench { IsBenchFor bench.new tree.now.program.now.kernels (length b) }
 {
     law_inside_order();
     if is_crossed_start(&b, changed) {

@@ -61,10 +61,10 @@ fn top_level(
     requires cut { CanBeCut tree.now.model.now tree.now.program.now.kernels spot.now.box_of.now }
     requires masks { AreMasksOf tree.now.program.now.kernels (length spot.now.box_of.now) tree.now.masks.now }
     requires changed { IsMadeBy spot.now.changed tree.now.program.now.kernels spot.now.box_of.now }
-    requires bench { IsBenchFor bench.old (length spot.now.box_of.now) }
+    requires bench { IsBenchFor bench.old tree.now.program.now.kernels (length spot.now.box_of.now) }
     requires levels { AreLevelsBelow tree.now.model.now tree.now.program.now.kernels spot.now.box_of.now levels.old.items }
     ensures top { IfOk result (λ top. IsTop tree.now.model.now tree.now.program.now.kernels spot.now.box_of.now top levels.new.items) }
-    ensures bench { IsBenchFor bench.new (length spot.now.box_of.now) }
+    ensures bench { IsBenchFor bench.new tree.now.program.now.kernels (length spot.now.box_of.now) }
 {
     match levels.pop() {
         Some(level) => Ok(level),
@@ -158,7 +158,7 @@ fn lead(
     requires masks { AreMasksOf tree.now.program.now.kernels (length spot.now.box_of.now) tree.now.masks.now }
     requires changed { IsMadeBy spot.now.changed tree.now.program.now.kernels spot.now.box_of.now }
     requires depth { address.depth ≤ 16 }
-    requires bench { IsBenchFor bench.old (length spot.now.box_of.now) }
+    requires bench { IsBenchFor bench.old tree.now.program.now.kernels (length spot.now.box_of.now) }
     requires levels { AreLevelsBelow tree.now.model.now tree.now.program.now.kernels spot.now.box_of.now levels.old.items }
     ensures path { IfOk result (LeadsTo tree.now.model.now tree.now.program.now.kernels address.depth spot.now.box_of.now address.number) }
     ensures levels { OnOk result (AreLevelsBelow tree.now.model.now tree.now.program.now.kernels spot.now.box_of.now levels.new.items) }
@@ -227,7 +227,7 @@ impl Walk {
         law_paths();
         // its contract says that the bounds are in range
         let _length = tree.start.len();
-        let mut bench = Bench::new(alloc, tree.start, tree.program.kernels.len())?;
+        let mut bench = Bench::new(alloc, tree.start, tree.program.kernels.as_slice())?;
         let spot = Spot {
             box_of: tree.start,
             changed: None,

@@ -6,7 +6,5 @@ use Rattle.moved_fixpoint.proofs.joiner.join_all.Given as goal
 abbrev pub invariant-loop-t : goal.invariant-loop-t
 invariant-loop-t l = record {
   stack : l.b.stack ≡ l.initial.b.stack;
-  heard :
-      Heard (joined l.initial.b.current l.initial.moved l.initial.noted l.initial.progress) l.told l.t-index
-      (joined l.b.current l.moved l.noted l.progress);
+  heard : Heard (joined l.initial.b.current l.initial.progress) l.told l.t-index (joined l.b.current l.progress);
 }

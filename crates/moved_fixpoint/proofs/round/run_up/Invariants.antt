@@ -8,7 +8,7 @@ invariant-kernels l = record {
   stack : l.b.stack ≡ l.initial.b.stack;
   within : l.place ≤ length l.kernels;
   going : GoesOn l.progress;
-  stands : Stands l.kernels l.initial.b.current 0 l.place l.b.current l.sets.moved l.sets.noted l.progress;
+  stands : Stands l.kernels l.initial.b.current 0 l.place l.b.current l.sets.asked l.progress;
 }
 
 abbrev pub decreases-kernels : goal.decreases-kernels

@@ -1,17 +1,43 @@
-use Rattle.std.proofs.Common.{◌∙◌, ap}
+use Rattle.std.proofs.Common.{◌≡◌, ◌<◌, ◌∙◌, List, false, length, get_or, set, sym, ap, subst, arith}
+use Rattle.std.specs.List.{All}
+use Rattle.std.proofs.lemmas.List.{get_or_default}
 use Rattle.interval.specs.Boxes.{Bounds}
+use Rattle.guarded_tell.specs.declared.kernel.Kernel.{Kernel}
+use Rattle.guarded_tell.specs.declared.tell.Tell.{Tell}
+use Rattle.guarded_tell.specs.Kernels.{IsKernel}
 use Rattle.guarded_tell.specs.Narrowing.{narrowing_tells}
-use Rattle.moved_fixpoint.proofs.RunLemmas.{gathered_placed, gathered_runs}
+use Rattle.moved_fixpoint.specs.Moved.{Set}
+use Rattle.moved_fixpoint.specs.Asked.{AreAsked}
+use Rattle.moved_fixpoint.proofs.RunLemmas.{here_is, gathered_placed, gathered_runs, any_default}
 use Rattle.moved_fixpoint.proofs.running.run_kernel.Goals as goal
 
-pub join_all-requires-clause-placed : goal.join_all-requires-clause-placed
-join_all-requires-clause-placed c =
-    gathered_placed c.law_tell_place.ensures c.args.kernel.now c.args.b.now.current c.requires.kernel c.as_slice.result.now
-    (c.as_slice.ensures.value ∙ c.gather.ensures.told c.if-sets.false ∙ ap (λ (b : Bounds). narrowing_tells c.args.kernel.now b) c.current.ensures)
+pub join_all-after-requires : goal.join_all-after-requires
+join_all-after-requires c = record {
+  placed =
+      gathered_placed c.law_tell_place.ensures c.index-kernels-place.result c.args.b.now.current
+      (here_is c.args.kernels.now (length c.args.b.now.current) c.args.place c.index-kernels-place.result c.requires.kernels c.requires.place c.index-kernels-place.is) c.as_slice.result.now
+      (c.as_slice.ensures.value ∙ c.gather.ensures.told c.if-sets.false ∙ ap (λ (b : Bounds). narrowing_tells c.index-kernels-place.result b) c.current.ensures);
+}
+
+pub ask_told-requires-clause-variables : goal.ask_told-requires-clause-variables
+ask_told-requires-clause-variables c k d h =
+    let placed =
+    gathered_placed c.law_tell_place.ensures c.index-kernels-place.result c.args.b.now.current
+    (here_is c.args.kernels.now (length c.args.b.now.current) c.args.place c.index-kernels-place.result c.requires.kernels c.requires.place c.index-kernels-place.is) c.as_slice-2.result.now
+    (c.as_slice-2.ensures.value ∙ c.gather.ensures.told c.if-sets.false ∙ ap (λ (b : Bounds). narrowing_tells c.index-kernels-place.result b) c.current.ensures) in
+    let count = c.requires.masks.same_count in
+    let lt = (placed k d h).0 in
+    omega arith
 
 pub returns-clause-run : goal.returns-clause-run
 returns-clause-run c =
-    gathered_runs c.law_tell_place.ensures c.args.kernel.now c.args.b.now.current c.requires.kernel c.as_slice.result.now
-    (c.as_slice.ensures.value ∙ c.gather.ensures.told c.if-sets.false ∙ ap (λ (b : Bounds). narrowing_tells c.args.kernel.now b) c.current.ensures)
-    c.law_inside_order.ensures c.law_tightens_one.ensures c.law_narrowing.ensures.keeps c.law_local.ensures.tells c.law_monotone.ensures
-    c.len-length.ensures.in_range c.requires.proper _ _ _ _ _ c.gather.ensures.moved c.gather.ensures.noted _ _ _ _ c.join_all.ensures.heard
+    any_default c.args.kernels.now c.args.place c.index-kernels-place.result _ _ _ _ _ _ c.requires.place c.index-kernels-place.is
+    (gathered_runs c.law_tell_place.ensures c.index-kernels-place.result c.args.b.now.current
+    (here_is c.args.kernels.now (length c.args.b.now.current) c.args.place c.index-kernels-place.result c.requires.kernels c.requires.place c.index-kernels-place.is) c.as_slice.result.now
+    (c.as_slice.ensures.value ∙ c.gather.ensures.told c.if-sets.false ∙ ap (λ (b : Bounds). narrowing_tells c.index-kernels-place.result b) c.current.ensures)
+    c.law_local.ensures.tells c.law_monotone.ensures c.len-length.ensures.in_range c.requires.proper c.args.kernels.now c.args.place c.index-kernels-place.is c.requires.place
+    c.args.masks.now c.requires.masks.naming c.args.sets.now.asked c.requires.set c.args.progress c.law_narrowing.ensures.tighter
+    c.law_inside_order.ensures c.law_tightens_one.ensures c.law_narrowing.ensures.keeps
+    c.join_all-after.new.b.current c.ask_told.new.asked c.join_all-after.result c.join_all-after.ensures.heard
+    (subst (λ (ts : List Tell). AreAsked c.args.masks.now ts (set c.args.sets.now.asked c.args.place false) c.ask_told.new.asked) (c.as_slice-2.ensures.value ∙ sym c.as_slice.ensures.value)
+    (subst (λ (s : Set). AreAsked c.args.masks.now c.as_slice-2.result.now s c.ask_told.new.asked) (c.gather.ensures.asked ∙ c.forget.ensures) c.ask_told.ensures)))

@@ -6,7 +6,7 @@ use Rattle.moved_fixpoint.proofs.settle.run_rounds.Given as goal
 abbrev pub invariant-rounds : goal.invariant-rounds
 invariant-rounds l = record {
   stack : l.b.stack ≡ l.initial.b.stack;
-  goes : Goes l.kernels l.round_limit l.initial.b.current l.rounds l.b.current l.sets.moved l.sets.noted;
+  goes : Goes l.kernels l.round_limit l.initial.b.current l.rounds l.b.current l.sets.asked;
 }
 
 abbrev pub decreases-rounds : goal.decreases-rounds

@@ -14,7 +14,7 @@ put-requires c k d lt =
     let lent : List ℕ = c.as_slice.result.now in
     let is : lent ≡ list_at lists l = c.as_slice.ensures ∙ c.index-lists-l.is ∙ get_or_default lists l list [] (omega arith) in
     let inside : Contains (list_at lists l) (get_or lent k d) = subst (λ (xs : List ℕ). Contains xs (get_or lent k d)) is (Contains-get_or lent k d lt) in
-    let below = c.requires.variables l (get_or lent k d) inside in
+    let below = c.requires.lists.variables l (get_or lent k d) inside in
     let len = c.loop-l.invariant.length_is in
     omega arith
 

@@ -2,7 +2,7 @@ use Rattle.std.proofs.Common.{◌≡◌, ◌<◌, ℕ, List, length, sym, subst,
 use Rattle.std.specs.Prelude.{All}
 use Rattle.moved_set.specs.Parts.{own_at}
 use Rattle.moved_set.specs.Rows.{AreRowsTo}
-use Rattle.moved_set.proofs.JoinedLaws.{owns_below}
+use Rattle.moved_set.proofs.PartLaws.{owns_below}
 use Rattle.moved_set.proofs.rows.own_rows.Goals as goal
 
 pub own_vars-requires-clause-numbers : goal.own_vars-requires-clause-numbers

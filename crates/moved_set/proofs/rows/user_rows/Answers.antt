@@ -11,7 +11,7 @@ loop-j-preserved c =
     let parts : List Part = c.args.parts.now in
     let keys : ℕ → List ℕ = λ i. (part_at parts i).list ∷ [] in
     let len = c.loop-j.invariant.length_is in
-    let below = c.requires j (omega arith) in
+    let below = c.requires.lists j (omega arith) in
     rows_one keys j (part_at parts j).list c.args.count c.loop-j.rows.items c.index_mut.result.now c.push.new.self (omega arith)
     refl c.index_mut.ensures.value c.in_ok-push.ensures.items c.loop-j.invariant
 

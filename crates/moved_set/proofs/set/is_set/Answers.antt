@@ -3,4 +3,4 @@ use Rattle.std.proofs.lemmas.Nat.Bits.{shr_and_one}
 use Rattle.moved_set.proofs.set.is_set.Goals as goal
 
 pub returns : goal.returns
-returns c = ap (λ (n : ℕ). n == 1) (shr_and_one (get_or c.args.words.now (c.args.v / 64) 0) (c.args.v % 64))
+returns c = ap (λ (n : ℕ). n == 1) (shr_and_one (get_or c.args.words.now (c.args.v / 32) 0) (c.args.v % 32))

@@ -10,7 +10,7 @@ pub settle_proper-requires-clause-quiet : goal.settle_proper-requires-clause-qui
 settle_proper-requires-clause-quiet c =
     subst (λ (ks : List Kernel). AreMovedOrQuiet c.note.new.sets.moved c.in_ok-settled.settled.current ks) (sym c.as_slice-kernels.ensures)
     (subst (λ (x : Bounds). AreMovedOrQuiet c.note.new.sets.moved x c.args.tree.now.program.now.kernels) (sym c.in_ok-settled.ensures.current)
-    (c.note.ensures.quiet c.args.tree.now.program.now.kernels c.args.b (sym c.requires.bench.moved) c.requires.cut.fit c.requires.changed))
+    (c.note.ensures.quiet c.args.tree.now.program.now.kernels c.args.b (sym c.requires.bench.moved_count) c.requires.cut.fit c.requires.changed))
 
 pub returns-in-Fixed-clause-node : goal.returns-in-Fixed-clause-node
 returns-in-Fixed-clause-node c =

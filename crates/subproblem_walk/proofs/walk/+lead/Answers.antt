@@ -35,7 +35,7 @@ lead-requires t c =
             (
               omega arith,
               (
-                subst (λ (count : ℕ). IsBenchFor c.top_level.new.bench count) (sym same) c.top_level.ensures.bench,
+                subst (λ (count : ℕ). IsBenchFor c.top_level.new.bench c.args.tree.now.program.now.kernels count) (sym same) c.top_level.ensures.bench,
                 subst (λ (x : Bounds). AreLevelsBelow c.args.tree.now.model.now c.args.tree.now.program.now.kernels x c.take_turn.new.levels.items) (sym c.part_on.ensures)
                     (turned c.args.tree.now.model.now c.args.tree.now.program.now.kernels c.args.spot.now.box_of.now c.in-Parted.left c.in-Parted.right c.in-Parted.pair c.in_ok-node.field-0 c.top_level.new.levels.items c.take_turn.new.levels.items c.first_turn-turn.result.0 top e c.take_turn.ensures),
               ),

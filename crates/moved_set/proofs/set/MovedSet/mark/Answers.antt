@@ -16,13 +16,13 @@ pub invariant_of-self : goal.invariant_of-self
 invariant_of-self c =
     let within : c.args.v < c.self.inside.count = omega (arith, length-set_of c.self.inside.words.items c.self.inside.count, ap length c.self.view_is) in
     let there = word_there c.self.inside.count c.args.v (length c.self.inside.words.items) within c.self.invariant.words in
-    let word : c.index_mut.result.now ≡ get_or c.self.inside.words.items (c.args.v / 64) 0 = get_or_read c.self.inside.words.items (c.args.v / 64) c.index_mut.result.now there c.index_mut.ensures.value 0 in
+    let word : c.index_mut.result.now ≡ get_or c.self.inside.words.items (c.args.v / 32) 0 = get_or_read c.self.inside.words.items (c.args.v / 32) c.index_mut.result.now there c.index_mut.ensures.value 0 in
     let known : c.is_set-is_known.result ≡ get_or (set_of c.self.inside.words.items c.self.inside.count) c.args.v false =
     c.is_set-is_known.ensures ∙ ap (λ (ws : List ℕ). has ws c.args.v) c.as_slice.ensures.value ∙ sym (set_of_at c.self.inside.words.items c.self.inside.count c.args.v within) in
-    let marked = ap (λ (n : ℕ). set_of (set c.self.inside.words.items (c.args.v / 64) (bit_or n (1 * 2 ^ (c.args.v % 64) % 2 ^ 64))) c.self.inside.count) word
+    let marked = ap (λ (n : ℕ). set_of (set c.self.inside.words.items (c.args.v / 32) (bit_or n (1 * 2 ^ (c.args.v % 32) % 2 ^ 32))) c.self.inside.count) word
     ∙ set_of_marked c.self.inside.words.items c.self.inside.count c.args.v within c.self.invariant.words in
     record {
-      words = length-set c.self.inside.words.items (c.args.v / 64) _ ∙ c.self.invariant.words;
+      words = length-set c.self.inside.words.items (c.args.v / 32) _ ∙ c.self.invariant.words;
       listing = subst (IsListing c.put.new.self) (sym marked)
           (listing_put c.self.inside.few c.put.new.self (set_of c.self.inside.words.items c.self.inside.count) c.args.v c.is_set-is_known.result
           (omega (arith, length-set_of c.self.inside.words.items c.self.inside.count)) known c.put.ensures c.self.invariant.listing);
@@ -32,6 +32,6 @@ pub returns : goal.returns
 returns c =
     let within : c.args.v < c.self.inside.count = omega (arith, length-set_of c.self.inside.words.items c.self.inside.count, ap length c.self.view_is) in
     let there = word_there c.self.inside.count c.args.v (length c.self.inside.words.items) within c.self.invariant.words in
-    let word : c.index_mut.result.now ≡ get_or c.self.inside.words.items (c.args.v / 64) 0 = get_or_read c.self.inside.words.items (c.args.v / 64) c.index_mut.result.now there c.index_mut.ensures.value 0 in
-    ap (λ (n : ℕ). set_of (set c.self.inside.words.items (c.args.v / 64) (bit_or n (1 * 2 ^ (c.args.v % 64) % 2 ^ 64))) c.self.inside.count) word
+    let word : c.index_mut.result.now ≡ get_or c.self.inside.words.items (c.args.v / 32) 0 = get_or_read c.self.inside.words.items (c.args.v / 32) c.index_mut.result.now there c.index_mut.ensures.value 0 in
+    ap (λ (n : ℕ). set_of (set c.self.inside.words.items (c.args.v / 32) (bit_or n (1 * 2 ^ (c.args.v % 32) % 2 ^ 32))) c.self.inside.count) word
     ∙ set_of_marked c.self.inside.words.items c.self.inside.count c.args.v within c.self.invariant.words ∙ ap (λ (s : List Bool). set s c.args.v true) c.self.view_is

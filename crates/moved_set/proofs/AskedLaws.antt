@@ -1,0 +1,128 @@
+-- Sets of kernels as bits of words, one more than whole words of bits.
+use Rattle.std.proofs.Common.{◌≡◌, ◌≢◌, ℕ, ◌+◌, ◌-◌, ◌*◌, ◌/◌, ◌%◌, ◌^◌, ◌<◌, ◌≤◌, ◌==◌, Bool, true, false, ◌||◌, ◌&&◌, List, length, get_or, set, replicate, bit_and, bit_or, w32, refl, sym, ◌∙◌, ap, subst, ⊎_elim, arith}
+use Rattle.std.proofs.lemmas.Bool.{cases_eq}
+use Rattle.std.proofs.lemmas.Bool.Decides.{Decides-eqb, nat_tests}
+use Rattle.std.proofs.lemmas.List.{length-set, length-replicate, get_or-set_same, get_or-set_other, get_or-replicate}
+use Rattle.std.proofs.lemmas.Nat.Bits.{bit_at_clear_same, bit_at_clear_other}
+use Rattle.moved_set.specs.Words.{has_bit, has, set_of, hits, names}
+use Rattle.moved_set.specs.Asked.{IsFirst, IsLast, IsUnited}
+use Rattle.moved_set.specs.declared.mask.Mask.{Mask}
+use Rattle.moved_set.proofs.SetLaws.{length-set_of, set_of_at, set_of_is, has_bit-or}
+
+-- words that are all alike
+pub filled_with : (count len word : ℕ) (bit : Bool) → len ≡ count / 32 + 1 → ((k : ℕ) → k < 32 → has_bit word k ≡ bit) → set_of (replicate len word) count ≡ replicate count bit
+filled_with count len word bit e each =
+    set_of_is (replicate len word) count (replicate count bit) (length-replicate count bit)
+    (λ v h.
+    ap (λ (n : ℕ). has_bit n (v % 32)) (get_or-replicate len (v / 32) word 0 (omega arith))
+    ∙ each (v % 32) (omega arith)
+    ∙ sym (get_or-replicate count v bit false h))
+
+pub filled_words : (old : List Bool) (words items : List ℕ) (count word : ℕ) (bit : Bool) → set_of words count ≡ old → length words ≡ count / 32 + 1
+    → items ≡ replicate (length words) word → ((k : ℕ) → k < 32 → has_bit word k ≡ bit) → set_of items count ≡ replicate (length old) bit
+filled_words old words items count word bit is len items_are each =
+    let same : count ≡ length old = sym (length-set_of words count) ∙ ap length is in
+    ap (λ (ws : List ℕ). set_of ws count) items_are ∙ filled_with count (length words) word bit len each ∙ ap (λ (n : ℕ). replicate n bit) same
+
+has_bit-clear_same : (n k : ℕ) → k < 32 → has_bit (bit_and n (2 ^ 32 - 1 - 1 * 2 ^ k % 2 ^ 32)) k ≡ false
+has_bit-clear_same n k h = ap (λ (b : ℕ). b == 1) (bit_at_clear_same w32 n k h)
+
+has_bit-clear_other : (n k i : ℕ) → k < 32 → i < 32 → i ≢ k → has_bit (bit_and n (2 ^ 32 - 1 - 1 * 2 ^ k % 2 ^ 32)) i ≡ has_bit n i
+has_bit-clear_other n k i h inside ne = ap (λ (b : ℕ). b == 1) (bit_at_clear_other w32 n k h i inside ne)
+
+-- a kernel whose bit is cleared
+pub set_of_cleared : (words : List ℕ) (count v : ℕ) → v < count → v / 32 < length words
+    → set_of (set words (v / 32) (bit_and (get_or words (v / 32) 0) (2 ^ 32 - 1 - 1 * 2 ^ (v % 32) % 2 ^ 32))) count ≡ set (set_of words count) v false
+set_of_cleared words count v h there =
+    let place : ℕ = v / 32 in
+    let word : ℕ = bit_and (get_or words place 0) (2 ^ 32 - 1 - 1 * 2 ^ (v % 32) % 2 ^ 32) in
+    let low : v % 32 < 32 = omega arith in
+    let inside : v < length (set_of words count) = omega (arith, length-set_of words count) in
+    let same : (i : ℕ) → i ≡ v → has (set words place word) i ≡ get_or (set (set_of words count) v false) i false =
+    λ i e.
+    ap (has (set words place word)) e ∙ ap (λ (n : ℕ). has_bit n (v % 32)) (get_or-set_same words place word 0 there)
+    ∙ has_bit-clear_same (get_or words place 0) (v % 32) low
+    ∙ sym (ap (λ (n : ℕ). get_or (set (set_of words count) v false) n false) e ∙ get_or-set_same (set_of words count) v false false inside) in
+    let kept : (i : ℕ) → i < count → i ≢ v → has (set words place word) i ≡ has words i =
+    λ i within ne.
+    let here : i / 32 ≡ place → has (set words place word) i ≡ has words i =
+    λ e.
+    let other : i % 32 ≢ v % 32 = λ f. ne (omega arith) in
+    ap (λ (p : ℕ). has_bit (get_or (set words place word) p 0) (i % 32)) e
+    ∙ ap (λ (n : ℕ). has_bit n (i % 32)) (get_or-set_same words place word 0 there)
+    ∙ has_bit-clear_other (get_or words place 0) (v % 32) (i % 32) low (omega arith) other
+    ∙ sym (ap (λ (p : ℕ). has_bit (get_or words p 0) (i % 32)) e) in
+    let elsewhere : i / 32 ≢ place → has (set words place word) i ≡ has words i =
+    λ f. ap (λ (n : ℕ). has_bit n (i % 32)) (get_or-set_other words place (i / 32) word 0 f) in
+    ⊎_elim here elsewhere (cases_eq (i / 32) place) in
+    let other : (i : ℕ) → i < count → i ≢ v → has (set words place word) i ≡ get_or (set (set_of words count) v false) i false =
+    λ i within ne. kept i within ne ∙ sym (get_or-set_other (set_of words count) v i false false ne ∙ set_of_at words count i within) in
+    set_of_is (set words place word) count (set (set_of words count) v false) (length-set (set_of words count) v false ∙ length-set_of words count)
+    (λ i within. ⊎_elim (same i) (other i within) (cases_eq i v))
+
+pub or_false : (b : Bool) → (b || false) ≡ b
+or_false true = refl
+or_false false = refl
+
+-- a word with the bits of a mask more
+pub united_bit : (words : List ℕ) (m : Mask) (j : ℕ) → m.place < length words
+    → has (set words m.place (bit_or (get_or words m.place 0) m.bits)) j ≡ (has words j || hits j m)
+united_bit words m j there =
+    let place : ℕ = m.place in
+    let word : ℕ = bit_or (get_or words place 0) m.bits in
+    let here : j / 32 ≡ place → has (set words place word) j ≡ (has words j || hits j m) =
+    λ e.
+    let hit : hits j m ≡ has_bit m.bits (j % 32) = ap (λ (b : Bool). b && has_bit m.bits (j % 32)) ((Decides-eqb place (j / 32)).1 (sym e)) in
+    ap (λ (p : ℕ). has_bit (get_or (set words place word) p 0) (j % 32)) e
+    ∙ ap (λ (n : ℕ). has_bit n (j % 32)) (get_or-set_same words place word 0 there)
+    ∙ has_bit-or (get_or words place 0) m.bits (j % 32)
+    ∙ ap (λ (p : ℕ). has_bit (get_or words p 0) (j % 32) || has_bit m.bits (j % 32)) (sym e)
+    ∙ ap (λ (b : Bool). has words j || b) (sym hit) in
+    let elsewhere : j / 32 ≢ place → has (set words place word) j ≡ (has words j || hits j m) =
+    λ f.
+    let apart : (place == j / 32) ≡ false = grind (arith, nat_tests) in
+    let miss : hits j m ≡ false = ap (λ (b : Bool). b && has_bit m.bits (j % 32)) apart in
+    ap (λ (n : ℕ). has_bit n (j % 32)) (get_or-set_other words place (j / 32) word 0 f)
+    ∙ sym (ap (λ (b : Bool). has words j || b) miss ∙ or_false (has words j)) in
+    ⊎_elim here elsewhere (cases_eq (j / 32) place)
+
+-- ---- what the code lends
+
+pub first_of : (old : List Bool) (words lent : List ℕ) (count from result : ℕ) → set_of words count ≡ old → lent ≡ words
+    → IsFirst (has lent) from count result → IsFirst (λ j. get_or old j false) from (length old) result
+first_of old words lent count from result is lent_is first =
+    let f : IsFirst (has words) from count result = subst (λ (ws : List ℕ). IsFirst (has ws) from count result) lent_is first in
+    let len = length-set_of words count in
+    let most = f.at_most in
+    subst (λ (s : List Bool). IsFirst (λ j. get_or s j false) from (length s) result) is
+    (record {
+      at_least = f.at_least;
+      at_most = omega arith;
+      passed = λ j l h. set_of_at words count j (omega arith) ∙ f.passed j l h;
+      found = λ h. set_of_at words count result (omega arith) ∙ f.found (omega arith);
+    })
+
+pub last_of : (old : List Bool) (words lent : List ℕ) (count to result : ℕ) → set_of words count ≡ old → lent ≡ words → to ≤ count
+    → IsLast (has lent) to result → IsLast (λ j. get_or old j false) to result
+last_of old words lent count to result is lent_is within last =
+    let f : IsLast (has words) to result = subst (λ (ws : List ℕ). IsLast (has ws) to result) lent_is last in
+    let most = f.at_most in
+    subst (λ (s : List Bool). IsLast (λ j. get_or s j false) to result) is
+    (record {
+      at_most = f.at_most;
+      passed = λ j l h. set_of_at words count j (omega arith) ∙ f.passed j l h;
+      found = λ h. set_of_at words count (result - 1) (omega arith) ∙ f.found h;
+    })
+
+pub united_with : (old : List Bool) (words lent new items : List ℕ) (row : List Mask) (count : ℕ) → set_of words count ≡ old → lent ≡ words → items ≡ new
+    → ((j : ℕ) → has new j ≡ (has lent j || names row j)) → IsUnited old row (set_of items count)
+united_with old words lent new items row count is lent_is items_are each =
+    let said : (j : ℕ) → has new j ≡ (has words j || names row j) = λ j. each j ∙ ap (λ (ws : List ℕ). has ws j || names row j) lent_is in
+    let one : IsUnited (set_of words count) row (set_of new count) = record {
+      same_length = length-set_of new count ∙ sym (length-set_of words count);
+      each = λ j h.
+          let within : j < count = omega (arith, length-set_of words count) in
+          set_of_at new count j within ∙ said j ∙ ap (λ (b : Bool). b || names row j) (sym (set_of_at words count j within));
+    } in
+    let two : IsUnited old row (set_of new count) = subst (λ (s : List Bool). IsUnited s row (set_of new count)) is one in
+    subst (λ (ws : List ℕ). IsUnited old row (set_of ws count)) (sym items_are) two

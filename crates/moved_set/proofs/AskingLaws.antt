@@ -1,0 +1,92 @@
+-- Rows of masks that are united into a set of kernels.
+use Rattle.std.proofs.Common.{◌≡◌, ℕ, ◌+◌, ◌*◌, ◌/◌, ◌<◌, ◌≤◌, Bool, true, false, ◌||◌, List, [], ◌∷◌, length, get_or, map, take, refl, sym, ◌∙◌, ap, subst, arith}
+use Rattle.std.specs.List.{list_any, range_with_len}
+use Rattle.std.specs.Prelude.{Vec, All}
+use Rattle.std.specs.declared.alloc.Global.{Global}
+use Rattle.std.proofs.lemmas.List.{take_more}
+use Rattle.std.proofs.lemmas.List.Folds.{list_any-append}
+use Rattle.std.proofs.lemmas.List.FromFn.{length-map-range_with_len, get_or-map-range_with_len}
+use Rattle.moved_set.specs.declared.mask.Mask.{Mask}
+use Rattle.moved_set.specs.Sets.{Naming, set_at}
+use Rattle.moved_set.specs.Words.{names}
+use Rattle.moved_set.specs.Building.{AreWithin}
+use Rattle.moved_set.specs.Rows.{row_at}
+use Rattle.moved_set.specs.Asked.{IsUnited}
+use Rattle.moved_set.specs.Asking.{masks_at, some_uses, asks, asked_sets, IsAsked}
+use Rattle.moved_set.proofs.AskedLaws.{or_false}
+
+or_move : (o a s n : Bool) → ((o || (a || s)) || n) ≡ (o || (a || (s || (n || false))))
+or_move true a s n = refl
+or_move false true s n = refl
+or_move false false true n = refl
+or_move false false false true = refl
+or_move false false false false = refl
+
+-- the kernels of the variable's own row
+pub asked_own : (old new : List Bool) (row : List Mask) (users : List (List Mask)) → IsUnited old row new → IsAsked old (λ j. names row j || some_uses users j []) new
+asked_own old new row users united = record {
+  same_length = united.same_length;
+  each = λ j h. united.each j h ∙ ap (λ (b : Bool). get_or old j false || b) (sym (or_false (names row j)));
+}
+
+-- those of one list more
+pub asked_list : (old mid new : List Bool) (own : List Mask) (users : List (List Mask)) (lists : List ℕ) (i : ℕ) (row : List Mask) → i < length lists
+    → row ≡ masks_at users (get_or lists i 0) → IsAsked old (λ j. names own j || some_uses users j (take i lists)) mid → IsUnited mid row new
+    → IsAsked old (λ j. names own j || some_uses users j (take (i + 1) lists)) new
+asked_list old mid new own users lists i row h row_is asked united = record {
+  same_length = united.same_length ∙ asked.same_length;
+  each = λ j k.
+      let uses : ℕ → Bool = λ l. names (masks_at users l) j in
+      let l : ℕ = get_or lists i 0 in
+      let more : some_uses users j (take (i + 1) lists) ≡ (some_uses users j (take i lists) || (uses l || false)) =
+      ap (list_any uses) (take_more lists i 0 h) ∙ list_any-append uses (take i lists) (l ∷ []) in
+      let one : names row j ≡ uses l = ap (λ (r : List Mask). names r j) row_is in
+      let len = asked.same_length in
+      united.each j (omega arith)
+      ∙ ap (λ (b : Bool). b || names row j) (asked.each j k)
+      ∙ ap (λ (b : Bool). (get_or old j false || (names own j || some_uses users j (take i lists))) || b) one
+      ∙ or_move (get_or old j false) (names own j) (some_uses users j (take i lists)) (uses l)
+      ∙ ap (λ (b : Bool). get_or old j false || (names own j || b)) (sym more);
+}
+
+pub sets_length : (own : List (List Mask)) (lists_of : List (Vec ℕ Global)) (users : List (List Mask)) (count kernels : ℕ) → length (asked_sets own lists_of users count kernels) ≡ kernels
+sets_length own lists_of users count kernels = length-map-range_with_len (λ j. map (λ v. asks own lists_of users v j) (range_with_len 0 count)) 0 kernels
+
+pub set_length : (own : List (List Mask)) (lists_of : List (Vec ℕ Global)) (users : List (List Mask)) (count kernels j : ℕ) → j < kernels → length (get_or (asked_sets own lists_of users count kernels) j []) ≡ count
+set_length own lists_of users count kernels j h =
+    ap length (get_or-map-range_with_len (λ j. map (λ v. asks own lists_of users v j) (range_with_len 0 count)) 0 kernels j j [] h (omega arith))
+    ∙ length-map-range_with_len (λ v. asks own lists_of users v j) 0 count
+
+pub set_has : (own : List (List Mask)) (lists_of : List (Vec ℕ Global)) (users : List (List Mask)) (count kernels j v : ℕ) → j < kernels → v < count
+    → get_or (get_or (asked_sets own lists_of users count kernels) j []) v false ≡ asks own lists_of users v j
+set_has own lists_of users count kernels j v h k =
+    ap (λ (s : List Bool). get_or s v false) (get_or-map-range_with_len (λ j. map (λ v. asks own lists_of users v j) (range_with_len 0 count)) 0 kernels j j [] h (omega arith))
+    ∙ get_or-map-range_with_len (λ v. asks own lists_of users v j) 0 count v v false k (omega arith)
+
+-- all of them
+pub asked_all : (old new : List Bool) (own : List (List Mask)) (lists_of : List (Vec ℕ Global)) (users : List (List Mask)) (count kernels v : ℕ) (naming : Naming) (row : List Mask) (lists : List ℕ)
+    → record { count = count; sets = asked_sets own lists_of users count kernels } ≡ naming → v < count → length old ≡ length naming.sets
+    → row ≡ masks_at own v → lists ≡ row_at lists_of v → IsAsked old (λ j. names row j || some_uses users j lists) new
+    → IsAsked old (λ j. get_or (set_at naming j) v false) new
+asked_all old new own lists_of users count kernels v naming row lists is h len row_is lists_is asked = record {
+  same_length = asked.same_length;
+  each = λ j k.
+      let size : length naming.sets ≡ kernels = ap (λ (n : Naming). length n.sets) (sym is) ∙ sets_length own lists_of users count kernels in
+      let one : (names row j || some_uses users j lists) ≡ asks own lists_of users v j =
+      ap (λ (r : List Mask). names r j || some_uses users j lists) row_is ∙ ap (λ (ls : List ℕ). names (masks_at own v) j || some_uses users j ls) lists_is in
+      let two : asks own lists_of users v j ≡ get_or (set_at naming j) v false =
+      sym (set_has own lists_of users count kernels j v (omega arith) h) ∙ ap (λ (n : Naming). get_or (set_at n j) v false) is in
+      asked.each j k ∙ ap (λ (b : Bool). get_or old j false || b) (one ∙ two);
+}
+
+-- the masks of a row lie in the set
+pub row_inside : (groups : List (List Mask)) (i kernels len : ℕ) (row : List Mask) → All (AreWithin (kernels / 32 + 1)) groups → i < length groups → row ≡ masks_at groups i → len ≡ kernels
+    → All (λ m. m.place * 32 ≤ len) row
+row_inside groups i kernels len row within h is same =
+    subst (λ (r : List Mask). All (λ m. m.place * 32 ≤ len) r) (sym is) (λ k d l. let lt = within i [] h k d l in omega arith)
+
+-- a list that the row of a variable names is there
+pub list_inside : (lists_of : List (Vec ℕ Global)) (count users v i : ℕ) (lists : List ℕ) → v < count
+    → ((v : ℕ) → v < count → All (λ l. l < users) (row_at lists_of v)) → lists ≡ row_at lists_of v → i < length lists → get_or lists i 0 < users
+list_inside lists_of count users v i lists h there is k =
+    subst (λ (ls : List ℕ). get_or ls i 0 < users) (sym is) (there v h i 0 (subst (λ (ls : List ℕ). i < length ls) is k))

@@ -1,0 +1,99 @@
+//! Sets of kernels.
+
+ghost use Rattle.std.specs.Prelude.{◌≡◌, ◌<◌, ◌≤◌, ◌*◌, ℕ, true, false, length, replicate, slice_set, slice_index_or, All, IfOk};
+ghost use Rattle.moved_set.specs.Asked.{IsFirst, IsLast, IsUnited};
+
+use crate::bits::{last_bit, next_bit, unite_masks};
+use crate::mask::Mask;
+use interval::NoMemory;
+use std::alloc::Global;
+use std::marker::Model;
+
+/// Sets are of fewer kernels than this.
+const MOST: usize = 281474976710656;
+
+/// A set of kernels, as bits. Contracts see for each kernel whether it is in the set.
+#[derive(Drop)]
+pub struct AskedSet {
+    // one word more than whole words of bits
+    words: Vec<u32>,
+    count: usize,
+}
+
+impl Model for AskedSet {
+    ghost use Rattle.std.specs.Prelude.{List, Bool};
+    ghost use Rattle.moved_set.specs.Words.{set_of};
+    ghost use Rattle.moved_set.specs.ConsistentAsked.{IsConsistent};
+
+    ghost Value = { List Bool };
+
+    ghost view = { λ s. set_of s.words.items s.count };
+
+    ghost invariant = { IsConsistent };
+}
+
+impl AskedSet {
+    /// The empty set of so many kernels. More than there can be in memory count as want of it.
+    pub fn new(alloc: Global, count: usize) -> Result<AskedSet, NoMemory>
+        ensures { IfOk result (λ s. s ≡ replicate count false) }
+    {
+        if count >= MOST {
+            return Err(NoMemory);
+        }
+        let words = vec![in alloc; 0; count / 32 + 1]?;
+        Ok(AskedSet { words, count })
+    }
+
+    /// How many kernels there are, in the set or not.
+    pub fn len(&self) -> usize
+        ensures { result ≡ length self.now }
+    {
+        self.count
+    }
+
+    /// Takes all kernels off.
+    pub fn clear(&mut self)
+        ensures { self.new ≡ replicate (length self.old) false }
+    {
+        self.words.as_mut_slice().fill(0);
+    }
+
+    /// Puts all kernels into the set.
+    pub fn ask_all(&mut self)
+        ensures { self.new ≡ replicate (length self.old) true }
+    {
+        self.words.as_mut_slice().fill(u32::MAX);
+    }
+
+    /// Takes a kernel off.
+    pub fn forget(&mut self, j: usize)
+        requires { j < length self.old }
+        ensures { self.new ≡ slice_set self.old j false }
+    {
+        self.words[j / 32] &= !(1 << (j % 32));
+    }
+
+    /// Puts the kernels of the masks into the set too.
+    pub(crate) fn unite(&mut self, row: &[Mask])
+        requires { All (λ m. m.place * 32 ≤ length self.old) row.now }
+        ensures { IsUnited self.old row.now self.new }
+    {
+        unite_masks(self.words.as_mut_slice(), row);
+    }
+
+    /// The first kernel of the set from `from` on, or how many kernels there are.
+    pub fn next(&self, from: usize) -> usize
+        requires { from ≤ length self.now }
+        ensures { IsFirst (λ j. slice_index_or self.now j false) from (length self.now) result }
+    {
+        next_bit(self.words.as_slice(), from, self.count)
+    }
+
+    /// The place behind the last kernel of the set before `to`, or 0.
+    pub fn next_back(&self, to: usize) -> usize
+        requires { to ≤ length self.now }
+        ensures { IsLast (λ j. slice_index_or self.now j false) to result }
+    {
+        last_bit(self.words.as_slice(), to)
+    }
+}

@@ -1,0 +1,106 @@
+//! Bits of words.
+
+ghost use Rattle.std.specs.Prelude.{◌≡◌, ◌≢◌, ◌<◌, ◌≤◌, ◌+◌, ◌*◌, ◌/◌, ◌||◌, ℕ, false, length, All};
+ghost use Rattle.moved_set.specs.Words.{has, has_bit, hits, names};
+ghost use Rattle.moved_set.specs.Asked.{IsFirst, IsLast, IsLeastAt, IsGreatestAt};
+
+use crate::mask::Mask;
+
+/// The first number from `from` on whose bit is 1, or `count`.
+pub(crate) fn next_bit(words: &[u32], from: usize, count: usize) -> usize
+    requires words { length words.now ≡ count / 32 + 1 }
+    requires from { from ≤ count }
+    ensures { IsFirst (has words.now) from count result }
+{
+    let first = from / 32;
+    let bits = bits_from(words[first], from % 32);
+    if bits != 0 {
+        return least_at(bits, first, count);
+    }
+    for place in first + 1..words.len() {
+        let word = words[place];
+        if word != 0 {
+            return least_at(word, place, count);
+        }
+    }
+    count
+}
+
+/// The place behind the last number before `to` whose bit is 1, or 0.
+pub(crate) fn last_bit(words: &[u32], to: usize) -> usize
+    requires to { to ≤ 32 * length words.now }
+    requires small { to < 281474976710656 }
+    ensures { IsLast (has words.now) to result }
+{
+    if to == 0 {
+        return 0;
+    }
+    let last = (to - 1) / 32;
+    let bits = bits_upto(words[last], (to - 1) % 32);
+    if bits != 0 {
+        return greatest_at(bits, last);
+    }
+    let mut left = last;
+    while left > 0 {
+        let word = words[left - 1];
+        if word != 0 {
+            return greatest_at(word, left - 1);
+        }
+        left -= 1;
+    }
+    0
+}
+
+/// The bits of a word from one on.
+fn bits_from(word: u32, from: usize) -> u32
+    requires { from < 32 }
+    ensures below { (k : ℕ) → k < from → has_bit result k ≡ false }
+    ensures others { (k : ℕ) → k < 32 → from ≤ k → has_bit result k ≡ has_bit word k }
+{
+    word & (u32::MAX << from)
+}
+
+/// The bits of a word up to one.
+fn bits_upto(word: u32, to: usize) -> u32
+    requires { to < 32 }
+    ensures above { (k : ℕ) → to < k → has_bit result k ≡ false }
+    ensures others { (k : ℕ) → k ≤ to → has_bit result k ≡ has_bit word k }
+{
+    word & (u32::MAX >> (31 - to))
+}
+
+/// The least number of the word at a place, or `count`.
+fn least_at(bits: u32, place: usize, count: usize) -> usize
+    requires some { bits ≢ 0 }
+    requires place { place ≤ count / 32 }
+    ensures { IsLeastAt bits place count result }
+{
+    (place * 32 + bits.trailing_zeros() as usize).min(count)
+}
+
+/// The place behind the greatest number of the word at a place.
+fn greatest_at(bits: u32, place: usize) -> usize
+    requires some { bits ≢ 0 }
+    requires place { place < 8796093022208 }
+    ensures { IsGreatestAt bits place result }
+{
+    place * 32 + (32 - bits.leading_zeros() as usize)
+}
+
+/// Gives each word the bits of the masks of its place too.
+pub(crate) fn unite_masks(words: &mut [u32], row: &[Mask])
+    requires { All (λ m. m.place < length words.old) row.now }
+    ensures { (j : ℕ) → has words.new j ≡ (has words.old j || names row.now j) }
+{
+    for mask in row {
+        unite_mask(words, *mask);
+    }
+}
+
+/// Gives the word of a mask its bits too.
+fn unite_mask(words: &mut [u32], mask: Mask)
+    requires { mask.place < length words.old }
+    ensures { (j : ℕ) → has words.new j ≡ (has words.old j || hits j mask) }
+{
+    words[mask.place as usize] |= mask.bits;
+}

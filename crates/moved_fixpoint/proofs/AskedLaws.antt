@@ -4,7 +4,7 @@ use Rattle.std.specs.List.{All}
 use Rattle.std.proofs.lemmas.Bool.{true≢false, cases_lt, cases_eq}
 use Rattle.std.proofs.lemmas.List.{get_or_past, get_or-set_other, get_or-set_same, length-set, take_more, length_push}
 use Rattle.std.proofs.lemmas.List.Elements.{All-nil, All-push}
-use Rattle.guarded_tell.specs.declared.tell.Tell.{Tell}
+use Rattle.guarded_tell.specs.Words.{Tell}
 use Rattle.moved_set.specs.Sets.{IsIn, Naming, set_at}
 use Rattle.moved_set.specs.Asking.{IsAsked}
 use Rattle.moved_fixpoint.specs.Moved.{Set, count_of}

@@ -3,7 +3,7 @@ use Rattle.std.specs.Prelude.{ℕ, List, length, ◌≡◌, ◌<◌, slice_index
 use Rattle.std.specs.List.{All}
 use Rattle.interval.specs.Boxes.{Bounds}
 use Rattle.guarded_tell.specs.declared.kernel.Kernel.{Kernel}
-use Rattle.guarded_tell.specs.declared.tell.Tell.{Tell}
+use Rattle.guarded_tell.specs.Words.{Tell}
 use Rattle.guarded_tell.specs.Kernels.{IsClosedUnder}
 use Rattle.moved_set.specs.Sets.{IsIn, Naming, set_at}
 use Rattle.moved_fixpoint.specs.Moved.{Set, count_of}

@@ -3,7 +3,7 @@ use Rattle.std.specs.Prelude.{ℕ, ◌≡◌, ◌≢◌, ◌<◌, ◌⊎◌, fal
 use Rattle.std.specs.List.{All}
 use Rattle.interval.specs.Boxes.{Bounds, low_of, high_of, IsProper, IsCrossed}
 use Rattle.guarded_tell.specs.declared.kernel.Kernel.{Kernel}
-use Rattle.guarded_tell.specs.declared.tell.Tell.{Tell}
+use Rattle.guarded_tell.specs.Words.{Tell}
 use Rattle.guarded_tell.specs.Kernels.{vars_of, IsClosedUnder}
 use Rattle.fixpoint_laws.specs.Rounds.{HasRun}
 use Rattle.fixpoint_laws.specs.OneRound.{LeavesAlone}

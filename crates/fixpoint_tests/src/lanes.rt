@@ -3,13 +3,14 @@
 ghost use Rattle.std.specs.Prelude.{◌≡◌, ◌≤◌, length, IfOk};
 ghost use Rattle.std.specs.List.{All};
 ghost use Rattle.guarded_tell.specs.Kernels.{IsKernel};
-ghost use Rattle.rounds.specs.Shares.{IsCut};
+ghost use Rattle.rounds.specs.Shares.{IsCut, IsShare};
 
 use crate::boxes::{at_most, bounds_of, equal, four, opposed, raising};
 use gate::{Gate, NoGate};
 use guarded_tell::Kernel;
 use interval::{BoxOf, NoMemory};
-use rounds::{Engine, Limited, Propagated, Work, even_cut, propagate};
+use lattice_store::Store;
+use rounds::{Cache, Engine, Limited, Propagated, Work, even_cut, propagate, run_share};
 use std::alloc::{AllocError, Global};
 use std::process::Abort;
 use std::sync::atomic::{AtomicBool, Ordering};
@@ -116,6 +117,33 @@ fn opposed_kernels_fail_in_every_cut(rt: HostRuntime) -> Result<(), Fail> {
     let kernels = opposed(rt.alloc())?;
     let start = [(1, 1), (0, 3), (0, 3), (0, 0)];
     give(&rt, rt.alloc(), start, &kernels, None)?;
+    Ok(())
+}
+
+/// Runs a share twice: whether bounds moved, and how many passes that made.
+fn run_twice(
+    alloc: Global,
+    start: &BoxOf,
+    kernels: &[Kernel],
+    share: &[u32],
+) -> Result<(bool, bool, u64), NoMemory>
+    requires start { length start.now ≡ 4 }
+    requires kernels { All (IsKernel 4) kernels.now }
+    requires share { IsShare (length kernels.now) share.now }
+{
+    let (store, mut seat) = Store::new(alloc, start)?;
+    let mut cache = Cache::new(alloc, 0, start)?;
+    let first = run_share(&store, &mut seat, &mut cache, kernels, share, &NoGate);
+    let second = run_share(&store, &mut seat, &mut cache, kernels, share, &NoGate);
+    Ok((first, second, cache.turn))
+}
+
+#[test]
+fn a_share_moves_bounds_once(rt: HostRuntime) -> Result<(), Fail> {
+    let x_below_y = [at_most(rt.alloc(), &[1, -1], &[1, 2], -1)?];
+    let start = four(rt.alloc(), [(1, 1), (0, 3), (0, 3), (0, 0)])?;
+    let ran = run_twice(rt.alloc(), &start, &x_below_y, &[0])?;
+    assert_eq!(rt; ran, (true, false, 2));
     Ok(())
 }
 

@@ -29,6 +29,13 @@ impl<'a, R: Files> FileSource<'a, R> {
             faults: Faults::new(),
         }
     }
+
+    /// How many of its calls failed.
+    pub fn faults(&self) -> u64
+        ensures { result ≡ ⟦<FileSource<'a, R> as Source>⟧.faults self.now }
+    {
+        self.faults.count
+    }
 }
 
 impl<'a, R: Files> Source for FileSource<'a, R> {
@@ -84,6 +91,13 @@ impl<W: Write> StdSink<W> {
             stream,
             faults: Faults::new(),
         }
+    }
+
+    /// How many of its calls failed.
+    pub fn faults(&self) -> u64
+        ensures { result ≡ ⟦<StdSink<W> as Sink>⟧.faults self.now }
+    {
+        self.faults.count
     }
 }
 

@@ -9,6 +9,8 @@ mod crews;
 #[cfg(test)]
 mod draws;
 #[cfg(test)]
+mod held_up;
+#[cfg(test)]
 mod least;
 #[cfg(test)]
 mod models;

@@ -38,6 +38,8 @@ const GOALS: &[(&str, &str, &str)] = &[
     ),
     ("turbofzn m.fzn", SUMS, SUMS_ANSWER),
     ("turbofzn -p 2 m.fzn", SUMS, SUMS_ANSWER),
+    ("turbofzn -p 2 --lanes 3 m.fzn", SUMS, SUMS_ANSWER),
+    ("turbofzn -p 8 --lanes 1 m.fzn", SUMS, SUMS_ANSWER),
     ("turbofzn -p 8 --lanes 3 m.fzn", SUMS, SUMS_ANSWER),
     ("turbofzn --lanes 3 --depth 0 m.fzn", SUMS, SUMS_ANSWER),
     ("turbofzn -a --round-limit 35 m.fzn", SUMS, SUMS_ANSWER),
@@ -56,6 +58,18 @@ const GOALS: &[(&str, &str, &str)] = &[
         "turbofzn -a m.fzn",
         "var 0..5: i :: output_var; var int: c :: output_var; constraint array_int_element(i,[7,8,7],c); solve satisfy;",
         "i = 1;\nc = 7;\n----------\ni = 2;\nc = 8;\n----------\ni = 3;\nc = 7;\n----------\n==========\n",
+    ),
+    (
+        "turbofzn -a m.fzn",
+        "var -3..3: y :: output_var; var -9..9: z :: output_var; constraint int_div(7,y,z); solve satisfy;",
+        "y = -3;\nz = -2;\n----------\ny = -2;\nz = -3;\n----------\ny = -1;\nz = -7;\n----------\n\
+         y = 1;\nz = 7;\n----------\ny = 2;\nz = 3;\n----------\ny = 3;\nz = 2;\n----------\n==========\n",
+    ),
+    (
+        "turbofzn m.fzn",
+        "var 0..140737488355327: x :: output_var; \
+         solve :: int_search([x], input_order, indomain_max, complete) maximize x;",
+        "x = 140737488355327;\n----------\n==========\n",
     ),
     (
         "turbofzn m.fzn",
@@ -108,12 +122,27 @@ const LIMITS: &[(&str, &str, &str)] = &[
     ),
 ];
 
-/// Made texts.
+/// Made texts; the objective of 200 variables is the longest way through the drawn distances.
 const MADE: &[(&str, &str, &str)] = &[
     (
         "turbofzn --make 2",
         "",
         "variables 2 kernels 8 objective 9\n",
+    ),
+    (
+        "turbofzn --make 200",
+        "",
+        "variables 200 kernels 800 objective 53\n",
+    ),
+    (
+        "turbofzn --make 200 -p 2",
+        "",
+        "variables 200 kernels 800 objective 53\n",
+    ),
+    (
+        "turbofzn --make 200 -p 8",
+        "",
+        "variables 200 kernels 800 objective 53\n",
     ),
     (
         "turbofzn --make 2 --depth 0 --node-limit 1 m.fzn",
@@ -125,6 +154,21 @@ const MADE: &[(&str, &str, &str)] = &[
 #[test]
 fn objectives_and_all_solutions(rt: HostRuntime) -> Result<(), Fail> {
     assert_calls(&rt, rt.alloc(), GOALS)
+}
+
+/// Trees of many parts, and of many nodes.
+const LARGE: &[(&str, &str, &str)] = &[
+    ("turbofzn --depth 16 m.fzn", SUMS, SUMS_ANSWER),
+    (
+        "turbofzn --depth 0 m.fzn",
+        "var 0..20001: x :: output_var; constraint int_le(x,20000); solve maximize x;",
+        "x = 20000;\n----------\n==========\n",
+    ),
+];
+
+#[test]
+fn large_trees_are_searched(rt: HostRuntime) -> Result<(), Fail> {
+    assert_calls(&rt, rt.alloc(), LARGE)
 }
 
 #[test]

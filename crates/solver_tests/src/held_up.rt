@@ -1,8 +1,9 @@
-//! That lanes and workers run beside each other: each of two is held up until the other has come so far.
+//! That lanes and workers run beside each other: each of two is held up until the other has come so far, and each of eight
+//! until all eight have begun.
 
 use crate::calls::{SOUND, assert_ended, run_gated};
 use solver_top::{Gate, Gates, NoGate, Status};
-use std::sync::atomic::{AtomicBool, Ordering};
+use std::sync::atomic::{AtomicBool, AtomicU64, Ordering};
 use std::test::Fail;
 
 /// Lets the turn 0 of number 1 end only after the turn 0 of number 0 was called, and that one only after the turn 1 of
@@ -92,6 +93,67 @@ fn two_workers_meet(rt: HostRuntime) -> Result<(), Fail> {
     let outcome = run_gated(&rt, rt.alloc(), words, text, (SOUND, SOUND), &gates)?;
     let answer = "x = 0;\ny = 1;\no = 4;\n----------\n==========\n";
     assert_ended(&rt, &outcome, &(Status::Answered, answer, ""), words, text);
+    assert!(rt; gate.was_passed());
+    Ok(())
+}
+
+/// Lets the turn 0 of each of the numbers 0 to 7 end only after that of all eight was called.
+#[derive(Drop)]
+struct AllMeet {
+    // bit k for number k
+    begun: AtomicU64,
+    gave_up: AtomicBool,
+}
+
+impl AllMeet {
+    fn new() -> AllMeet {
+        AllMeet {
+            begun: AtomicU64::new(0),
+            gave_up: AtomicBool::new(false),
+        }
+    }
+
+    fn have_all_begun(&self) -> bool {
+        self.begun.load(Ordering::SeqCst) == 255
+    }
+
+    /// Whether all eight passes were called, and no wait gave up.
+    fn was_passed(&self) -> bool {
+        self.have_all_begun() && !self.gave_up.load(Ordering::SeqCst)
+    }
+
+    /// Waits for all eight, for so many turns.
+    fn wait(&self) {
+        for _ in 0..200_000_000u32 {
+            if self.have_all_begun() {
+                return;
+            }
+        }
+        self.gave_up.store(true, Ordering::SeqCst);
+    }
+}
+
+impl Gate for AllMeet {
+    fn pass(&self, number: u32, turn: u64) {
+        if number < 8 && turn == 0 {
+            self.begun.fetch_or(1 << number, Ordering::SeqCst);
+            self.wait();
+        }
+    }
+}
+
+#[test]
+fn eight_workers_meet(rt: HostRuntime) -> Result<(), Fail> {
+    let gate = AllMeet::new();
+    let gates = Gates {
+        crew: &gate,
+        lanes: &NoGate,
+    };
+    let text = "var 0..7: x :: output_var; constraint int_le(6,x); solve satisfy;";
+    let words = "turbofzn -p 8 --depth 3 m.fzn";
+    let outcome = run_gated(&rt, rt.alloc(), words, text, (SOUND, SOUND), &gates)?;
+    let ended = (Status::Answered, "x = 6;\n----------\n", "");
+    assert_ended(&rt, &outcome, &ended, words, text);
     assert!(rt; gate.was_passed());
     Ok(())
 }

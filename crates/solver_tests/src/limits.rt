@@ -36,6 +36,18 @@ fn variables_are_65536_at_most(rt: HostRuntime) -> Result<(), Fail> {
     Ok(())
 }
 
+/// The tree is as deep as there are variables that nothing fixes.
+#[test]
+fn branchings_have_no_limit_of_depth(rt: HostRuntime) -> Result<(), Fail> {
+    let mut text = String::new(rt.alloc());
+    for number in 0..4096 {
+        write!(&mut text, "var bool: b{};\n", number + 1)?;
+    }
+    text.push_str("solve satisfy;")?;
+    assert_text(&rt, rt.alloc(), &text, &SOLVED)?;
+    Ok(())
+}
+
 /// Adds a line with an element constraint that names all numbers from the first to the last.
 fn add_element_line(text: &mut String, first: usize, last: usize) -> Result<(), AllocError> {
     text.push_str("constraint array_int_element(1,[")?;

@@ -7,7 +7,7 @@ ghost use Rattle.fzn_io.specs.Streams.{Adds, AddsFront, IsNextName, IsHeld, IsLo
 
 use fzn_io::{
     FileSource, HonestSink, HonestSource, MemSink, MemSource, Named, ReadError, Sink, Source,
-    StdSink, WriteFault, read_named, write_all,
+    StdSink, WriteFault, read_all, read_named, write_all,
 };
 use std::alloc::{AllocError, Global};
 use std::fs;
@@ -126,6 +126,34 @@ fn a_text_is_read_in_pieces_or_refused(rt: HostRuntime) -> Result<(), Fail> {
     Ok(())
 }
 
+/// How many bytes are left of the name `m` once it is open, at most `limit`, or why they aren't read.
+fn left_of(alloc: Global, mut files: MemSource, limit: usize) -> Result<usize, ReadError>
+    requires { IsNextName (⟦<MemSource as Source>⟧.names files) (codes "m") }
+{
+    match files.open_named("m") {
+        Ok(()) => {}
+        Err(_) => return Err(ReadError::ReadFault),
+    }
+    match read_all(alloc, &mut files, limit) {
+        Ok(text) => Ok(text.len()),
+        Err(error) => Err(error),
+    }
+}
+
+#[test]
+fn the_rest_of_an_open_text_is_read(rt: HostRuntime) -> Result<(), Fail> {
+    for (chunk, failing, limit, want) in [
+        (3, 0, 7, Ok(7)),
+        (3, 0, 6, Err(ReadError::TooLong)),
+        (3, 2, 7, Err(ReadError::ReadFault)),
+    ] {
+        let files = source_of(rt.alloc(), Some(TEXT), chunk, failing)?;
+        let got = left_of(rt.alloc(), files, limit);
+        assert_eq!(rt; got, want, "call {failing} fails, limit {limit}");
+    }
+    Ok(())
+}
+
 /// What was written to a sink whose call number `failing` fails: whether it is this front of the text, the sink's
 /// faults, and whether it was refused.
 fn written(
@@ -182,5 +210,23 @@ fn real_files_are_read_and_written(rt: HostRuntime) -> Result<(), Fail> {
     let got = pass_on(alloc, &mut files, "text", 7, &mut out, &mut err, b"");
     assert_eq!(rt; got, Status::Passed);
     assert_eq!(rt; fs::read(&rt, "copy")?.as_slice(), TEXT);
+    Ok(())
+}
+
+#[test]
+fn real_faults_are_counted(rt: HostRuntime) -> Result<(), Fail> {
+    let alloc = rt.alloc();
+    fs::write(&rt, "text", TEXT)?;
+    let mut files = FileSource::new(&rt);
+    // a folder is opened, and can't be read
+    let mut out = HonestSink::new(alloc);
+    let mut err = HonestSink::new(alloc);
+    let got = pass_on(alloc, &mut files, ".", 7, &mut out, &mut err, b"");
+    assert_eq!(rt; (got, files.faults()), (Status::ReadFault, 1));
+    // a file that is open for reading can't be written
+    let mut out = StdSink::new(fs::open(&rt, "text")?);
+    let got = pass_on(alloc, &mut files, "text", 7, &mut out, &mut err, b"");
+    assert_eq!(rt; (got, files.faults()), (Status::WriteFault, 1));
+    assert_eq!(rt; out.faults(), 1);
     Ok(())
 }

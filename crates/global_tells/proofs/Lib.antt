@@ -1,0 +1,9 @@
+pub mod HearingLaws
+pub mod Lists
+pub mod PlaceLaws
+pub mod AllDifferentLaws
+pub mod AllDifferentPoint
+pub mod AllDifferentPlace
+pub mod TaskLaws
+pub mod CumulativeLaws
+pub mod CumulativePlace

@@ -1,0 +1,17 @@
+//! The bounds that two global constraints tell: all-different, and a cumulative resource.
+#![tactic(auto)]
+
+mod all_different;
+mod cumulative;
+mod laws;
+mod ranges;
+mod tasks;
+
+pub use all_different::visit_all_different;
+pub use cumulative::visit_cumulative;
+pub use laws::{
+    law_all_different_local, law_all_different_monotone, law_all_different_pairs,
+    law_all_different_place, law_all_different_point, law_cumulative_local,
+    law_cumulative_monotone, law_cumulative_place, law_cumulative_point, law_cumulative_starts,
+};
+pub use tasks::Task;

@@ -1,1 +1,3 @@
 pub mod AnswerText
+pub mod Reading
+pub mod Lines

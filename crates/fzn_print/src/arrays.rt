@@ -10,7 +10,7 @@ use itoa::Buffer;
 use std::alloc::AllocError;
 
 /// What stands between ranges and between entries.
-const COMMA: &[u8] = b", ";
+pub(crate) const COMMA: &[u8] = b", ";
 
 /// Adds an array.
 pub(crate) fn push_array(
@@ -58,7 +58,7 @@ fn push_list(
 }
 
 /// Adds a count in decimal.
-fn push_count(text: &mut Vec<u8>, count: usize) -> Result<(), AllocError>
+pub(crate) fn push_count(text: &mut Vec<u8>, count: usize) -> Result<(), AllocError>
     ensures { OnOk result (text.new.items ≡ text.old.items ++ decimal count) }
 {
     let mut buffer = Buffer::new();
@@ -66,7 +66,7 @@ fn push_count(text: &mut Vec<u8>, count: usize) -> Result<(), AllocError>
 }
 
 /// Adds ranges, each with a comma behind it.
-fn push_ranges(text: &mut Vec<u8>, ranges: &[(i64, i64)]) -> Result<(), AllocError>
+pub(crate) fn push_ranges(text: &mut Vec<u8>, ranges: &[(i64, i64)]) -> Result<(), AllocError>
     ensures { OnOk result (text.new.items ≡ text.old.items ++ flat_map (λ range. range_text range ++ comma) ranges.now) }
 {
     for range in ranges {

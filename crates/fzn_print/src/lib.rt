@@ -1,12 +1,18 @@
-//! The text of an answer: the lines of its solutions, and its mark.
+//! The text of an answer, the lines of its solutions and its mark; and from such a text back to the answer.
 #![tactic(auto)]
 
 mod answers;
 mod arrays;
+mod lines;
 mod marks;
+mod numbers;
+mod reading;
 mod solutions;
+mod unprinted;
 mod values;
 
 pub use answers::{Answer, print_answer};
 pub use marks::{Mark, mark_text};
+pub use reading::{SolutionError, read_solutions};
 pub use solutions::print_solution;
+pub use unprinted::hidden;

@@ -4,7 +4,7 @@ use Rattle.std.specs.List.{All}
 use Rattle.interval.specs.Boxes.{Bounds}
 use Rattle.tells.specs.declared.tell.Tell.{Tell}
 use Rattle.guarded_tell.specs.declared.kernel.Kernel.{Kernel}
-use Rattle.guarded_tell.specs.declared.kernel.Kernel.TheVariants.{Le, Eq, Times, Div, Mod, Abs, Max, Min, Clause, Element, InSet}
+use Rattle.guarded_tell.specs.declared.kernel.Kernel.TheVariants.{Le, Eq, Times, Div, Mod, Abs, Max, Min, Clause, Element, InSet, AllDiff, Cumulative}
 use Rattle.guarded_tell.specs.Words.{Keeps, IsProperIn, AreVariables}
 use Rattle.guarded_tell.specs.Linear.{at_most_tells, IsAtMost, IsLinear}
 use Rattle.guarded_tell.specs.Equality.{eq_tells, IsEquation}
@@ -18,6 +18,9 @@ use Rattle.guarded_tell.specs.Minimum.{min_tells, IsLeastOf}
 use Rattle.guarded_tell.specs.Clause.{clause_vars, clause_tells, IsClause, IsShortClause}
 use Rattle.guarded_tell.specs.Element.{element_tells, IsElement}
 use Rattle.guarded_tell.specs.InSet.{in_set_tells, IsInSet, IsSet}
+use Rattle.global_tells.specs.Ranges.{place_limit}
+use Rattle.global_tells.specs.AllDifferent.{all_different_tells, AreAllDifferent}
+use Rattle.global_tells.specs.Cumulative.{tasks_of, cumulative_tells, IsCumulative, AreTasks}
 
 -- the variables that a kernel names, with repeats
 unfoldable pub vars_of : Kernel → List ℕ
@@ -32,6 +35,8 @@ vars_of (Min m xs) = m ∷ xs
 vars_of (Clause lits) = clause_vars lits
 vars_of (Element x entries c) = x ∷ c ∷ entries
 vars_of (InSet l x ranges) = l.var ∷ x ∷ []
+vars_of (AllDiff xs) = xs
+vars_of (Cumulative starts durations usages limit) = starts
 
 -- the tells of a kernel on a box that is proper in the kernel's variables
 unfoldable pub tells : Kernel → Bounds → List Tell
@@ -46,6 +51,8 @@ tells (Min m xs) b = min_tells m xs b
 tells (Clause lits) b = clause_tells lits b
 tells (Element x entries c) b = element_tells x entries c b
 tells (InSet l x ranges) b = in_set_tells l x ranges b
+tells (AllDiff xs) b = all_different_tells xs b
+tells (Cumulative starts durations usages limit) b = cumulative_tells (tasks_of starts durations usages) limit b
 
 -- an assignment meets the kernel's relation
 unfoldable pub Holds : Kernel → List ℤ → Type 0
@@ -60,6 +67,8 @@ Holds (Min m xs) numbers = IsLeastOf m xs numbers
 Holds (Clause lits) numbers = IsClause lits numbers
 Holds (Element x entries c) numbers = IsElement x entries c numbers
 Holds (InSet l x ranges) numbers = IsInSet l x ranges numbers
+Holds (AllDiff xs) numbers = AreAllDifferent xs numbers
+Holds (Cumulative starts durations usages limit) numbers = IsCumulative (tasks_of starts durations usages) limit numbers
 
 -- the kernel's numbers are within the range and its lists fit together
 unfoldable pub HasNumbers : Kernel → Type 0
@@ -74,6 +83,8 @@ HasNumbers (Min m xs) = length xs ≤ member_limit
 HasNumbers (Clause lits) = IsShortClause lits
 HasNumbers (Element x entries c) = length entries ≤ member_limit
 HasNumbers (InSet l x ranges) = IsSet ranges
+HasNumbers (AllDiff xs) = length xs ≤ place_limit
+HasNumbers (Cumulative starts durations usages limit) = AreTasks starts durations usages limit
 
 -- the kernel can be run on a box of `count` variables
 pub record IsKernel (count : ℕ) (k : Kernel) : Type 0 where

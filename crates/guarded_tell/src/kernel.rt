@@ -102,6 +102,22 @@ pub enum Kernel {
         /// The ranges of the set, in order, none of which touch or overlap, each by its first and its last number.
         ranges: SharedList<(i64, i64)>,
     },
+    /// No two places of a list have the same number.
+    AllDiff {
+        /// The list.
+        xs: SharedList<u32>,
+    },
+    /// At every whole time the tasks that are under way then use at most the limit.
+    Cumulative {
+        /// The variables of the tasks' starts.
+        starts: SharedList<u32>,
+        /// One duration for each task.
+        durations: SharedList<i64>,
+        /// One usage for each task.
+        usages: SharedList<i64>,
+        /// The limit.
+        limit: i64,
+    },
 }
 
 impl Kernel {
@@ -122,6 +138,8 @@ impl Kernel {
             Kernel::Clause { lits } => clause_var_count(lits),
             Kernel::Element { entries, .. } => entries.len() + 2,
             Kernel::InSet { .. } => 2,
+            Kernel::AllDiff { xs } => xs.len(),
+            Kernel::Cumulative { starts, .. } => starts.len(),
         }
     }
 
@@ -171,6 +189,8 @@ impl Kernel {
                 }
             }
             Kernel::InSet { lit, x, .. } => { if place == 0 { lit.var } else { *x } }
+            Kernel::AllDiff { xs } => xs.as_slice()[place],
+            Kernel::Cumulative { starts, .. } => starts.as_slice()[place],
         }
     }
 }

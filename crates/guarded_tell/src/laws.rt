@@ -10,6 +10,11 @@ ghost use Rattle.guarded_tell.specs.Words.{Keeps, IsProperIn, IsInsideIn, AgreeI
 ghost use Rattle.guarded_tell.specs.Kernels.{vars_of, tells, Holds, IsKernel, IsClosedUnder};
 ghost use Rattle.guarded_tell.specs.Narrowing.{narrows};
 
+use global_tells::{
+    law_all_different_local, law_all_different_monotone, law_all_different_place,
+    law_all_different_point, law_cumulative_local, law_cumulative_monotone, law_cumulative_place,
+    law_cumulative_point,
+};
 use interval::{law_clamp_order, law_corner_order, law_quotient_order};
 
 /// No tell of a kernel on a box narrows a box that is closed under that kernel and, in the kernel's variables, inside it.
@@ -21,6 +26,8 @@ pub fn law_monotone()
     law_quotient_order();
     law_clamp_order();
     law_corner_order();
+    law_all_different_monotone();
+    law_cumulative_monotone();
 }
 
 /// A point within the range is closed under a kernel exactly where the kernel's relation holds.
@@ -31,6 +38,8 @@ pub fn law_point()
 {
     law_quotient_order();
     law_clamp_order();
+    law_all_different_point();
+    law_cumulative_point();
 }
 
 /// Each tell of a kernel is on one of the kernel's variables, and its bound is one.
@@ -39,13 +48,18 @@ pub fn law_tell_place()
         → All (λ t. Contains (vars_of k) t.var × (t.var < length b) × IsBound t.bound) (tells k b) }
 {
     law_clamp_order();
+    law_all_different_place();
+    law_cumulative_place();
 }
 
 /// Tells and relation depend on the kernel's variables alone.
 pub fn law_local()
     ensures tells { (k : Kernel) (b c : Bounds) → AgreeIn (vars_of k) b c → tells k b ≡ tells k c }
     ensures relation { (k : Kernel) (f g : List ℤ) → SameValuesIn (vars_of k) f g → Holds k f → Holds k g }
-{}
+{
+    law_all_different_local();
+    law_cumulative_local();
+}
 
 /// A tell that doesn't narrow a box keeps it, and one that narrows it doesn't.
 pub fn law_narrowing()

@@ -17,6 +17,7 @@ use crate::parted::visit_equation;
 use crate::remainder::visit_mod;
 use crate::times::visit_times;
 use crate::{Hear, Kernel};
+use global_tells::{visit_all_different, visit_cumulative};
 use interval::BoxOf;
 
 /// Gives the tells of the kernel on the box to `h`, each once and in order. It takes no memory.
@@ -49,5 +50,19 @@ pub fn visit_tells<H: Hear>(k: &Kernel, b: &BoxOf, h: &mut H)
         Kernel::Clause { lits } => visit_clause(lits, b, h),
         Kernel::Element { x, entries, c } => visit_element(*x, entries.as_slice(), *c, b, h),
         Kernel::InSet { lit, x, ranges } => visit_in_set(*lit, *x, ranges.as_slice(), b, h),
+        Kernel::AllDiff { xs } => visit_all_different(xs.as_slice(), b, h),
+        Kernel::Cumulative {
+            starts,
+            durations,
+            usages,
+            limit,
+        } => visit_cumulative(
+            starts.as_slice(),
+            durations.as_slice(),
+            usages.as_slice(),
+            *limit,
+            b,
+            h,
+        ),
     }
 }

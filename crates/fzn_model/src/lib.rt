@@ -24,7 +24,7 @@ mod types;
 
 pub use constraint_model::{
     Constraint, ConstraintName, FznModel, Goal, Operand, Output, Phase, Term, ValSel, VarDecl,
-    VarSel,
+    VarSel, kernel_count,
 };
 pub use fault_kinds::FaultKind;
 pub use resolving::{ModelError, law_one_model, law_well_formed, resolve};

@@ -7,3 +7,4 @@ pub mod AllDifferentPlace
 pub mod TaskLaws
 pub mod CumulativeLaws
 pub mod CumulativePlace
+pub mod QuietLaws

@@ -4,6 +4,7 @@
 mod all_different;
 mod cumulative;
 mod laws;
+mod quiet;
 mod ranges;
 mod tasks;
 
@@ -14,4 +15,5 @@ pub use laws::{
     law_all_different_place, law_all_different_point, law_cumulative_local,
     law_cumulative_monotone, law_cumulative_place, law_cumulative_point, law_cumulative_starts,
 };
+pub use quiet::is_all_different_quiet;
 pub use tasks::Task;

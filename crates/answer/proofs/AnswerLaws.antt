@@ -51,8 +51,11 @@ module _ (model : FznModel) (options : Options) (answer : Answer) where
   one_collected (Goal.Maximize t) all o (inr h) = of_taken answer.solutions (flat_map first_collected h.results ++ h.best ∷ []) h.solutions
 
   pub gives_one : (model.goal ≢ Goal.Satisfy) ⊎ (options.all ≡ false) → IsAnswer model options answer → length answer.solutions ≤ 1
-  gives_one o (inl (inl h)) = of_none answer.solutions h.solutions
-  gives_one o (inl (inr h)) = one_given model.goal options.all o h
+  gives_one o (inl h) = one_finished h.finished
+    where
+      one_finished : IsFinished model options.all answer → length answer.solutions ≤ 1
+      one_finished (inl k) = of_none answer.solutions k.solutions
+      one_finished (inr k) = one_given model.goal options.all o k
   gives_one o (inr h) = one_collected model.goal options.all o h
 
 -- ---- the marks of an unfinished answer

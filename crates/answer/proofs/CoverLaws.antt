@@ -16,16 +16,18 @@ use Rattle.solution_lists.specs.Solutions.{SolvesInside, SolutionsAreListed, Lis
 use Rattle.subproblems.specs.Cuts.{CutLaws}
 use Rattle.subproblems.specs.Paths.{LeadsTo, SolutionsOfAll, PathLaws}
 use Rattle.search.specs.declared.ends.LeastEnd.{LeastEnd}
-use Rattle.search.specs.LeastEnds.{IsCost, CostAtLeast}
-use Rattle.crew.specs.Ends.{AreInOrder}
+use Rattle.search.specs.LeastEnds.{CostAtLeast}
+use Rattle.tickets.specs.Counting.{IsEachOnce, CountingLaws}
+use Rattle.crew.specs.Ends.{numbers_of, AreInOrder}
 use Rattle.answer.specs.declared.options.Options.{Options}
 use Rattle.answer.specs.Lists.{Assignment}
 use Rattle.answer.specs.Least.{IsLeastCost}
-use Rattle.answer.specs.Results.{program_of, IsLeastResult, least_collected, IsLeastSpent, CostsAtMost, AreLeastResults}
-use Rattle.answer.specs.Runs.{IsCovered, IsLeastRun, AreLeastRuns, ReachAll, AreWholeResults}
+use Rattle.answer.specs.Results.{program_of, LeastResult, IsLeastResult, least_collected, collected_in, IsLeastSpent, CostsAtMost, AreLeastResults}
+use Rattle.answer.specs.Runs.{IsCovered, IsLeastRun, AreLeastRuns, ReachAll, AreWholeResults, AreWholeEnds}
 use Rattle.answer.specs.Unfinished.{CostsMore, CostsAsMuch, IsFirstLeast}
 use Rattle.answer.proofs.RunLists.{AllAmong, nothing_there, result_kept, results_of}
 use Rattle.answer.proofs.LeastRunLists.{contains_among}
+use Rattle.answer.proofs.Chosen.{chosen, chosen_images, same_numbers}
 use Rattle.answer.proofs.ListedLaws.{lies_in_start, start_can_be_cut}
 use Rattle.answer.proofs.PathBoxes.{path_can}
 
@@ -36,6 +38,12 @@ contains_given f (s ∷ rs) zero r x e h =
     let same : s ≡ r = cc in
     Contains-append_left (f s) (flat_map f rs) x (subst (λ y. Contains (f y) x) (sym same) h)
 contains_given f (s ∷ rs) (suc k) r x e h = Contains-append_right (f s) (flat_map f rs) x (contains_given f rs k r x e h)
+
+abbrev end_of : LeastResult → LeastEnd
+end_of result = result.1
+
+any_given : {E : Type 0} (f : E → List Assignment) (rs : List E) (k : ℕ) (r : E) (P : Assignment → Type 0) → slice_get rs k ≡ Some r → Any P (f r) → Any P (flat_map f rs)
+any_given f rs k r P e (i, a, l, m, p) = let there = contains_given f rs k r a e (i, l, m) in (there.0, a, there.1, there.2, p)
 
 -- a subproblem on the way to which the assignment lies
 record LiesBelow (model : FznModel) (paths : List (Option Bounds)) (a : Assignment) : Type 0 where
@@ -88,48 +96,68 @@ module _ (order : InsideOrder) (every : EveryList) (laws : PathLaws) (cuts : Cut
       let sub_all : ListsSolutionsInside model here.sub here.own = listed model (program_of model) here.sub here.own f rule sub_can.in_range sub_in here.listed in
       record { number = here.number; below = below; sub = here.sub; leads = leads; solves = (sub_all.each a).0 here.stands }
 
-  -- the ends of the runs of all numbers, where all costs that were seen were posted and are those of solutions
-  module _ (seen posted : List ℤ) (runs : List (ℕ × LeastEnd)) (ends : List LeastEnd) (h : AreLeastRuns model options (start_of model) seen posted runs)
-      (all : AllAmong seen posted) (costs : (cost : ℤ) → Among seen cost → IsCost model cost) (in_order : AreInOrder (2 ^ options.depth) runs ends) where
-    given : (cost : ℤ) → Among seen cost → Any (CostsAtMost model.goal cost) (flat_map least_collected ends)
+  -- the results of the runs of all numbers, where all costs that were seen were posted
+  module _ (seen posted : List ℤ) (runs : List (ℕ × LeastEnd)) (h : AreLeastRuns model options (start_of model) seen posted runs) (all : AllAmong seen posted) (results : List LeastResult)
+      (in_order : AreInOrder (2 ^ options.depth) h.results results) where
+    given : (cost : ℤ) → Among seen cost → Any (CostsAtMost model.goal cost) (collected_in results)
     given cost there =
         let r = h.reached cost (all cost there) in
-        let place = (in_order.places r.0 r.1).0 r.3 in
-        let stands = contains_given least_collected ends r.0 r.1 r.2 place r.4 in
-        (stands.0, r.2, stands.1, stands.2, r.5)
+        let place = (in_order.places r.number r.result).0 r.there in
+        any_given (λ (result : LeastResult). least_collected result.1) results r.number r.result (CostsAtMost model.goal cost) place r.reached
 
-    results : AreLeastResults model options ends
-    results = record {
+    recorded : (cost : ℤ) → Among seen cost → Any (λ result. Any (λ a. cost_of model.goal a ≡ Some cost) result.0) results
+    recorded cost there =
+        let r = h.recorded cost (all cost there) in
+        let place = (in_order.places r.number r.result).0 r.there in
+        (r.number, r.result, slice_get_within results r.number r.result place, get_or_from_slice_get results r.number r.result r.result place, r.recorded)
+
+    are_results : AreLeastResults model options results
+    are_results = record {
       posted = seen;
-      may_be = λ cost there. record { is_cost = costs cost (contains_among seen cost there); reached = given cost (contains_among seen cost there) };
-      are = results_of model options.depth (start_of model) (IsLeastResult model options seen) runs ends in_order
-          (λ number end there. result_kept model options.depth (start_of model) (IsLeastRun model options seen) (IsLeastResult model options seen) (λ n p e k. k.0) number end (h.each number end there));
+      recorded = λ cost there. recorded cost (contains_among seen cost there);
+      are = results_of model options.depth (start_of model) (IsLeastResult model options seen) h.results results in_order
+          (λ number result there. result_kept model options.depth (start_of model) (IsLeastRun model options seen) (IsLeastResult model options seen) (λ n p r k. k.0) number result (h.each number result there));
     }
 
     lower : (cost other : ℤ) (a : Assignment) → other ≤ℤ cost → CostsAtMost model.goal other a → CostsAtMost model.goal cost a
     lower cost other a l (c, e, k) = (c, e, omega (arith, ints))
 
-    lower_any : (cost other : ℤ) → other ≤ℤ cost → Any (CostsAtMost model.goal other) (flat_map least_collected ends) → Any (CostsAtMost model.goal cost) (flat_map least_collected ends)
+    lower_any : (cost other : ℤ) → other ≤ℤ cost → Any (CostsAtMost model.goal other) (collected_in results) → Any (CostsAtMost model.goal cost) (collected_in results)
     lower_any cost other l (k, a, m, e, c) = (k, a, m, e, lower cost other a l c)
 
     at_end : (end : LeastEnd) (sub : Bounds) → (IsLeastSpent end → ⊥) → IsCovered model seen (Some sub) end → CostAtLeast model sub seen
     at_end (LeastEnd.Done answer) sub unspent k = k
     at_end (LeastEnd.Spent nodes why so_far) sub unspent k = absurd (unspent tt)
 
-    reach : All (λ result. IsLeastSpent result → ⊥) ends → ReachAll model (flat_map least_collected ends)
+    nothing : LeastResult
+    nothing = ([], LeastEnd.Done None)
+
+    reach : All (λ result. IsLeastSpent result.1 → ⊥) results → ReachAll model (collected_in results)
     reach unspent a cost solves costs_so =
         let c = covered a solves in
-        let below : c.number < length ends = let e = in_order.length_is in let l = c.below in omega arith in
-        let end = get_or ends c.number (LeastEnd.Done None) in
-        let place : slice_get ends c.number ≡ Some end = slice_get-get_or ends c.number (LeastEnd.Done None) below in
-        let own = h.each c.number end ((in_order.places c.number end).1 place) in
+        let below : c.number < length results = let e = in_order.length_is in let l = c.below in omega arith in
+        let result = get_or results c.number nothing in
+        let place : slice_get results c.number ≡ Some result = slice_get-get_or results c.number nothing below in
+        let own = h.each c.number result ((in_order.places c.number result).1 place) in
         let same = laws.one model (kernels_of model) options.depth (start_of model) c.number own.path (Some c.sub) rule own.leads c.leads in
-        let is_covered = subst (λ (p : Option Bounds). IsCovered model seen p end) same own.is_result.1 in
-        let some = at_end end c.sub (unspent c.number (LeastEnd.Done None) below) is_covered a cost c.solves costs_so in
+        let is_covered = subst (λ (p : Option Bounds). IsCovered model seen p result.1) same own.is_result.1 in
+        let some = at_end result.1 c.sub (unspent c.number nothing below) is_covered a cost c.solves costs_so in
         lower_any cost some.1 some.4 (given some.1 (contains_among seen some.1 (some.0, some.2, some.3)))
 
-    pub whole_results : AreWholeResults model options ends
-    whole_results = record { are = results; reach = reach }
+    pub whole_results : AreWholeResults model options results
+    whole_results = record { are = are_results; reach = reach }
+
+  -- so it is of the ends of all numbers: one of what the runs recorded is chosen for each
+  pub whole_ends : CountingLaws → (seen posted : List ℤ) (runs : List (ℕ × LeastEnd)) (ends : List LeastEnd) → AreLeastRuns model options (start_of model) seen posted runs → AllAmong seen posted →
+      AreInOrder (2 ^ options.depth) runs ends → AreWholeEnds model options ends
+  whole_ends counting seen posted runs ends h all order =
+      let numbers : numbers_of h.results ≡ numbers_of runs = sym (same_numbers end_of h.results) ∙ ap (λ (rs : List (ℕ × LeastEnd)). numbers_of rs) h.of_runs in
+      let these = chosen counting (2 ^ options.depth) h.results (subst (IsEachOnce (2 ^ options.depth)) (sym numbers) order.each_once) in
+      record {
+        results = these.0;
+        of_results = chosen_images counting end_of (2 ^ options.depth) h.results these.0 runs ends these.1 h.of_runs order;
+        whole = whole_results seen posted runs h all these.0 these.1;
+      }
 
 -- ---- the best of what was collected costs least
 

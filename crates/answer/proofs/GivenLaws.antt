@@ -1,8 +1,8 @@
 -- What is put together of the results is an answer.
-use Rattle.std.proofs.Common.{◌≡◌, ◌≢◌, ℕ, ℤ, Bool, true, false, List, [], ◌∷◌, ◌++◌, take, flat_map, All, Any, Contains, Option, None, Some, refl, sym, ap, subst, subst₂, ◌∙◌, ◌⊎◌, inl, inr, arith}
+use Rattle.std.proofs.Common.{◌≡◌, ◌≢◌, ℕ, zero, suc, ℤ, Bool, true, false, List, [], ◌∷◌, ◌++◌, map, take, flat_map, All, Any, Contains, Option, None, Some, refl, sym, ap, subst, subst₂, ◌∙◌, ◌⊎◌, inl, inr, arith}
 use Rattle.std.specs.Bool.{OnTrue, OnFalse}
 use Rattle.std.proofs.lemmas.Option.{slice_get-get_or}
-use Rattle.std.proofs.lemmas.List.Elements.{All-nil, All-cons, All-append, All-head}
+use Rattle.std.proofs.lemmas.List.Elements.{All-nil, All-cons, All-append, All-head, All-tail}
 use Rattle.interval.specs.Boxes.{Bounds, IsInside, InsideOrder}
 use Rattle.constraint_model.specs.declared.model.Goal.{Goal}
 use Rattle.constraint_model.specs.declared.model.FznModel.{FznModel}
@@ -31,14 +31,16 @@ use Rattle.answer.specs.Cuts.{cut_to}
 use Rattle.answer.specs.Lists.{Assignment, ListsSolutions, IsSolutionAt}
 use Rattle.answer.specs.Finished.{IsFinished, IsOptimal, Gives}
 use Rattle.answer.specs.Places.{AreResults}
-use Rattle.answer.specs.Results.{program_of, listed, IsFirstResult, AreFirstResults, first_collected, IsFirstSpent, IsAllResult, AreAllResults, all_collected, IsAllSpent, IsLeastResult, least_collected, IsLeastSpent}
+use Rattle.answer.specs.Results.{program_of, listed, IsFirstResult, AreFirstResults, first_collected, IsFirstSpent, IsAllResult, AreAllResults, all_collected, IsAllSpent, LeastResult, IsLeastResult, least_collected, collected_in, IsLeastSpent}
 use Rattle.answer.specs.Unfinished.{mark_where, IsFirstLeast, IsBestOf, FindsBest, IsBestCollected, IsLeastCollected, GivesCollected}
-use Rattle.answer.specs.Runs.{AreWholeResults}
+use Rattle.answer.specs.Unspent.{IsUnspentFirst, IsUnspentLeast, IsUnspentFor, IsUnspentSearch}
+use Rattle.answer.specs.Runs.{AreWholeResults, AreWholeEnds}
 use Rattle.answer.specs.Given.{mark_for, IsBestKnown, IsGiven}
 use Rattle.answer.proofs.HeadLaws.{first_of_all, all_of_all}
 use Rattle.answer.proofs.ListedLaws.{start_can_be_cut, can_be_cut, lists_solutions, cut_in_start, cut_in_range, lists_solutions_at}
 use Rattle.answer.proofs.SolveLaws.{firsts_solve, all_solve, least_solve}
 use Rattle.answer.proofs.CoverLaws.{nothing_solves, best_is_solution, least_is_best}
+use Rattle.answer.proofs.OneFinished.{same_cost}
 
 -- ---- without limits no search is stopped by one
 
@@ -58,10 +60,42 @@ module _ (model : FznModel) (options : Options) (n : options.node_limit ≡ 0) (
   all_unlimited number None (AllEnd.Spent nodes why found) h s = let e : AllEnd.Spent nodes why found ≡ AllEnd.Done [] = h in absurd cc
   all_unlimited number (Some sub) (AllEnd.Spent nodes why found) h s = limited _ why nodes found n r h
 
-  least_unlimited : (posted : List ℤ) (number : ℕ) (path : Option Bounds) (end : LeastEnd) → IsLeastResult model options posted number path end → IsLeastSpent end → ⊥
-  least_unlimited posted number path (LeastEnd.Done answer) h s = s
-  least_unlimited posted number None (LeastEnd.Spent nodes why so_far) h s = let e : LeastEnd.Spent nodes why so_far ≡ LeastEnd.Done None = h in absurd cc
-  least_unlimited posted number (Some sub) (LeastEnd.Spent nodes why so_far) h s = limited _ why nodes h.0 n r h.1.0
+  end_unlimited : (posted : List ℤ) (number : ℕ) (path : Option Bounds) (found : List Assignment) (end : LeastEnd) → IsLeastResult model options posted number path (found, end) → IsLeastSpent end → ⊥
+  end_unlimited posted number path found (LeastEnd.Done answer) h s = s
+  end_unlimited posted number None found (LeastEnd.Spent nodes why so_far) h s = let e : LeastEnd.Spent nodes why so_far ≡ LeastEnd.Done None = ap (λ (r : LeastResult). r.1) h in absurd cc
+  end_unlimited posted number (Some sub) found (LeastEnd.Spent nodes why so_far) h s = limited _ why nodes found n r h.0
+
+  least_unlimited : (posted : List ℤ) (number : ℕ) (path : Option Bounds) (result : LeastResult) → IsLeastResult model options posted number path result → IsLeastSpent result.1 → ⊥
+  least_unlimited posted number path result h s = end_unlimited posted number path result.0 result.1 h s
+
+-- ---- ends, and what was recorded beside them
+
+collected_same : (ends : List LeastEnd) (results : List LeastResult) → map (λ (r : LeastResult). r.1) results ≡ ends → collected_in results ≡ flat_map least_collected ends
+collected_same ends results e = of_ends results ∙ ap (flat_map least_collected) e
+  where
+    of_ends : (rs : List LeastResult) → collected_in rs ≡ flat_map least_collected (map (λ (r : LeastResult). r.1) rs)
+    of_ends [] = refl
+    of_ends (r ∷ rs) = ap (λ (xs : List Assignment). least_collected r.1 ++ xs) (of_ends rs)
+
+any_of_results : (ends : List LeastEnd) (results : List LeastResult) → map (λ (r : LeastResult). r.1) results ≡ ends → Any IsLeastSpent ends → Any (λ result. IsLeastSpent result.1) results
+any_of_results ends results e h = of_ends results (subst (λ (rs : List LeastEnd). Any IsLeastSpent rs) (sym e) h)
+  where
+    later : (r : LeastResult) (rs : List LeastResult) → Any (λ result. IsLeastSpent result.1) rs → Any (λ result. IsLeastSpent result.1) (r ∷ rs)
+    later r rs (k, x, l, e, s) = (suc k, x, omega arith, e, s)
+
+    of_ends : (rs : List LeastResult) → Any IsLeastSpent (map (λ (r : LeastResult). r.1) rs) → Any (λ result. IsLeastSpent result.1) rs
+    of_ends [] (k, x, l, e, s) = absurd (omega arith)
+    of_ends (r ∷ rs) (zero, x, l, e, s) = (0, r, omega arith, refl, subst IsLeastSpent (sym e) s)
+    of_ends (r ∷ rs) (suc k, x, l, e, s) = later r rs (of_ends rs (k, x, omega arith, e, s))
+
+all_of_results : (ends : List LeastEnd) (results : List LeastResult) → map (λ (r : LeastResult). r.1) results ≡ ends → All (λ end. IsLeastSpent end → ⊥) ends → All (λ result. IsLeastSpent result.1 → ⊥) results
+all_of_results ends results e h = of_ends results (subst (All (λ end. IsLeastSpent end → ⊥)) (sym e) h)
+  where
+    of_ends : (rs : List LeastResult) → All (λ end. IsLeastSpent end → ⊥) (map (λ (r : LeastResult). r.1) rs) → All (λ result. IsLeastSpent result.1 → ⊥) rs
+    of_ends [] h = All-nil (λ (result : LeastResult). IsLeastSpent result.1 → ⊥)
+    of_ends (r ∷ rs) h =
+        All-cons (λ (result : LeastResult). IsLeastSpent result.1 → ⊥) r rs (All-head (λ end. IsLeastSpent end → ⊥) r.1 (map (λ (r : LeastResult). r.1) rs) h)
+        (of_ends rs (All-tail (λ end. IsLeastSpent end → ⊥) r.1 (map (λ (r : LeastResult). r.1) rs) h))
 
 -- no result is stopped, if each that is one of its number isn't
 none_spent : {E : Type 0} (model : FznModel) (depth : ℕ) (b : Bounds) (Is : ℕ → Option Bounds → E → Type 0) (Spent : E → Type 0) (results : List E) → AreResults model depth b Is results →
@@ -70,7 +104,7 @@ none_spent model depth b Is Spent results are unlimited (k, x, l, e, s) =
     let own = are.each k x (slice_get-get_or results k x l ∙ ap (λ y. Some y) e) in
     unlimited k own.path x own.is_result s
 
-first_of_list : (P : Assignment → Type 0) (xs : List Assignment) → All P xs → All P (take 1 xs)
+pub first_of_list : (P : Assignment → Type 0) (xs : List Assignment) → All P xs → All P (take 1 xs)
 first_of_list P [] h = All-nil P
 first_of_list P (x ∷ xs) h = All-cons P x [] (All-head P x xs h) (All-nil P)
 
@@ -129,7 +163,10 @@ module _ (order : InsideOrder) (one : OneList) (every : EveryList) (laws : PathL
     pub first_unspent : All (λ end. IsFirstSpent end → ⊥) results → answer.mark ≡ mark_for false answer.solutions Mark.Plain → IsGiven model options answer
     first_unspent unspent m =
         let done = finished all_list.0 all_list.1 (first_of_all one laws model options start results all_list.0 can h unspent all_list.1) m in
-        record { is_answer = inl done; whole = λ n r. done; solve = first_solve }
+        record { is_answer = inl (record { finished = done; unspent = searched }); whole = λ n r. done; solve = first_solve }
+      where
+        searched : IsUnspentSearch model options
+        searched = subst₂ (λ (g : Goal) (b : Bool). IsUnspentFor g b model options) (sym satisfy) (sym first) (record { results = results; are = h; unspent = unspent })
 
   -- ---- all solutions
 
@@ -160,7 +197,10 @@ module _ (order : InsideOrder) (one : OneList) (every : EveryList) (laws : PathL
     pub all_unspent : All (λ end. IsAllSpent end → ⊥) results → answer.mark ≡ mark_for false answer.solutions Mark.Complete → IsGiven model options answer
     all_unspent unspent m =
         let done = all_finished all_list.0 all_list.1 (all_of_all one laws model options start results all_list.0 can h unspent all_list.1) m in
-        record { is_answer = inl done; whole = λ n r. done; solve = all_solutions_solve }
+        record { is_answer = inl (record { finished = done; unspent = searched }); whole = λ n r. done; solve = all_solutions_solve }
+      where
+        searched : IsUnspentSearch model options
+        searched = subst₂ (λ (g : Goal) (b : Bool). IsUnspentFor g b model options) (sym satisfy) (sym all) (record { results = results; are = h; unspent = unspent })
 
   -- ---- the least cost
 
@@ -175,35 +215,47 @@ module _ (order : InsideOrder) (one : OneList) (every : EveryList) (laws : PathL
     optimal_given (Goal.Minimize t) all o h = h
     optimal_given (Goal.Maximize t) all o h = h
 
+    least_unspent : (g : Goal) (all : Bool) → g ≢ Goal.Satisfy → IsUnspentLeast model options → IsUnspentFor g all model options
+    least_unspent Goal.Satisfy all o h = absurd (o refl)
+    least_unspent (Goal.Minimize t) all o h = h
+    least_unspent (Goal.Maximize t) all o h = h
+
     -- what the first phase gives, where a limit stopped it or nothing was collected
-    module _ (results : List LeastEnd) (h : AreWholeResults model options results) (best : Option Assignment) (is_best : IsBestOf model.goal (flat_map least_collected results) best)
+    module _ (results : List LeastResult) (h : AreWholeResults model options results) (best : Option Assignment) (is_best : IsBestOf model.goal (collected_in results) best)
         (e : answer.solutions ≡ listed best) where
-      least_solutions_solve : All (IsSolution model) (flat_map least_collected results)
+      least_solutions_solve : All (IsSolution model) (collected_in results)
       least_solutions_solve = least_solve order laws cuts records model rule goal f options start can (order.itself start) h.are.posted results h.are.are
 
-      best_solves : (best : Option Assignment) → IsBestOf model.goal (flat_map least_collected results) best → All (IsSolution model) (listed best)
+      best_solves : (best : Option Assignment) → IsBestOf model.goal (collected_in results) best → All (IsSolution model) (listed best)
       best_solves None b = All-nil (IsSolution model)
-      best_solves (Some a) b = All-cons (IsSolution model) a [] (best_is_solution model (flat_map least_collected results) a least_solutions_solve b) (All-nil (IsSolution model))
+      best_solves (Some a) b = All-cons (IsSolution model) a [] (best_is_solution model (collected_in results) a least_solutions_solve b) (All-nil (IsSolution model))
 
       solved : All (IsSolution model) answer.solutions
       solved = subst (All (IsSolution model)) (sym e) (best_solves best is_best)
 
-      pub least_spent : Any IsLeastSpent results → answer.mark ≡ mark_where answer.solutions → IsGiven model options answer
+      pub least_spent : Any (λ result. IsLeastSpent result.1) results → answer.mark ≡ mark_where answer.solutions → IsGiven model options answer
       least_spent spent m = record {
         is_answer = inr (collected_given model.goal options.all objective (inl (record { results = results; are = h.are; spent = spent; best = best; is_best = is_best; solutions = e; mark = m })));
-        whole = λ n r. absurd (none_spent model options.depth start (IsLeastResult model options h.are.posted) IsLeastSpent results h.are.are (least_unlimited model options n r h.are.posted) spent);
+        whole = λ n r. absurd (none_spent model options.depth start (IsLeastResult model options h.are.posted) (λ (result : LeastResult). IsLeastSpent result.1) results h.are.are (least_unlimited model options n r h.are.posted) spent);
         solve = solved;
       }
 
-      pub least_nothing : All (λ end. IsLeastSpent end → ⊥) results → best ≡ None → answer.mark ≡ mark_for false answer.solutions Mark.Complete → IsGiven model options answer
+      pub least_nothing : All (λ result. IsLeastSpent result.1 → ⊥) results → best ≡ None → answer.mark ≡ mark_for false answer.solutions Mark.Complete → IsGiven model options answer
       least_nothing unspent none m =
           let empty : answer.solutions ≡ [] = e ∙ ap listed none in
+          let nothing = nothing_solves model (collected_in results) objective (h.reach unspent) (subst (λ (o : Option Assignment). IsBestOf model.goal (collected_in results) o) none is_best) in
           let done : IsFinished model options.all answer = inl (record {
-            none = nothing_solves model (flat_map least_collected results) objective (h.reach unspent) (subst (λ (o : Option Assignment). IsBestOf model.goal (flat_map least_collected results) o) none is_best);
+            none = nothing;
             solutions = empty;
             mark = same_mark false false answer.solutions [] Mark.Complete answer.mark refl empty m;
           }) in
-          record { is_answer = inl done; whole = λ n r. done; solve = solved }
+          let searched : IsUnspentLeast model options = record {
+            results = results;
+            are = h.are;
+            unspent = unspent;
+            second = λ cost least. absurd (nothing least.some.assignment least.some.solves);
+          } in
+          record { is_answer = inl (record { finished = done; unspent = least_unspent model.goal options.all objective searched }); whole = λ n r. done; solve = solved }
 
     -- what the second phase gives
     module _ (cost : ℤ) (least : IsLeastCost model cost) (best : Assignment) (finds : FindsBest model options best) (best_is : IsSolutionAt model cost best) (results : List FirstEnd)
@@ -252,7 +304,13 @@ module _ (order : InsideOrder) (one : OneList) (every : EveryList) (laws : PathL
           let list = every model (kernels_of model) cut rule cut_can.long cut_can.in_range cut_can.fit in
           let done : IsFinished model options.all answer =
           inr (optimal_given model.goal options.all objective (optimum list.0 list.1 (first_of_all one laws model options cut results list.0 cut_can h unspent list.1) m)) in
-          record { is_answer = inl done; whole = λ n r. done; solve = second_solve }
+          let searched : IsUnspentLeast model options = record {
+            results = finds.results;
+            are = finds.are;
+            unspent = finds.unspent;
+            second = λ other k. subst (λ (c : ℤ). IsUnspentFirst model options (cut_to model.goal c start)) (same_cost model cost other least k) (record { results = results; are = h; unspent = unspent });
+          } in
+          record { is_answer = inl (record { finished = done; unspent = least_unspent model.goal options.all objective searched }); whole = λ n r. done; solve = second_solve }
 
 module _ (order : InsideOrder) (one : OneList) (every : EveryList) (laws : PathLaws) (cuts : CutLaws) (are : SolutionsAreListed) (declared : InDeclarationOrder) (records : RecordsSolutions)
     (model : FznModel) (rule : IsSearchOf model) (goal : IsGoalOf model.vars model.goal) (f : IsProgramOf model (program_of model)) (options : Options) (answer : Answer) where
@@ -270,16 +328,38 @@ module _ (order : InsideOrder) (one : OneList) (every : EveryList) (laws : PathL
   all_given results slice h satisfy all e same false s u m =
       all_unspent order one every laws cuts are declared records model rule goal f options answer results h satisfy all e (subst (λ (rs : List AllEnd). All (λ end. IsAllSpent end → ⊥) rs) same u) m
 
-  -- what is known of the best, if no search for the least cost was stopped
-  pub best_known : model.goal ≢ Goal.Satisfy → (results : List LeastEnd) → AreWholeResults model options results → All (λ end. IsLeastSpent end → ⊥) results → (best : Assignment) →
-      IsFirstLeast model.goal (flat_map least_collected results) best → IsBestKnown model options best
-  best_known objective results h unspent best is_best =
+  of_results_best : (ends : List LeastEnd) (h : AreWholeEnds model options ends) (best : Option Assignment) → IsBestOf model.goal (flat_map least_collected ends) best → IsBestOf model.goal (collected_in h.results) best
+  of_results_best ends h best is_best = subst (λ (xs : List Assignment). IsBestOf model.goal xs best) (sym (collected_same ends h.results h.of_results)) is_best
+
+  best_of_results : model.goal ≢ Goal.Satisfy → (results : List LeastResult) → AreWholeResults model options results → All (λ result. IsLeastSpent result.1 → ⊥) results → (best : Assignment) →
+      IsFirstLeast model.goal (collected_in results) best → IsBestKnown model options best
+  best_of_results objective results h unspent best is_best =
       let solve = least_solve order laws cuts records model rule goal f options (start_of model) (start_can_be_cut order model rule f) (order.itself (start_of model)) h.are.posted results h.are.are in
       record {
         found = record { results = results; are = h.are; unspent = unspent; is_best = is_best };
-        solves = best_is_solution model (flat_map least_collected results) best solve is_best;
-        least = λ cost costs. least_is_best model (flat_map least_collected results) best cost solve (h.reach unspent) is_best costs;
+        solves = best_is_solution model (collected_in results) best solve is_best;
+        least = λ cost costs. least_is_best model (collected_in results) best cost solve (h.reach unspent) is_best costs;
       }
+
+  -- what the first phase gives, where a limit stopped it or nothing was collected
+  pub ends_spent : (objective : model.goal ≢ Goal.Satisfy) (ends slice : List LeastEnd) → AreWholeEnds model options ends → (best : Option Assignment) → IsBestOf model.goal (flat_map least_collected ends) best →
+      answer.solutions ≡ listed best → slice ≡ ends → Any IsLeastSpent slice → answer.mark ≡ mark_where answer.solutions → IsGiven model options answer
+  ends_spent objective ends slice h best is_best e same spent m =
+      least_spent order one every laws cuts are declared records model rule goal f options answer objective h.results h.whole best (of_results_best ends h best is_best) e
+      (any_of_results ends h.results h.of_results (subst (λ (rs : List LeastEnd). Any IsLeastSpent rs) same spent)) m
+
+  pub ends_nothing : (objective : model.goal ≢ Goal.Satisfy) (ends slice : List LeastEnd) → AreWholeEnds model options ends → (best : Option Assignment) → IsBestOf model.goal (flat_map least_collected ends) best →
+      answer.solutions ≡ listed best → slice ≡ ends → All (λ end. IsLeastSpent end → ⊥) slice → best ≡ None → answer.mark ≡ mark_for false answer.solutions Mark.Complete → IsGiven model options answer
+  ends_nothing objective ends slice h best is_best e same unspent none m =
+      least_nothing order one every laws cuts are declared records model rule goal f options answer objective h.results h.whole best (of_results_best ends h best is_best) e
+      (all_of_results ends h.results h.of_results (subst (λ (rs : List LeastEnd). All (λ end. IsLeastSpent end → ⊥) rs) same unspent)) none m
+
+  -- what is known of the best, if no search for the least cost was stopped
+  pub best_known : model.goal ≢ Goal.Satisfy → (ends slice : List LeastEnd) → AreWholeEnds model options ends → slice ≡ ends → All (λ end. IsLeastSpent end → ⊥) slice → (best : Assignment) →
+      IsFirstLeast model.goal (flat_map least_collected ends) best → IsBestKnown model options best
+  best_known objective ends slice h same unspent best is_best =
+      best_of_results objective h.results h.whole (all_of_results ends h.results h.of_results (subst (λ (rs : List LeastEnd). All (λ end. IsLeastSpent end → ⊥) rs) same unspent)) best
+      (of_results_best ends h (Some best) is_best)
 
   pub second_given : (objective : model.goal ≢ Goal.Satisfy) (cost : ℤ) (best : Assignment) → IsBestKnown model options best → cost_of model.goal best ≡ Some cost → (results slice : List FirstEnd) →
       AreFirstResults model options (cut_to model.goal cost (start_of model)) results → answer.solutions ≡ take 1 (flat_map first_collected results ++ best ∷ []) → slice ≡ results → (spent : Bool) →
@@ -291,5 +371,7 @@ module _ (order : InsideOrder) (one : OneList) (every : EveryList) (laws : PathL
       second_unspent order one every laws cuts are declared records model rule goal f options answer objective cost (known.least cost costs) best known.found (record { solves = known.solves; costs = costs }) results h e
       (subst (λ (rs : List FirstEnd). All (λ end. IsFirstSpent end → ⊥) rs) same u) complete
 
-  pub whole_solve : (results : List LeastEnd) → AreWholeResults model options results → All (IsSolution model) (flat_map least_collected results)
-  whole_solve results h = least_solve order laws cuts records model rule goal f options (start_of model) (start_can_be_cut order model rule f) (order.itself (start_of model)) h.are.posted results h.are.are
+  pub whole_solve : (ends : List LeastEnd) → AreWholeEnds model options ends → All (IsSolution model) (flat_map least_collected ends)
+  whole_solve ends h =
+      subst (All (IsSolution model)) (collected_same ends h.results h.of_results)
+      (least_solve order laws cuts records model rule goal f options (start_of model) (start_can_be_cut order model rule f) (order.itself (start_of model)) h.whole.are.posted h.results h.whole.are.are)

@@ -14,6 +14,7 @@ use Rattle.search.specs.Ends.{search_of, IsFirstEnd, IsAllEnd, posts_of}
 use Rattle.answer.specs.declared.plan.Plan.{Plan}
 use Rattle.answer.specs.Plans.{IsPlan, model_of, kernels_in}
 use Rattle.answer.specs.Places.{HasResult}
+use Rattle.answer.specs.Results.{first_of}
 use Rattle.answer.specs.Runs.{IsFirstRun, AreFirstRuns, AreAllRuns}
 use Rattle.answer.proofs.RunLists.{AllAmong, first_run_more, all_run_more}
 
@@ -35,13 +36,19 @@ module _ {L : Type 0} (plan : Plan L) (is : IsPlan plan) where
       HasResult model plan.options.depth plan.start.now (IsFirstRun model plan.options seen) number (FirstEnd.Done None)
   first_none number seen h = record { path = None; leads = plan_leads number None h; is_result = refl }
 
+  -- what ends a run of the search ends that of the number
+  first_ends_run : (number : ℕ) (seen : List ℕ) (sub : Bounds) (end : FirstEnd) → IsFirstEnd (first_of model plan.options sub) number seen end → IsFirstRun model plan.options seen number (Some sub) end
+  first_ends_run number seen sub (FirstEnd.Done answer) h = h
+  first_ends_run number seen sub (FirstEnd.Spent nodes why) h = h
+  first_ends_run number seen sub (FirstEnd.Cut lesser) h = (h.0, h.1)
+
   first_some : (number : ℕ) (seen : List ℕ) (sub : Bounds) (end : FirstEnd) → LeadsTo model (kernels_in plan) plan.options.depth plan.start.now number (Some sub) →
       IsFirstEnd (search_of model plan.run.now.program.now plan.run.now.node_limit plan.run.now.round_limit Kind.First sub) number seen end →
       HasResult model plan.options.depth plan.start.now (IsFirstRun model plan.options seen) number end
   first_some number seen sub end h k = record {
     path = Some sub;
     leads = plan_leads number (Some sub) h;
-    is_result = subst (λ (s : Search). IsFirstEnd s number seen end) (plan_search Kind.First [] sub) k;
+    is_result = first_ends_run number seen sub end (subst (λ (s : Search). IsFirstEnd s number seen end) (plan_search Kind.First [] sub) k);
   }
 
   -- a number that leads to nothing has no solution

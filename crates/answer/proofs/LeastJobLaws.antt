@@ -1,10 +1,11 @@
 -- One run for the least cost.
-use Rattle.std.proofs.Common.{◌≡◌, ◌≢◌, ℕ, ℤ, ◌-◌, ◌<◌, List, [], ◌∷◌, ◌++◌, length, reverse, get_or, Contains, Option, None, Some, refl, sym, ap, subst, ◌∙◌, ◌⊎◌, inl, inr, arith}
+use Rattle.std.proofs.Common.{◌≡◌, ◌≢◌, ℕ, ℤ, ◌-◌, ◌<◌, List, [], ◌∷◌, ◌++◌, length, reverse, get_or, Any, Contains, Option, None, Some, refl, sym, ap, subst, ◌∙◌, ◌⊎◌, inl, inr, arith}
 use Rattle.std.proofs.lemmas.List.{get_or-reverse, length-reverse}
 use Rattle.interval.specs.Boxes.{Bounds, IsInside, IsInRange}
 use Rattle.constraint_model.specs.declared.model.Goal.{Goal}
 use Rattle.constraint_model.specs.declared.model.FznModel.{FznModel}
-use Rattle.best_bound.specs.Lists.{Among, with_seen}
+use Rattle.constraint_model.specs.Relations.{cost_of}
+use Rattle.best_bound.specs.Lists.{Among}
 use Rattle.subproblems.specs.Paths.{LeadsTo}
 use Rattle.search.specs.declared.kind.Kind.{Kind}
 use Rattle.search.specs.declared.ends.Why.{Why}
@@ -31,13 +32,8 @@ turned_round xs x (k, l, e) =
     let same : length xs - 1 - j ≡ k = omega arith in
     (j, (let n = length-reverse xs in omega arith), get_or-reverse xs j x below ∙ ap (λ (i : ℕ). get_or xs i x) same ∙ e)
 
--- what was seen is among what is seen after a look
-pub still_seen : {A : Type 0} (o : Option A) (seen after : List A) → after ≡ with_seen o seen → AllAmong seen after
-still_seen {A} o seen after e x h = subst (λ (xs : List A). Among xs x) (sym e) (still o)
-  where
-    still : (o : Option A) → Among (with_seen o seen) x
-    still None = h
-    still (Some y) = inr h
+some_there : (xs : List Assignment) (a : Assignment) (P : Assignment → Type 0) → Contains xs a → P a → Any P xs
+some_there xs a P (k, l, e) h = (k, a, l, e, h)
 
 module _ (fall : CostsFall) (s : Search) (inside : IsInsideStart s) (least : s.kind ≡ Kind.Least) where
   fall_in : (state : State) (found : List Assignment) → Reached s state → found ≡ state.found → Falls s.model.goal found
@@ -56,16 +52,16 @@ module _ (fall : CostsFall) (s : Search) (inside : IsInsideStart s) (least : s.k
   last_given found (LeastEnd.Done answer) z h e = subst (λ (o : Option Assignment). Contains (listed o) z) (sym (h.1 ∙ e)) (0, omega arith, refl)
   last_given found (LeastEnd.Spent nodes why so_far) z h e = subst (λ (o : Option Assignment). Contains (listed o) z) (sym (h.1 ∙ e)) (0, omega arith, refl)
 
-  -- each cost that the run posts is one that its solution reaches
-  pub run_reaches : (objective : s.model.goal ≢ Goal.Satisfy) (before after : List ℤ) (end : LeastEnd) → IsLeastEnd s before after end → (cost : ℤ) → Among after cost →
-      Among before cost ⊎ ((a : Assignment) × Contains (least_collected end) a × CostsAtMost s.model.goal cost a)
+  -- each cost that the run posts is that of a solution that it recorded, and one that the solution which it gives reaches
+  pub run_reaches : (objective : s.model.goal ≢ Goal.Satisfy) (before after : List ℤ) (end : LeastEnd) (h : IsLeastEnd s before after end) → (cost : ℤ) → Among after cost →
+      Among before cost ⊎ (Any (λ a. cost_of s.model.goal a ≡ Some cost) h.found × Any (CostsAtMost s.model.goal cost) (least_collected end))
   run_reaches objective before after end h cost there =
       elim (among_cases h.posts.costs before cost (subst (λ (xs : List ℤ). Among xs cost) h.posts.posted there)) [
         | inr r ↦ inl r
         | inl l ↦
             let of_cost = cost_there s.model.goal h.found (reverse h.posts.costs) h.posts.each cost (turned_round h.posts.costs cost (among_contains h.posts.costs cost l)) in
             let z = last_least s.model.goal h.found cost (λ a. has_cost s.model.goal a objective) (fall_ends h.found end h.ends) of_cost.0 of_cost.1 of_cost.2 in
-            inr (z.0, last_given h.found end z.0 h.ends z.1, z.3)
+            inr (some_there h.found of_cost.0 (λ a. cost_of s.model.goal a ≡ Some cost) of_cost.1 of_cost.2, some_there (least_collected end) z.0 (CostsAtMost s.model.goal cost) (last_given h.found end z.0 h.ends z.1) z.3)
       ]
 
 module _ (more : MorePosted) (fall : CostsFall) {L : Type 0} (plan : Plan L) (is : IsPlan plan) (objective : (model_of plan).goal ≢ Goal.Satisfy) where
@@ -89,7 +85,7 @@ module _ (more : MorePosted) (fall : CostsFall) {L : Type 0} (plan : Plan L) (is
   pub least_run_none : (seen posted : List ℤ) (number : ℕ) (runs : List (ℕ × LeastEnd)) → LeadsTo model (kernels_in plan) plan.options.depth plan.start.now number None →
       AreLeastRuns model plan.options plan.start.now seen posted runs → AreLeastRuns model plan.options plan.start.now seen posted (runs ++ (number, LeastEnd.Done None) ∷ [])
   least_run_none seen posted number runs h k =
-      least_run_more more model plan.options plan.start.now seen seen posted posted runs number (LeastEnd.Done None) k (λ x there. there)
+      least_run_more more model plan.options plan.start.now seen seen posted posted runs number ([], LeastEnd.Done None) k (λ x there. there)
       (record { path = None; leads = plan_leads plan is number None h; is_result = (refl, tt) }) (λ cost there. inl there)
 
   pub least_run_some : (seen after posted posts : List ℤ) (number : ℕ) (sub : Bounds) (end : LeastEnd) (runs : List (ℕ × LeastEnd)) →
@@ -99,6 +95,6 @@ module _ (more : MorePosted) (fall : CostsFall) {L : Type 0} (plan : Plan L) (is
       AreLeastRuns model plan.options plan.start.now after posts (runs ++ (number, end) ∷ [])
   least_run_some seen after posted posts number sub end runs h i range all is_end covered k =
       let ends : IsLeastEnd (search after sub) posted posts end = subst (λ (s : Search). IsLeastEnd s posted posts end) (plan_search plan is Kind.Least after sub) is_end in
-      least_run_more more model plan.options plan.start.now seen after posted posts runs number end k all
-      (record { path = Some sub; leads = plan_leads plan is number (Some sub) h; is_result = ((ends.found, ends.ends), covered) })
+      least_run_more more model plan.options plan.start.now seen after posted posts runs number (ends.found, end) k all
+      (record { path = Some sub; leads = plan_leads plan is number (Some sub) h; is_result = (ends.ends, covered) })
       (run_reaches fall (search after sub) (inside_start after sub i range) refl objective posted posts end ends)

@@ -1,6 +1,7 @@
 -- What is known of the runs for the least cost stays as they grow, and as more costs are seen.
 use Rattle.std.proofs.Common.{◌≡◌, ℕ, zero, suc, ℤ, ◌≤ℤ◌, ◌<ℤ◌, List, [], ◌∷◌, ◌++◌, map, Any, Contains, AllPairs, Option, None, Some, refl, ap, subst, ◌∙◌, ◌⊎◌, inl, inr, arith}
 use Rattle.std.proofs.lemmas.Int.{ints}
+use Rattle.std.proofs.lemmas.List.{map-append}
 use Rattle.std.proofs.lemmas.List.Elements.{Contains-append_left, Contains-append_right, Contains-append_cases}
 use Rattle.interval.specs.Boxes.{Bounds}
 use Rattle.constraint_model.specs.declared.model.Goal.{Goal}
@@ -16,8 +17,8 @@ use Rattle.search.specs.LeastEnds.{least_of, last_of, EndsLeast, CostAtLeast}
 use Rattle.answer.specs.declared.options.Options.{Options}
 use Rattle.answer.specs.Lists.{Assignment}
 use Rattle.answer.specs.Places.{HasResult}
-use Rattle.answer.specs.Results.{program_of, IsLeastResult, least_collected, CostsAtMost}
-use Rattle.answer.specs.Runs.{IsCovered, IsLeastRun, AreLeastRuns}
+use Rattle.answer.specs.Results.{program_of, LeastResult, IsLeastResult, least_collected, CostsAtMost}
+use Rattle.answer.specs.Runs.{IsCovered, IsLeastRun, run_of, IsRecordedBy, IsReachedBy, AreLeastRuns}
 use Rattle.answer.proofs.RunLists.{AllAmong, among_left, among_right, among_cases, nothing_there, the_one, it_is_there, result_kept}
 
 -- ---- entries of lists
@@ -95,14 +96,23 @@ module _ (law : MorePosted) (s : Search) (more : List ℤ) (all : (cost : ℤ) �
   more_ends found (LeastEnd.Done answer) h = (more_done found h.0, h.1)
   more_ends found (LeastEnd.Spent nodes why so_far) h = (more_spent why nodes found h.0, h.1)
 
+-- no run was made yet
+pub no_least_runs : (model : FznModel) (options : Options) (b : Bounds) (seen posted : List ℤ) → posted ≡ [] → AreLeastRuns model options b seen posted []
+no_least_runs model options b seen posted e = record {
+  results = [];
+  of_runs = refl;
+  each = λ number result h. absurd (nothing_there (number, result) h);
+  recorded = λ cost h. let none : Among [] cost = subst (λ (xs : List ℤ). Among xs cost) e h in absurd none;
+  reached = λ cost h. let none : Among [] cost = subst (λ (xs : List ℤ). Among xs cost) e h in absurd none;
+}
+
 module _ (law : MorePosted) (model : FznModel) (options : Options) (b : Bounds) where
-  more_result : (seen more : List ℤ) → AllAmong seen more → (number : ℕ) (path : Option Bounds) (end : LeastEnd) → IsLeastResult model options seen number path end → IsLeastResult model options more number path end
-  more_result seen more all number None end h = h
-  more_result seen more all number (Some sub) end h = (
-    h.0,
-    more_ends law (least_of model (program_of model) options.node_limit options.round_limit seen sub) more
-        (λ cost there. among_contains more cost (all cost (contains_among seen cost there))) h.0 end h.1,
-  )
+  more_result : (seen more : List ℤ) → AllAmong seen more → (number : ℕ) (path : Option Bounds) (result : LeastResult) → IsLeastResult model options seen number path result →
+      IsLeastResult model options more number path result
+  more_result seen more all number None result h = h
+  more_result seen more all number (Some sub) result h =
+      more_ends law (least_of model (program_of model) options.node_limit options.round_limit seen sub) more
+      (λ cost there. among_contains more cost (all cost (contains_among seen cost there))) result.0 result.1 h
 
   more_at_least : (seen more : List ℤ) → AllAmong seen more → (sub : Bounds) → CostAtLeast model sub seen → CostAtLeast model sub more
   more_at_least seen more all sub h a cost solves costs = any_among (λ c. c ≤ℤ cost) seen more all (h a cost solves costs)
@@ -112,54 +122,60 @@ module _ (law : MorePosted) (model : FznModel) (options : Options) (b : Bounds) 
   more_covered seen more all (Some sub) (LeastEnd.Done answer) h = more_at_least seen more all sub h
   more_covered seen more all (Some sub) (LeastEnd.Spent nodes why so_far) h = tt
 
-  least_result_kept : (seen more : List ℤ) → AllAmong seen more → (number : ℕ) (end : LeastEnd) →
-      HasResult model options.depth b (IsLeastRun model options seen) number end → HasResult model options.depth b (IsLeastRun model options more) number end
+  least_result_kept : (seen more : List ℤ) → AllAmong seen more → (number : ℕ) (result : LeastResult) →
+      HasResult model options.depth b (IsLeastRun model options seen) number result → HasResult model options.depth b (IsLeastRun model options more) number result
   least_result_kept seen more all =
       result_kept model options.depth b (IsLeastRun model options seen) (IsLeastRun model options more)
-      (λ number path end h. (more_result seen more all number path end h.0, more_covered seen more all path end h.1))
+      (λ number path result h. (more_result seen more all number path result h.0, more_covered seen more all path result.1 h.1))
 
-  -- a run gives a solution that costs so much at most
-  abbrev IsReached : List (ℕ × LeastEnd) → ℤ → Type 0
-  IsReached runs cost = (number : ℕ) × (end : LeastEnd) × (a : Assignment) × Contains runs (number, end) × Contains (least_collected end) a × CostsAtMost model.goal cost a
+  -- what one of some runs recorded, or gives, one of more runs does
+  recorded_kept : (results more : List (ℕ × LeastResult)) (cost : ℤ) → ((run : ℕ × LeastResult) → Contains results run → Contains more run) → IsRecordedBy model.goal results cost → IsRecordedBy model.goal more cost
+  recorded_kept results more cost all h = record { number = h.number; result = h.result; there = all (h.number, h.result) h.there; recorded = h.recorded }
 
-  reached_left : (runs runs2 : List (ℕ × LeastEnd)) (cost : ℤ) → IsReached runs cost → IsReached (runs ++ runs2) cost
-  reached_left runs runs2 cost (number, end, a, there, here, costs) = (number, end, a, Contains-append_left runs runs2 (number, end) there, here, costs)
+  reached_kept : (results more : List (ℕ × LeastResult)) (cost : ℤ) → ((run : ℕ × LeastResult) → Contains results run → Contains more run) → IsReachedBy model.goal results cost → IsReachedBy model.goal more cost
+  reached_kept results more cost all h = record { number = h.number; result = h.result; there = all (h.number, h.result) h.there; reached = h.reached }
 
-  reached_right : (runs runs2 : List (ℕ × LeastEnd)) (cost : ℤ) → IsReached runs2 cost → IsReached (runs ++ runs2) cost
-  reached_right runs runs2 cost (number, end, a, there, here, costs) = (number, end, a, Contains-append_right runs runs2 (number, end) there, here, costs)
-
-  pub no_least_runs : (seen posted : List ℤ) → posted ≡ [] → AreLeastRuns model options b seen posted []
-  no_least_runs seen posted e = record {
-    each = λ number end h. absurd (nothing_there (number, end) h);
-    reached = λ cost h. let none : Among [] cost = subst (λ (xs : List ℤ). Among xs cost) e h in absurd none;
-  }
+  abbrev with_run : List (ℕ × LeastResult) → ℕ → LeastResult → List (ℕ × LeastResult)
+  with_run results number result = results ++ (number, result) ∷ []
 
   pub least_runs_joined : (seen seen2 posted posted2 : List ℤ) (runs runs2 : List (ℕ × LeastEnd)) → AreLeastRuns model options b seen posted runs → AreLeastRuns model options b seen2 posted2 runs2 →
       AreLeastRuns model options b (seen ++ seen2) (posted ++ posted2) (runs ++ runs2)
   least_runs_joined seen seen2 posted posted2 runs runs2 h k = record {
-    each = λ number end there. elim (Contains-append_cases runs runs2 (number, end) there) [
-      | inl l ↦ least_result_kept seen (seen ++ seen2) (among_left seen seen2) number end (h.each number end l)
-      | inr r ↦ least_result_kept seen2 (seen ++ seen2) (among_right seen seen2) number end (k.each number end r)
+    results = h.results ++ k.results;
+    of_runs = map-append run_of h.results k.results ∙ ap (λ rs. rs ++ map run_of k.results) h.of_runs ∙ ap (λ rs. runs ++ rs) k.of_runs;
+    each = λ number result there. elim (Contains-append_cases h.results k.results (number, result) there) [
+      | inl l ↦ least_result_kept seen (seen ++ seen2) (among_left seen seen2) number result (h.each number result l)
+      | inr r ↦ least_result_kept seen2 (seen ++ seen2) (among_right seen seen2) number result (k.each number result r)
+    ];
+    recorded = λ cost there. elim (among_cases posted posted2 cost there) [
+      | inl l ↦ recorded_kept h.results (h.results ++ k.results) cost (λ run here. Contains-append_left h.results k.results run here) (h.recorded cost l)
+      | inr r ↦ recorded_kept k.results (h.results ++ k.results) cost (λ run here. Contains-append_right h.results k.results run here) (k.recorded cost r)
     ];
     reached = λ cost there. elim (among_cases posted posted2 cost there) [
-      | inl l ↦ reached_left runs runs2 cost (h.reached cost l)
-      | inr r ↦ reached_right runs runs2 cost (k.reached cost r)
+      | inl l ↦ reached_kept h.results (h.results ++ k.results) cost (λ run here. Contains-append_left h.results k.results run here) (h.reached cost l)
+      | inr r ↦ reached_kept k.results (h.results ++ k.results) cost (λ run here. Contains-append_right h.results k.results run here) (k.reached cost r)
     ];
   }
 
-  pub least_run_more : (seen after posted posts : List ℤ) (runs : List (ℕ × LeastEnd)) (number : ℕ) (end : LeastEnd) → AreLeastRuns model options b seen posted runs → AllAmong seen after →
-      HasResult model options.depth b (IsLeastRun model options after) number end →
-      ((cost : ℤ) → Among posts cost → Among posted cost ⊎ ((a : Assignment) × Contains (least_collected end) a × CostsAtMost model.goal cost a)) →
-      AreLeastRuns model options b after posts (runs ++ (number, end) ∷ [])
-  least_run_more seen after posted posts runs number end h all own by = record {
-    each = λ other end2 there. elim (Contains-append_cases runs ((number, end) ∷ []) (other, end2) there) [
-      | inl l ↦ least_result_kept seen after all other end2 (h.each other end2 l)
-      | inr r ↦ let same : (number, end) ≡ (other, end2) = the_one (number, end) (other, end2) r in
-          subst (λ (run : ℕ × LeastEnd). HasResult model options.depth b (IsLeastRun model options after) run.0 run.1) same own
+  pub least_run_more : (seen after posted posts : List ℤ) (runs : List (ℕ × LeastEnd)) (number : ℕ) (result : LeastResult) → AreLeastRuns model options b seen posted runs → AllAmong seen after →
+      HasResult model options.depth b (IsLeastRun model options after) number result →
+      ((cost : ℤ) → Among posts cost → Among posted cost ⊎ (Any (λ a. cost_of model.goal a ≡ Some cost) result.0 × Any (CostsAtMost model.goal cost) (least_collected result.1))) →
+      AreLeastRuns model options b after posts (runs ++ (number, result.1) ∷ [])
+  least_run_more seen after posted posts runs number result h all own by = record {
+    results = with_run h.results number result;
+    of_runs = map-append run_of h.results ((number, result) ∷ []) ∙ ap (λ rs. rs ++ (number, result.1) ∷ []) h.of_runs;
+    each = λ other result2 there. elim (Contains-append_cases h.results ((number, result) ∷ []) (other, result2) there) [
+      | inl l ↦ least_result_kept seen after all other result2 (h.each other result2 l)
+      | inr r ↦ let same : (number, result) ≡ (other, result2) = the_one (number, result) (other, result2) r in
+          subst (λ (run : ℕ × LeastResult). HasResult model options.depth b (IsLeastRun model options after) run.0 run.1) same own
+    ];
+    recorded = λ cost there. elim (by cost there) [
+      | inl l ↦ recorded_kept h.results (with_run h.results number result) cost (λ run here. Contains-append_left h.results ((number, result) ∷ []) run here) (h.recorded cost l)
+      | inr k ↦ record { number = number; result = result; there = it_is_there h.results (number, result); recorded = k.0 }
     ];
     reached = λ cost there. elim (by cost there) [
-      | inl l ↦ reached_left runs ((number, end) ∷ []) cost (h.reached cost l)
-      | inr (a, here, costs) ↦ (number, end, a, it_is_there runs (number, end), here, costs)
+      | inl l ↦ reached_kept h.results (with_run h.results number result) cost (λ run here. Contains-append_left h.results ((number, result) ∷ []) run here) (h.reached cost l)
+      | inr k ↦ record { number = number; result = result; there = it_is_there h.results (number, result); reached = k.1 }
     ];
   }
 

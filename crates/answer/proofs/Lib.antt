@@ -7,6 +7,7 @@ pub mod SolveLaws
 pub mod OneFinished
 pub mod RunLists
 pub mod LeastRunLists
+pub mod Chosen
 pub mod CoverLaws
 pub mod BestLaws
 pub mod JobLaws
@@ -14,3 +15,6 @@ pub mod LeastJobLaws
 pub mod GivenLaws
 pub mod NumberLaws
 pub mod AnswerLaws
+pub mod FrontLaws
+pub mod GivesLaws
+pub mod OneLimited

@@ -15,7 +15,7 @@ use Rattle.answer.specs.Cuts.{cut_to}
 use Rattle.answer.specs.Lists.{Assignment, ListsInOrder}
 use Rattle.answer.specs.Finished.{IsFirst, AreAll, IsOptimal, Gives, IsFinished}
 
-same_answer : (a b : Answer) → a.solutions ≡ b.solutions → a.mark ≡ b.mark → a ≡ b
+pub same_answer : (a b : Answer) → a.solutions ≡ b.solutions → a.mark ≡ b.mark → a ≡ b
 same_answer a b e m = λ i. record { solutions = e i; mark = m i }
 
 both : (x y : ℤ) → x ≤ℤ y → y ≤ℤ x → x ≡ y
@@ -26,6 +26,11 @@ first_in a others = (0, omega arith, refl)
 
 heads : (a b : Assignment) (xs ys : List Assignment) → a ∷ xs ≡ b ∷ ys → a ≡ b
 heads a b xs ys e = cc
+
+-- one cost is the least
+pub same_cost : (model : FznModel) (cost other : ℤ) → IsLeastCost model cost → IsLeastCost model other → cost ≡ other
+same_cost model cost other h k =
+    both cost other (h.least k.some.assignment other k.some.solves k.some.costs) (k.least h.some.assignment cost h.some.solves h.some.costs)
 
 module _ (one : OneList) (model : FznModel) (rule : IsSearchOf model) where
   same_list : (b c : Bounds) (IsOne IsOther : Assignment → Type 0) (found others : List Assignment) → b ≡ c → ListsInOrder model b IsOne found → ListsInOrder model c IsOther others → found ≡ others
@@ -42,13 +47,9 @@ module _ (one : OneList) (model : FznModel) (rule : IsSearchOf model) where
       let e = same_list (start_of model) (start_of model) (IsSolution model) (IsSolution model) (h.first ∷ h.others) (k.first ∷ k.others) refl h.listed k.listed in
       same_answer a b (h.solutions ∙ e ∙ sym k.solutions) (h.mark ∙ sym k.mark)
 
-  same_cost : (cost other : ℤ) → IsLeastCost model cost → IsLeastCost model other → cost ≡ other
-  same_cost cost other h k =
-      both cost other (h.least k.some.assignment other k.some.solves k.some.costs) (k.least h.some.assignment cost h.some.solves h.some.costs)
-
   one_optimal : (a b : Answer) → IsOptimal model a → IsOptimal model b → a ≡ b
   one_optimal a b h k =
-      let cost = same_cost h.cost k.cost h.least k.least in
+      let cost = same_cost model h.cost k.cost h.least k.least in
       let e = same_list (cut_to model.goal h.cost (start_of model)) (cut_to model.goal k.cost (start_of model)) _ _ (h.first ∷ h.others) (k.first ∷ k.others)
       (ap (λ (c : ℤ). cut_to model.goal c (start_of model)) cost) h.listed k.listed in
       same_answer a b (h.solutions ∙ ap (λ (x : Assignment). x ∷ []) (heads h.first k.first h.others k.others e) ∙ sym k.solutions) (h.mark ∙ sym k.mark)

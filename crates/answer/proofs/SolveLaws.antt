@@ -22,7 +22,7 @@ use Rattle.search.specs.LeastEnds.{least_of, last_of}
 use Rattle.answer.specs.declared.options.Options.{Options}
 use Rattle.answer.specs.Lists.{Assignment}
 use Rattle.answer.specs.Places.{StandsAt, AreResults}
-use Rattle.answer.specs.Results.{program_of, listed, first_of, IsFirstResult, AreFirstResults, first_collected, all_of, IsAllResult, all_collected, IsLeastResult, least_collected}
+use Rattle.answer.specs.Results.{program_of, listed, first_of, IsFirstResult, AreFirstResults, first_collected, all_of, IsAllResult, all_collected, LeastResult, IsLeastResult, least_collected, collected_in}
 use Rattle.answer.proofs.AlongLaws.{all_in_each}
 use Rattle.answer.proofs.PathBoxes.{path_can}
 
@@ -112,19 +112,19 @@ module _ (order : InsideOrder) (laws : PathLaws) (cuts : CutLaws) (records : Rec
         all_in_each (IsSolution model) all_collected results
         (λ (j : ℕ) (r : AllEnd) (h : StandsAt results j r). let own = are.each j r h in all_solves j own.path r own.leads own.is_result)
 
-    least_solves : (posted : List ℤ) (number : ℕ) (path : Option Bounds) (r : LeastEnd) → LeadsTo model (kernels_of model) options.depth b number path →
-        IsLeastResult model options posted number path r → Solve (least_collected r)
-    least_solves posted number None r leads h = subst (λ (e : LeastEnd). Solve (least_collected e)) (sym h) (All-nil (IsSolution model))
-    least_solves posted number (Some sub) (LeastEnd.Done answer) leads h =
-        last_solves h.0 answer h.1.1
-        (done_solve (least_of model (program_of model) options.node_limit options.round_limit posted sub) h.0 refl
-        (inside_start Kind.Least options.node_limit options.round_limit posted sub (in_box number sub leads) (ranged number sub leads)) h.1.0)
-    least_solves posted number (Some sub) (LeastEnd.Spent nodes why so_far) leads h =
-        last_solves h.0 so_far h.1.1
-        (spent_solve (least_of model (program_of model) options.node_limit options.round_limit posted sub) why nodes h.0 refl
-        (inside_start Kind.Least options.node_limit options.round_limit posted sub (in_box number sub leads) (ranged number sub leads)) h.1.0)
+    least_solves : (posted : List ℤ) (number : ℕ) (path : Option Bounds) (found : List Assignment) (end : LeastEnd) → LeadsTo model (kernels_of model) options.depth b number path →
+        IsLeastResult model options posted number path (found, end) → Solve (least_collected end)
+    least_solves posted number None found end leads h = subst (λ (r : LeastResult). Solve (least_collected r.1)) (sym h) (All-nil (IsSolution model))
+    least_solves posted number (Some sub) found (LeastEnd.Done answer) leads h =
+        last_solves found answer h.1
+        (done_solve (least_of model (program_of model) options.node_limit options.round_limit posted sub) found refl
+        (inside_start Kind.Least options.node_limit options.round_limit posted sub (in_box number sub leads) (ranged number sub leads)) h.0)
+    least_solves posted number (Some sub) found (LeastEnd.Spent nodes why so_far) leads h =
+        last_solves found so_far h.1
+        (spent_solve (least_of model (program_of model) options.node_limit options.round_limit posted sub) why nodes found refl
+        (inside_start Kind.Least options.node_limit options.round_limit posted sub (in_box number sub leads) (ranged number sub leads)) h.0)
 
-    pub least_solve : (posted : List ℤ) (results : List LeastEnd) → AreResults model options.depth b (IsLeastResult model options posted) results → Solve (flat_map least_collected results)
+    pub least_solve : (posted : List ℤ) (results : List LeastResult) → AreResults model options.depth b (IsLeastResult model options posted) results → Solve (collected_in results)
     least_solve posted results are =
-        all_in_each (IsSolution model) least_collected results
-        (λ (j : ℕ) (r : LeastEnd) (h : StandsAt results j r). let own = are.each j r h in least_solves posted j own.path r own.leads own.is_result)
+        all_in_each (IsSolution model) (λ (r : LeastResult). least_collected r.1) results
+        (λ (j : ℕ) (r : LeastResult) (h : StandsAt results j r). let own = are.each j r h in least_solves posted j own.path r.0 r.1 own.leads own.is_result)

@@ -5,7 +5,13 @@ use Rattle.answer.specs.declared.options.Options.{Options}
 use Rattle.fzn_print.specs.declared.answers.Answer.{Answer}
 use Rattle.answer.specs.Finished.{IsFinished}
 use Rattle.answer.specs.Unfinished.{IsUnfinished}
+use Rattle.answer.specs.Unspent.{IsUnspentSearch}
+
+-- the answer of the whole search, where no limit stopped a part of it
+pub record IsWhole (model : FznModel) (options : Options) (answer : Answer) : Type 0 where
+  pub finished : IsFinished model options.all answer
+  pub unspent : IsUnspentSearch model options
 
 -- the answer of the whole search, or what is known where a limit stopped a part of it
 abbrev pub IsAnswer : FznModel → Options → Answer → Type 0
-IsAnswer model options answer = IsFinished model options.all answer ⊎ IsUnfinished model options answer
+IsAnswer model options answer = IsWhole model options answer ⊎ IsUnfinished model options answer

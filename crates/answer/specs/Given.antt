@@ -19,9 +19,10 @@ mark_for true given whole = mark_where given
 mark_for false [] whole = Mark.Unsatisfiable
 mark_for false (a ∷ others) whole = whole
 
--- the run is one, with the limits of the options
+-- the run is one, with the lanes and the limits of the options
 pub record IsSetUp {L : Type 0} (run : Run L) (options : Options) : Type 0 where
   pub is_run : IsRun run
+  pub lanes : run.lanes ≡ options.lanes
   pub node_limit : run.node_limit ≡ options.node_limit
   pub round_limit : run.round_limit ≡ options.round_limit
   pub depth : options.depth ≤ 16

@@ -26,13 +26,13 @@ Owns plan walk = IsWalkFrom (model_of plan) (kernels_in plan) plan.start.now wal
 
 -- ---- for the first solution
 
-abbrev pub FirstFits : {L : Type 0} → FirstJob L → FoundSeat → Type 0
+abbrev pub FirstFits : {L M : Type 0} → FirstJob L M → FoundSeat → Type 0
 FirstFits job seat = IsPlan job.plan.now × IsFoundSeatOf job.found.now seat
 
 abbrev pub FirstParts : FoundSeat → ℕ → Type 0
 FirstParts seat n = found_parts seat ≡ n
 
-abbrev pub FirstStands : {L : Type 0} → FirstJob L → FoundSeat → List (ℕ × FirstEnd) → Type 0
+abbrev pub FirstStands : {L M : Type 0} → FirstJob L M → FoundSeat → List (ℕ × FirstEnd) → Type 0
 FirstStands job seat runs = AreFirstRuns (model_of job.plan.now) job.plan.now.options job.plan.now.start.now (numbers_seen seat) (numbers_posted seat) runs
 
 -- ---- for all solutions

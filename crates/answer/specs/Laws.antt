@@ -1,8 +1,10 @@
 -- The laws of answers.
-use Rattle.std.specs.Prelude.{◌≡◌, ◌≢◌, ◌⊎◌, ◌≤◌, ℤ, Bool, false, List, [], ◌∷◌, length}
+use Rattle.std.specs.Prelude.{◌≡◌, ◌≢◌, ◌⊎◌, ◌≤◌, ℤ, Bool, true, false, List, [], ◌∷◌, length, All}
 use Rattle.constraint_model.specs.declared.model.Goal.{Goal}
 use Rattle.constraint_model.specs.declared.model.FznModel.{FznModel}
+use Rattle.constraint_model.specs.Relations.{IsSolution}
 use Rattle.constraint_model.specs.Searches.{IsSearchOf}
+use Rattle.constraint_model.specs.WellFormed.{IsWellFormed}
 use Rattle.solution_lists.specs.Order.{IsLeastSolution, IsPlainSearch}
 use Rattle.fzn_print.specs.declared.marks.Mark.{Mark}
 use Rattle.answer.specs.declared.options.Options.{Options}
@@ -10,16 +12,32 @@ use Rattle.fzn_print.specs.declared.answers.Answer.{Answer}
 use Rattle.answer.specs.Finished.{IsFinished}
 use Rattle.answer.specs.Unfinished.{IsUnfinished}
 use Rattle.answer.specs.Answers.{IsAnswer}
+use Rattle.answer.specs.Fronts.{ComeInFronts}
 
 -- a model has one finished answer
 abbrev pub OneFinished : Type 0
 OneFinished = (model : FznModel) (all : Bool) (answer other : Answer) → IsSearchOf model →
     IsFinished model all answer → IsFinished model all other → answer ≡ other
 
+-- a model without an objective has one answer where the limit on nodes alone is set, whatever it is
+abbrev pub OneLimited : Type 0
+OneLimited = (model : FznModel) (options : Options) (answer other : Answer) → IsWellFormed model → model.goal ≡ Goal.Satisfy → options.round_limit ≡ 0 →
+    IsAnswer model options answer → IsAnswer model options other → answer ≡ other
+
 -- one solution is given at most, but where all solutions are asked for
 abbrev pub GivesOne : Type 0
 GivesOne = (model : FznModel) (options : Options) (answer : Answer) → (model.goal ≢ Goal.Satisfy) ⊎ (options.all ≡ false) →
     IsAnswer model options answer → length answer.solutions ≤ 1
+
+-- whatever an answer gives solves the model, also where a limit stopped a search
+abbrev pub AnswersSolve : Type 0
+AnswersSolve = (model : FznModel) (options : Options) (answer : Answer) → IsWellFormed model → IsAnswer model options answer →
+    All (IsSolution model) answer.solutions
+
+-- where all solutions are asked for and a limit stopped a search, what is given of each part is a front of its list
+abbrev pub CollectsFronts : Type 0
+CollectsFronts = (model : FznModel) (options : Options) (answer : Answer) → IsWellFormed model → model.goal ≡ Goal.Satisfy → options.all ≡ true →
+    IsUnfinished model options answer → ComeInFronts model options answer.solutions
 
 -- where no solution is given the mark says that nothing is known, and where one is there is no mark: neither the one that the
 -- search is complete nor the one that no solution exists

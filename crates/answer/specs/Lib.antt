@@ -5,9 +5,11 @@ pub mod Finished
 pub mod Places
 pub mod Results
 pub mod Unfinished
+pub mod Unspent
 pub mod Answers
 pub mod Given
 pub mod Plans
 pub mod Runs
 pub mod Jobs
+pub mod Fronts
 pub mod Laws

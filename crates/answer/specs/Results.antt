@@ -13,7 +13,7 @@ use Rattle.search.specs.declared.ends.AllEnd.{AllEnd}
 use Rattle.search.specs.Machine.{Search}
 use Rattle.search.specs.Ends.{search_of, EndsSpent, IsFirstDone, IsAllEnd}
 use Rattle.search.specs.declared.ends.LeastEnd.{LeastEnd}
-use Rattle.search.specs.LeastEnds.{least_of, EndsLeast, IsCost}
+use Rattle.search.specs.LeastEnds.{least_of, EndsLeast}
 use Rattle.answer.specs.declared.options.Options.{Options}
 use Rattle.answer.specs.Lists.{Assignment}
 use Rattle.answer.specs.Places.{StandsAt, AreResults}
@@ -77,15 +77,23 @@ IsAllSpent (AllEnd.Spent nodes why found) = Unit {0}
 
 -- ---- for the least cost
 
--- an end of the limited search that may use these posted costs
-abbrev pub IsLeastResult : FznModel → Options → List ℤ → ℕ → Option Bounds → LeastEnd → Type 0
-IsLeastResult model options posted number None end = end ≡ LeastEnd.Done None
-IsLeastResult model options posted number (Some sub) end =
-    (found : List Assignment) × EndsLeast (least_of model (program_of model) options.node_limit options.round_limit posted sub) found end
+-- what a search recorded, and its end
+abbrev pub LeastResult : Type 0
+LeastResult = List Assignment × LeastEnd
 
+-- a result of the limited search that may use these posted costs
+abbrev pub IsLeastResult : FznModel → Options → List ℤ → ℕ → Option Bounds → LeastResult → Type 0
+IsLeastResult model options posted number None result = result ≡ ([], LeastEnd.Done None)
+IsLeastResult model options posted number (Some sub) result =
+    EndsLeast (least_of model (program_of model) options.node_limit options.round_limit posted sub) result.0 result.1
+
+-- the solutions that are collected of an end, and of results
 abbrev pub least_collected : LeastEnd → List Assignment
 least_collected (LeastEnd.Done answer) = listed answer
 least_collected (LeastEnd.Spent nodes why so_far) = listed so_far
+
+abbrev pub collected_in : List LeastResult → List Assignment
+collected_in results = flat_map (λ result. least_collected result.1) results
 
 abbrev pub IsLeastSpent : LeastEnd → Type 0
 IsLeastSpent (LeastEnd.Done answer) = ⊥
@@ -95,13 +103,8 @@ IsLeastSpent (LeastEnd.Spent nodes why so_far) = Unit {0}
 abbrev pub CostsAtMost : Goal → ℤ → Assignment → Type 0
 CostsAtMost goal most a = (cost : ℤ) × (cost_of goal a ≡ Some cost) × (cost ≤ℤ most)
 
--- a cost that the searches may have posted: that of a solution, and not below all that were collected
-pub record MayBePosted (model : FznModel) (collected : List Assignment) (cost : ℤ) : Type 0 where
-  pub is_cost : IsCost model cost
-  pub reached : Any (CostsAtMost model.goal cost) collected
-
--- the searches use costs that one of them posted
-pub record AreLeastResults (model : FznModel) (options : Options) (results : List LeastEnd) : Type 0 where
+-- the searches may use the costs of what one of them recorded
+pub record AreLeastResults (model : FznModel) (options : Options) (results : List LeastResult) : Type 0 where
   pub posted : List ℤ
-  pub may_be : (cost : ℤ) → Contains posted cost → MayBePosted model (flat_map least_collected results) cost
+  pub recorded : (cost : ℤ) → Contains posted cost → Any (λ result. Any (λ a. cost_of model.goal a ≡ Some cost) result.0) results
   pub are : AreResults model options.depth (start_of model) (IsLeastResult model options posted) results

@@ -9,14 +9,13 @@ use Rattle.constraint_model.specs.Relations.{cost_of}
 use Rattle.decompose.specs.Program.{start_of}
 use Rattle.search.specs.declared.ends.FirstEnd.{FirstEnd}
 use Rattle.search.specs.declared.ends.AllEnd.{AllEnd}
-use Rattle.search.specs.declared.ends.LeastEnd.{LeastEnd}
 use Rattle.fzn_print.specs.declared.marks.Mark.{Mark}
 use Rattle.answer.specs.declared.options.Options.{Options}
 use Rattle.fzn_print.specs.declared.answers.Answer.{Answer}
 use Rattle.answer.specs.Least.{IsLeastCost}
 use Rattle.answer.specs.Cuts.{cut_to}
 use Rattle.answer.specs.Lists.{Assignment}
-use Rattle.answer.specs.Results.{listed, AreFirstResults, first_collected, IsFirstSpent, AreAllResults, all_collected, IsAllSpent, AreLeastResults, least_collected, IsLeastSpent}
+use Rattle.answer.specs.Results.{listed, AreFirstResults, first_collected, IsFirstSpent, AreAllResults, all_collected, IsAllSpent, LeastResult, AreLeastResults, collected_in, IsLeastSpent}
 
 -- where nothing was collected the mark says that nothing is known
 abbrev pub mark_where : List Assignment → Mark
@@ -61,20 +60,20 @@ pub record AreAllCollected (model : FznModel) (options : Options) (answer : Answ
 
 -- a solution of least cost was asked for, and the least cost isn't known: the best one is given
 pub record IsBestCollected (model : FznModel) (options : Options) (answer : Answer) : Type 0 where
-  pub results : List LeastEnd
+  pub results : List LeastResult
   pub are : AreLeastResults model options results
-  pub spent : Any IsLeastSpent results
+  pub spent : Any (λ result. IsLeastSpent result.1) results
   pub best : Option Assignment
-  pub is_best : IsBestOf model.goal (flat_map least_collected results) best
+  pub is_best : IsBestOf model.goal (collected_in results) best
   pub solutions : answer.solutions ≡ listed best
   pub mark : answer.mark ≡ mark_where answer.solutions
 
 -- a search for the least cost that no limit stopped, and the best that it collected
 pub record FindsBest (model : FznModel) (options : Options) (best : Assignment) : Type 0 where
-  pub results : List LeastEnd
+  pub results : List LeastResult
   pub are : AreLeastResults model options results
-  pub unspent : All (λ result. IsLeastSpent result → ⊥) results
-  pub is_best : IsFirstLeast model.goal (flat_map least_collected results) best
+  pub unspent : All (λ result. IsLeastSpent result.1 → ⊥) results
+  pub is_best : IsFirstLeast model.goal (collected_in results) best
 
 -- the least cost is known, and the search for the first solution that costs so much was stopped: what that search collected
 -- at the least number is given, else the best that was known before

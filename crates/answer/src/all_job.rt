@@ -1,8 +1,9 @@
 //! The search of all subproblems for all solutions.
 
-ghost use Rattle.std.specs.Prelude.{◌<◌, [], IfOk};
+ghost use Rattle.std.specs.Prelude.{◌≡◌, ◌<◌, [], IfOk};
 ghost use Rattle.crew.specs.AtWork.{IsRun};
 ghost use Rattle.crew.specs.Ends.{AreEndsOf};
+ghost use Rattle.crew.specs.Crews.{workers_of};
 ghost use Rattle.answer.specs.Plans.{IsPlan, model_of};
 ghost use Rattle.answer.specs.Places.{AreResults};
 ghost use Rattle.answer.specs.Results.{IsAllResult};
@@ -77,8 +78,10 @@ fn run_each<R: Threads + Sync, C: CrewGate + Sync, L: Gate + Sync>(
     job: &AllJob<'_, L>,
     gate: &C,
 ) -> Result<ListOf<AllEnd>, NoMemory>
-    requires { IsPlan job.now.plan.now }
-    ensures { IfOk result (AreEndsOf (numbers_of job.now.plan.now) (AllStands job.now tt)) }
+    requires plan { IsPlan job.now.plan.now }
+    requires crew { workers_of crew.old ≡ job.now.plan.now.options.workers }
+    ensures ends { IfOk result (AreEndsOf (numbers_of job.now.plan.now) (AllStands job.now tt)) }
+    ensures crew { workers_of crew.new ≡ workers_of crew.old }
 {
     let run = |own: &mut Walk, _seat: &mut (), number: u32| -> Result<AllEnd, NoMemory>
         requires { (number < numbers_of job.now.plan.now) × Owns job.now.plan.now own.now × IsPlan job.now.plan.now }
@@ -98,8 +101,10 @@ pub(crate) fn all_ends<R: Threads + Sync, C: CrewGate + Sync, L: Gate + Sync>(
     plan: &Plan<'_, L>,
     gate: &C,
 ) -> Result<ListOf<AllEnd>, NoMemory>
-    requires { IsPlan plan.now }
-    ensures { IfOk result (AreResults (model_of plan.now) plan.now.options.depth plan.now.start.now (IsAllResult (model_of plan.now) plan.now.options)) }
+    requires plan { IsPlan plan.now }
+    requires crew { workers_of crew.old ≡ plan.now.options.workers }
+    ensures ends { IfOk result (AreResults (model_of plan.now) plan.now.options.depth plan.now.start.now (IsAllResult (model_of plan.now) plan.now.options)) }
+    ensures crew { workers_of crew.new ≡ workers_of crew.old }
 {
     let job = AllJob { plan: &*plan };
     let ends = run_each(rt, alloc, crew, &job, gate)?;

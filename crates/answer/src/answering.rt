@@ -5,6 +5,7 @@ ghost use Rattle.std.specs.Bool.{OnTrue, OnFalse};
 ghost use Rattle.constraint_model.specs.declared.model.Goal.TheVariants.{Satisfy};
 ghost use Rattle.constraint_model.specs.Relations.{cost_of, IsSolution};
 ghost use Rattle.constraint_model.specs.WellFormed.{IsWellFormed};
+ghost use Rattle.crew.specs.Crews.{workers_of};
 ghost use Rattle.answer.specs.Results.{listed};
 ghost use Rattle.answer.specs.Finished.{IsFinished};
 ghost use Rattle.answer.specs.Answers.{IsAnswer};
@@ -54,6 +55,7 @@ fn first_answer<R: Threads + Sync, C: CrewGate + Sync, L: Gate + Sync>(
     gate: &C,
 ) -> Result<Answer, NoMemory>
     requires set_up { IsSetUp run.now options }
+    requires crew { workers_of crew.old ≡ options.workers }
     requires satisfy { run.now.model.now.goal ≡ Satisfy }
     requires first { options.all ≡ false }
     ensures { IfOk result (IsGiven run.now.model.now options) }
@@ -88,6 +90,7 @@ fn all_answer<R: Threads + Sync, C: CrewGate + Sync, L: Gate + Sync>(
     gate: &C,
 ) -> Result<Answer, NoMemory>
     requires set_up { IsSetUp run.now options }
+    requires crew { workers_of crew.old ≡ options.workers }
     requires satisfy { run.now.model.now.goal ≡ Satisfy }
     requires all { options.all ≡ true }
     ensures { IfOk result (IsGiven run.now.model.now options) }
@@ -145,6 +148,7 @@ fn optimum<R: Threads + Sync, C: CrewGate + Sync, L: Gate + Sync>(
     best: ListOf<i64>,
 ) -> Result<Answer, NoMemory>
     requires set_up { IsSetUp run.now options }
+    requires crew { workers_of crew.old ≡ options.workers }
     requires objective { run.now.model.now.goal ≢ Satisfy }
     requires best { IsBestKnown run.now.model.now options best }
     ensures { IfOk result (IsGiven run.now.model.now options) }
@@ -181,6 +185,7 @@ fn least_answer<R: Threads + Sync, C: CrewGate + Sync, L: Gate + Sync>(
     gate: &C,
 ) -> Result<Answer, NoMemory>
     requires set_up { IsSetUp run.now options }
+    requires crew { workers_of crew.old ≡ options.workers }
     requires objective { run.now.model.now.goal ≢ Satisfy }
     ensures { IfOk result (IsGiven run.now.model.now options) }
 {
@@ -223,7 +228,8 @@ fn answer_of<R: Threads + Sync, C: CrewGate + Sync, L: Gate + Sync>(
     crew: &mut Workers,
     gate: &C,
 ) -> Result<Answer, NoMemory>
-    requires { IsSetUp run.now options }
+    requires set_up { IsSetUp run.now options }
+    requires crew { workers_of crew.old ≡ options.workers }
     ensures { IfOk result (IsGiven run.now.model.now options) }
 {
     match run.model.goal {
@@ -238,7 +244,7 @@ fn answer_of<R: Threads + Sync, C: CrewGate + Sync, L: Gate + Sync>(
     }
 }
 
-/// What may hold the workers and the lanes up. They change no answer.
+/// What may hold the workers and the lanes up. Each answer is lawful whatever they do; without limits they change none.
 #[derive(Drop)]
 pub struct Gates<'a, C, L> {
     /// Is passed by each worker before it asks for a number.

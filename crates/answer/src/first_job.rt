@@ -1,10 +1,12 @@
 //! The search of all subproblems for the first solution.
 
-ghost use Rattle.std.specs.Prelude.{◌<◌, [], IfOk};
+ghost use Rattle.std.specs.Prelude.{◌≡◌, ◌<◌, ◌↔◌, ℕ, [], IfOk};
 ghost use Rattle.crew.specs.AtWork.{IsRun};
 ghost use Rattle.crew.specs.Ends.{AreEndsOf};
+ghost use Rattle.crew.specs.Crews.{workers_of};
 ghost use Rattle.answer.specs.Plans.{IsPlan, model_of};
 ghost use Rattle.answer.specs.Results.{AreFirstResults};
+ghost use Rattle.answer.specs.Runs.{HasSolution};
 ghost use Rattle.answer.specs.Jobs.{numbers_of, Owns, FirstFits, FirstParts, FirstStands};
 
 use crate::plan::{Plan, numbers_to, subproblem};
@@ -15,26 +17,40 @@ use list_of::ListOf;
 use rounds::Gate;
 use search::{FirstEnd, run_first};
 use std::alloc::Global;
+use std::marker::{Brand, PhantomData};
 use std::thread::Threads;
 use subproblem_walk::Walk;
 
-/// Any number may be posted; which numbers were is known from the runs.
-pub(crate) struct AnyNumber;
+/// Which numbers lead to a solution, for contracts alone.
+pub(crate) trait OfParts {
+    ghost use Rattle.std.specs.Prelude.{ℕ};
 
-impl Numbers for AnyNumber {
+    ghost has_solution: { ℕ → Type 0 };
+}
+
+impl OfParts for Brand {
     ghost has_solution = { λ _. Unit {0} };
+}
+
+/// The same numbers, as what may be posted.
+pub(crate) struct NumbersOf<M> {
+    parts: PhantomData<M>,
+}
+
+impl<M: OfParts> Numbers for NumbersOf<M> {
+    ghost has_solution = { M.has_solution };
 }
 
 /// The runs share the least number of a subproblem that has a solution.
 #[derive(Drop)]
-pub(crate) struct FirstJob<'a, L> {
+pub(crate) struct FirstJob<'a, L, M: OfParts> {
     /// What is searched.
     pub(crate) plan: &'a Plan<'a, L>,
     /// The least number so far.
-    pub(crate) found: &'a Found<AnyNumber>,
+    pub(crate) found: &'a Found<NumbersOf<M>>,
 }
 
-impl<L> Job<FoundSeat, Walk, FirstEnd> for FirstJob<'_, L> {
+impl<L, M: OfParts> Job<FoundSeat, Walk, FirstEnd> for FirstJob<'_, L, M> {
     ghost use Rattle.answer.specs.Jobs.{numbers_of, Owns, FirstFits, FirstParts, FirstStands};
 
     ghost count = { λ job. numbers_of job.plan.now };
@@ -61,10 +77,10 @@ impl<L> Job<FoundSeat, Walk, FirstEnd> for FirstJob<'_, L> {
 }
 
 /// Searches the subproblem of a number for its first solution, unless a lesser number has one.
-fn run_number<R: Threads + Sync, L: Gate + Sync>(
+fn run_number<R: Threads + Sync, L: Gate + Sync, M: OfParts>(
     rt: &R,
     alloc: Global,
-    job: &FirstJob<'_, L>,
+    job: &FirstJob<'_, L, M>,
     own: &mut Walk,
     seat: &mut FoundSeat,
     number: u32,
@@ -72,6 +88,7 @@ fn run_number<R: Threads + Sync, L: Gate + Sync>(
     requires number { number < numbers_of job.now.plan.now }
     requires owns { Owns job.now.plan.now own.old }
     requires fits { FirstFits job.now seat.old }
+    requires numbers { (number : ℕ) → M.has_solution number ↔ HasSolution (model_of job.now.plan.now) job.now.plan.now.options.depth job.now.plan.now.start.now number }
     ensures { IsRun (FirstFits job.now) FirstParts (Owns job.now.plan.now) (FirstStands job.now) own.new seat.old seat.new number result }
 {
     match subproblem(alloc, job.plan, own, number)? {
@@ -84,27 +101,56 @@ fn run_number<R: Threads + Sync, L: Gate + Sync>(
 }
 
 /// Runs all numbers, each once.
-fn run_all<R: Threads + Sync, C: CrewGate + Sync, L: Gate + Sync>(
+fn run_all<R: Threads + Sync, C: CrewGate + Sync, L: Gate + Sync, M: OfParts + Sync>(
     rt: &R,
     alloc: Global,
     crew: &mut Workers,
-    job: &FirstJob<'_, L>,
+    job: &FirstJob<'_, L, M>,
     gate: &C,
     seat: &mut FoundSeat,
 ) -> Result<ListOf<FirstEnd>, NoMemory>
     requires fits { FirstFits job.now seat.old }
     requires parts { FirstParts seat.old 1024 }
     requires none { FirstStands job.now seat.old [] }
+    requires numbers { (number : ℕ) → M.has_solution number ↔ HasSolution (model_of job.now.plan.now) job.now.plan.now.options.depth job.now.plan.now.start.now number }
+    requires crew { workers_of crew.old ≡ job.now.plan.now.options.workers }
     ensures ends { IfOk result (AreEndsOf (numbers_of job.now.plan.now) (FirstStands job.now seat.new)) }
     ensures fits { FirstFits job.now seat.new }
     ensures parts { FirstParts seat.new 1024 }
+    ensures crew { workers_of crew.new ≡ workers_of crew.old }
 {
     let run = |own: &mut Walk, seat: &mut FoundSeat, number: u32| -> Result<FirstEnd, NoMemory>
-        requires { (number < numbers_of job.now.plan.now) × Owns job.now.plan.now own.now × FirstFits job.now seat.now }
+        requires { (number < numbers_of job.now.plan.now) × Owns job.now.plan.now own.now × FirstFits job.now seat.now × ((number : ℕ) → M.has_solution number ↔ HasSolution (model_of job.now.plan.now) job.now.plan.now.options.depth job.now.plan.now.start.now number) }
         ensures { IsRun (FirstFits job.entry.now) FirstParts (Owns job.entry.now.plan.now) (FirstStands job.entry.now) own.exit.now seat.entry.now seat.exit.now number result }
     { run_number(rt, alloc, job, own, seat, number) };
     let count = numbers_to(job.plan.options.depth);
     let ends = run_numbers(rt, alloc, crew, job, &run, count, gate, seat)?;
+    Ok(ends)
+}
+
+/// The same, where the test of numbers has a name.
+fn ends_of<R: Threads + Sync, C: CrewGate + Sync, L: Gate + Sync, M: OfParts + Sync>(
+    rt: &R,
+    alloc: Global,
+    crew: &mut Workers,
+    plan: &Plan<'_, L>,
+    gate: &C,
+    _parts: PhantomData<M>,
+) -> Result<ListOf<FirstEnd>, NoMemory>
+    requires plan { IsPlan plan.now }
+    requires numbers { (number : ℕ) → M.has_solution number ↔ HasSolution (model_of plan.now) plan.now.options.depth plan.now.start.now number }
+    requires crew { workers_of crew.old ≡ plan.now.options.workers }
+    ensures ends { IfOk result (AreFirstResults (model_of plan.now) plan.now.options plan.now.start.now) }
+    ensures crew { workers_of crew.new ≡ workers_of crew.old }
+{
+    let (found, mut seat) = Found::<NumbersOf<M>>::new(alloc)?;
+    let job = FirstJob {
+        plan: &*plan,
+        found: &found,
+    };
+    let ends = run_all(rt, alloc, crew, &job, gate, &mut seat)?;
+    // the look shows that all numbers that were seen were posted
+    found.seen(&mut seat);
     Ok(ends)
 }
 
@@ -116,16 +162,10 @@ pub(crate) fn first_ends<R: Threads + Sync, C: CrewGate + Sync, L: Gate + Sync>(
     plan: &Plan<'_, L>,
     gate: &C,
 ) -> Result<ListOf<FirstEnd>, NoMemory>
-    requires { IsPlan plan.now }
-    ensures { IfOk result (AreFirstResults (model_of plan.now) plan.now.options plan.now.start.now) }
+    requires plan { IsPlan plan.now }
+    requires crew { workers_of crew.old ≡ plan.now.options.workers }
+    ensures ends { IfOk result (AreFirstResults (model_of plan.now) plan.now.options plan.now.start.now) }
+    ensures crew { workers_of crew.new ≡ workers_of crew.old }
 {
-    let (found, mut seat) = Found::<AnyNumber>::new(alloc)?;
-    let job = FirstJob {
-        plan: &*plan,
-        found: &found,
-    };
-    let ends = run_all(rt, alloc, crew, &job, gate, &mut seat)?;
-    // the look shows that all numbers that were seen were posted
-    found.seen(&mut seat);
-    Ok(ends)
+    ends_of(rt, alloc, crew, plan, gate, PhantomData::<Brand>)
 }

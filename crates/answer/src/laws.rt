@@ -1,8 +1,13 @@
 //! Laws of answers, as functions that do nothing.
 
-ghost use Rattle.answer.specs.Laws.{OneFinished, GivesOne, UnfinishedMarks, GivesSmallest};
+ghost use Rattle.answer.specs.Laws.{OneFinished, OneLimited, GivesOne, AnswersSolve, CollectsFronts, UnfinishedMarks, GivesSmallest};
 
-use branching::law_one_list;
+use branching::{law_every_list, law_one_list};
+use decompose::law_some_program;
+use interval::law_inside_order;
+use search::{law_found_first, law_one_end, law_records_solutions};
+use solution_lists::{law_in_declaration_order, law_solutions_listed};
+use subproblems::{law_cuts, law_paths};
 
 /// A model has one finished answer.
 pub fn law_one_finished()
@@ -11,10 +16,47 @@ pub fn law_one_finished()
     law_one_list();
 }
 
+/// A model without an objective has one answer where no limit on rounds is set, whatever that on nodes is.
+pub fn law_one_limited_answer()
+    ensures { OneLimited }
+{
+    law_some_program();
+    law_inside_order();
+    law_one_list();
+    law_every_list();
+    law_paths();
+    law_solutions_listed();
+    law_in_declaration_order();
+    law_one_end();
+}
+
 /// One solution is given at most, but where all solutions are asked for.
 pub fn law_gives_one()
     ensures { GivesOne }
 {}
+
+/// Whatever an answer gives solves the model.
+pub fn law_answers_solve()
+    ensures { AnswersSolve }
+{
+    law_some_program();
+    law_inside_order();
+    law_paths();
+    law_cuts();
+    law_solutions_listed();
+    law_in_declaration_order();
+    law_records_solutions();
+}
+
+/// Where all solutions are asked for and a limit stopped a search, what is given of each part is a front of its list.
+pub fn law_collects_fronts()
+    ensures { CollectsFronts }
+{
+    law_some_program();
+    law_inside_order();
+    law_cuts();
+    law_found_first();
+}
 
 /// Where a limit stopped a search, the mark says neither that the search is complete nor that no solution exists.
 pub fn law_unfinished_marks()

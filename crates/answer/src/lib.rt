@@ -13,5 +13,8 @@ mod plan;
 
 pub use answering::{Gates, answer};
 pub use fzn_print::Answer;
-pub use laws::{law_gives_one, law_gives_smallest, law_one_finished, law_unfinished_marks};
+pub use laws::{
+    law_answers_solve, law_collects_fronts, law_gives_one, law_gives_smallest, law_one_finished,
+    law_one_limited_answer, law_unfinished_marks,
+};
 pub use options::Options;

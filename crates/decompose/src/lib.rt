@@ -13,4 +13,4 @@ mod start;
 mod sums;
 mod terms;
 
-pub use program::{Program, compile, law_one_program};
+pub use program::{Program, compile, law_one_program, law_some_program};

@@ -4,7 +4,8 @@ ghost use Rattle.std.specs.Prelude.{◌≡◌, IfOk};
 ghost use Rattle.constraint_model.specs.declared.model.FznModel.{FznModel};
 ghost use Rattle.constraint_model.specs.WellFormed.{IsWellFormed};
 ghost use Rattle.decompose.specs.declared.program.Program.{Program};
-ghost use Rattle.decompose.specs.Program.{IsProgramOf};
+ghost use Rattle.decompose.specs.Kernels.{kernels_of};
+ghost use Rattle.decompose.specs.Program.{IsProgramOf, start_of};
 
 use crate::constants::constant_set;
 use crate::kernels::kernels_of;
@@ -46,3 +47,10 @@ pub fn compile(alloc: Global, model: &FznModel) -> Result<Program, NoMemory>
 pub fn law_one_program()
     ensures { (model : FznModel) (p q : Program) → IsProgramOf model p → IsProgramOf model q → p ≡ q }
 {}
+
+/// A well-formed model has a program: its start and its kernels. It does nothing.
+pub fn law_some_program()
+    ensures { (model : FznModel) → IsWellFormed model → IsProgramOf model (record { start = start_of model; kernels = kernels_of model }) }
+{
+    law_table();
+}

@@ -3,8 +3,8 @@ use Rattle.guarded_tell.specs.declared.kernel.Kernel.{Kernel}
 use Rattle.moved_set.specs.Sets.{IsNaming}
 use Rattle.answer.proofs.answering.answer.Goals as goal
 
-pub answer_of-requires-after_bounds : goal.answer_of-requires-after_bounds
-answer_of-requires-after_bounds g c κs within = record {
+pub answer_of-requires-clause-set_up : goal.answer_of-requires-clause-set_up
+answer_of-requires-clause-set_up g c = λ lifetimes outlive. record {
   is_run = record {
     model = c.requires.model;
     program = c.in_ok-program.ensures;
@@ -15,6 +15,7 @@ answer_of-requires-after_bounds g c κs within = record {
     some_lanes = c.requires.some_lanes;
     most_lanes = c.requires.most_lanes;
   };
+  lanes = refl;
   node_limit = refl;
   round_limit = refl;
   depth = c.requires.depth;

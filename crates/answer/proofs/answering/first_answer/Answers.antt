@@ -13,5 +13,5 @@ returns g c =
     first_given c.law_inside_order.ensures c.law_one_list.ensures c.law_every_list.ensures c.law_paths.ensures c.law_cuts.ensures c.law_solutions_listed.ensures
     c.law_in_declaration_order.ensures c.law_records_solutions.ensures model is.is_run.model.search is.is_run.model.objective (is_program model run.program.now is.is_run.program) c.args.options
     (record { solutions = c.in_ok-solutions.solutions; mark = c.mark_of-mark.result }) c.in_ok-ends.ends c.as_slice.result.now
-    (subst (λ (b : Bounds). AreFirstResults model c.args.options b c.in_ok-ends.ends) is.is_run.program.start c.in_ok-ends.ensures) c.requires.satisfy c.requires.first
+    (subst (λ (b : Bounds). AreFirstResults model c.args.options b c.in_ok-ends.ends) is.is_run.program.start c.in_ok-ends.ensures.ends) c.requires.satisfy c.requires.first
     (c.in_ok-solutions.ensures ∙ c.first_of.ensures) c.as_slice.ensures c.is_any_spent-is_spent.result c.is_any_spent-is_spent.ensures.spent c.is_any_spent-is_spent.ensures.unspent c.mark_of-mark.ensures

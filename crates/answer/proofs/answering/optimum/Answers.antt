@@ -31,8 +31,8 @@ cut_to_value-requires-clause-bounds g c =
     let model = c.args.run.now.model.now in
     subst (λ (a : List ℤ). All IsBound a) (sym c.as_slice.ensures) (bounds_within c.args.best model.vars c.requires.set_up.is_run.model.vars c.requires.best.solves.within)
 
-pub first_ends-requires-after_bounds : goal.first_ends-requires-after_bounds
-first_ends-requires-after_bounds g c = λ lifetimes outlive.
+pub first_ends-requires-clause-plan : goal.first_ends-requires-clause-plan
+first_ends-requires-clause-plan g c = λ lifetimes outlive.
     let run = c.args.run.now in
     let is = c.requires.set_up in
     let cost = has_cost run.model.now.goal c.args.best c.requires.objective in
@@ -55,6 +55,6 @@ returns g c =
     second_given c.law_inside_order.ensures c.law_one_list.ensures c.law_every_list.ensures c.law_paths.ensures c.law_cuts.ensures c.law_solutions_listed.ensures
     c.law_in_declaration_order.ensures c.law_records_solutions.ensures model is.is_run.model.search is.is_run.model.objective (is_program model run.program.now is.is_run.program) c.args.options
     (record { solutions = c.in_ok-solutions.solutions; mark = c.second_mark-mark.result }) c.requires.objective cost.0 c.args.best c.requires.best cost.1 c.in_ok-ends.ends c.as_slice-2.result.now
-    (subst (λ (b : Bounds). AreFirstResults model c.args.options b c.in_ok-ends.ends) cut c.in_ok-ends.ensures)
+    (subst (λ (b : Bounds). AreFirstResults model c.args.options b c.in_ok-ends.ends) cut c.in_ok-ends.ensures.ends)
     (c.in_ok-solutions.ensures ∙ c.or_best.ensures (flat_map first_collected c.in_ok-ends.ends) c.first_of.ensures) c.as_slice-2.ensures
     c.is_any_spent-is_spent.result c.is_any_spent-is_spent.ensures.spent c.is_any_spent-is_spent.ensures.unspent c.second_mark-mark.ensures.spent c.second_mark-mark.ensures.unspent

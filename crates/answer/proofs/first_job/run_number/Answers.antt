@@ -1,9 +1,23 @@
-use Rattle.std.proofs.Common.{subst, ◌∙◌}
+use Rattle.std.proofs.Common.{List, Some, subst, ◌∙◌}
+use Rattle.guarded_tell.specs.declared.kernel.Kernel.{Kernel}
+use Rattle.branching.specs.Tree.{SolutionsIn}
 use Rattle.best_bound.specs.Seats.{numbers_seen, numbers_posted}
 use Rattle.subproblems.specs.Paths.{LeadsTo}
 use Rattle.answer.specs.Plans.{model_of, kernels_in}
-use Rattle.answer.proofs.JobLaws.{first_run_none, first_run_some}
+use Rattle.answer.proofs.JobLaws.{plan_leads, first_run_none, first_run_some}
 use Rattle.answer.proofs.first_job.run_number.Goals as goal
+
+pub run_first-requires-clause-solution : goal.run_first-requires-clause-solution
+run_first-requires-clause-solution g c = λ lifetimes outlive solutions listed some.
+    let plan = c.args.job.now.plan.now in
+    (c.requires.numbers c.args.number).1 (record {
+      sub = c.in-Some.sub;
+      leads = plan_leads plan c.requires.fits.0 c.args.number (Some c.in-Some.sub)
+          (subst (LeadsTo (model_of plan) (kernels_in plan) plan.options.depth plan.start.now c.args.number) c.in-Some.is c.in_ok-subproblem.ensures.path);
+      solutions = solutions;
+      listed = subst (λ (ks : List Kernel). SolutionsIn (model_of plan) ks c.in-Some.sub solutions) c.requires.fits.0.run.program.kernels listed;
+      some = some;
+    })
 
 pub returns-in-None : goal.returns-in-None
 returns-in-None g c =

@@ -51,10 +51,26 @@ fn around_words(alloc: Global) -> Result<AskedSet, NoMemory>
 #[test]
 fn kernels_are_found_around_the_ends_of_words(rt: HostRuntime) -> Result<(), Fail> {
     let asked = around_words(rt.alloc())?;
-    for (from, next) in [(0, 0), (1, 32), (33, 64), (65, 95), (96, 96), (97, 128), (129, 130)] {
+    for (from, next) in [
+        (0, 0),
+        (1, 32),
+        (33, 64),
+        (65, 95),
+        (96, 96),
+        (97, 128),
+        (129, 130),
+    ] {
         assert_eq!(rt; asked.next(from), next);
     }
-    for (to, last) in [(130, 129), (128, 97), (96, 96), (95, 65), (64, 33), (32, 1), (0, 0)] {
+    for (to, last) in [
+        (130, 129),
+        (128, 97),
+        (96, 96),
+        (95, 65),
+        (64, 33),
+        (32, 1),
+        (0, 0),
+    ] {
         assert_eq!(rt; asked.next_back(to), last);
     }
     Ok(())

@@ -12,6 +12,7 @@ use best_bound::{Best, BestSeat, Costs};
 use constraint_model::Goal;
 use gate::NoGate;
 use interval::{NoMemory, law_inside_order};
+use list_of::ListOf;
 use search::{LeastEnd, Run, Why, run_least};
 use std::alloc::Global;
 use std::marker::{Brand, PhantomData};
@@ -72,25 +73,31 @@ fn least<R: Threads + Sync, M: OfModel>(
 enum Expected {
     /// With this value, or with none.
     Done(Option<i64>),
-    /// By the limit after so many nodes, with nothing found.
-    Spent(u64),
+    /// By the limit after so many nodes, with this value found so far, or with none.
+    Spent(u64, Option<i64>),
+}
+
+/// Whether this is the value of a solution, if there is one.
+fn is_value(values: &Option<ListOf<i64>>, expected: Option<i64>) -> bool {
+    match (values, expected) {
+        (Some(values), Some(number)) => values.as_slice() == [number].as_slice(),
+        (None, None) => true,
+        _ => false,
+    }
 }
 
 /// Whether a search ended so.
 fn is_end(end: &LeastEnd, expected: Expected) -> bool {
     match (end, expected) {
-        (LeastEnd::Done(Some(values)), Expected::Done(Some(number))) => {
-            values.as_slice() == [number].as_slice()
-        }
-        (LeastEnd::Done(None), Expected::Done(None)) => true,
+        (LeastEnd::Done(values), Expected::Done(number)) => is_value(values, number),
         (
             LeastEnd::Spent {
                 nodes,
                 why: Why::Nodes,
-                so_far: None,
+                so_far,
             },
-            Expected::Spent(limit),
-        ) => *nodes == limit,
+            Expected::Spent(limit, number),
+        ) => *nodes == limit && is_value(so_far, number),
         _ => false,
     }
 }
@@ -132,9 +139,27 @@ fn the_least_value_is_found_and_posted(rt: HostRuntime) -> Result<(), Fail> {
     let searched = compile_text(rt.alloc(), "var 1..3: x; solve minimize x;")?;
     assert!(rt; has_objective(searched.model.goal));
     let table = [
-        (1, Expected::Spent(1), None),
+        (1, Expected::Spent(1, None), None),
         (0, Expected::Done(Some(1)), Some(1)),
         (0, Expected::Done(None), Some(1)),
+    ];
+    assert_ends(&rt, rt.alloc(), &searched, &table, PhantomData::<Brand>)?;
+    Ok(())
+}
+
+#[test]
+fn a_search_finds_less_than_its_seat_has_seen(rt: HostRuntime) -> Result<(), Fail> {
+    let searched = compile_text(
+        rt.alloc(),
+        "var 1..3: x; solve :: int_search([x], input_order, indomain_max, complete) minimize x;",
+    )?;
+    assert!(rt; has_objective(searched.model.goal));
+    // two nodes find the greatest value that is less than what was seen, and a third one isn't needed for the last of all
+    let table = [
+        (2, Expected::Spent(2, Some(3)), Some(3)),
+        (2, Expected::Spent(2, Some(2)), Some(2)),
+        (2, Expected::Done(Some(1)), Some(1)),
+        (2, Expected::Done(None), Some(1)),
     ];
     assert_ends(&rt, rt.alloc(), &searched, &table, PhantomData::<Brand>)?;
     Ok(())

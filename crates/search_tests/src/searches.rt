@@ -1,19 +1,21 @@
 //! Models of two variables, searched by hand for their first solution and for all.
 
-ghost use Rattle.std.specs.Prelude.{◌≤◌};
+ghost use Rattle.std.specs.Prelude.{◌≤◌, ◌<◌, IfOk};
+ghost use Rattle.interval.specs.Boxes.{IsInside};
 ghost use Rattle.best_bound.specs.Seats.{IsFoundSeatOf};
 ghost use Rattle.search_tests.specs.Models.{IsCompiled};
 
 use crate::models::{Compiled, compile_text};
 use best_bound::{Found, FoundSeat, Numbers};
 use gate::{Gate, NoGate};
-use interval::{NoMemory, law_inside_order};
+use interval::{BoxOf, NoMemory, law_inside_order};
 use list_of::ListOf;
 use search::{AllEnd, FirstEnd, Run, Why, run_all, run_first};
 use std::alloc::Global;
 use std::sync::atomic::{AtomicBool, Ordering};
 use std::test::Fail;
 use std::thread::Threads;
+use subproblems::path_box;
 
 /// Two solutions and no constraint.
 const FREE: &str = "var 1..2: x; var 0..0: y; solve satisfy;";
@@ -94,6 +96,33 @@ fn first<R: Threads + Sync>(
     Ok((end, found.seen(&mut seat)))
 }
 
+/// Searches a part of a model's start for all solutions.
+fn all_in<R: Threads + Sync, L: Gate + Sync>(
+    rt: &R,
+    alloc: Global,
+    searched: &Compiled,
+    sub: &BoxOf,
+    limits: Limits,
+    lanes: u32,
+    gate: &L,
+) -> Result<AllEnd, NoMemory>
+    requires compiled { IsCompiled searched.now.model searched.now.program searched.now.masks }
+    requires inside { IsInside sub.now searched.now.program.start }
+    requires some_lanes { 1 ≤ lanes }
+    requires most_lanes { lanes ≤ 64 }
+{
+    let run = Run {
+        model: &searched.model,
+        program: &searched.program,
+        masks: &searched.masks,
+        lanes,
+        node_limit: limits.0,
+        round_limit: limits.1,
+        gate,
+    };
+    run_all(rt, alloc, &run, sub)
+}
+
 /// Searches for all solutions.
 fn all<R: Threads + Sync, L: Gate + Sync>(
     rt: &R,
@@ -108,16 +137,28 @@ fn all<R: Threads + Sync, L: Gate + Sync>(
 {
     law_inside_order();
     let searched = compile_text(alloc, text)?;
-    let run = Run {
-        model: &searched.model,
-        program: &searched.program,
-        masks: &searched.masks,
+    all_in(
+        rt,
+        alloc,
+        &searched,
+        &searched.program.start,
+        limits,
         lanes,
-        node_limit: limits.0,
-        round_limit: limits.1,
         gate,
-    };
-    run_all(rt, alloc, &run, &searched.program.start)
+    )
+}
+
+/// One of the two subproblems into which a model's start is parted.
+fn part_of(alloc: Global, searched: &Compiled, number: u32) -> Result<BoxOf, NoMemory>
+    requires compiled { IsCompiled searched.now.model searched.now.program searched.now.masks }
+    requires number { number < 2 }
+    ensures { IfOk result (λ part. IsInside part searched.now.program.start) }
+{
+    let Compiled { model, program, .. } = searched;
+    match path_box(alloc, model, program, &program.start, 1, number)? {
+        Some(part) => Ok(part),
+        None => Err(NoMemory),
+    }
 }
 
 /// Whether these are the numbers of a solution, if there is one.
@@ -199,6 +240,24 @@ fn all_solutions_are_found_as_far_as_the_limits_go(rt: HostRuntime) -> Result<()
     for (text, limits, stop, expected) in table {
         let end = all(&rt, rt.alloc(), text, *limits, 1, &NoGate)?;
         assert!(rt; is_all(&end, *stop, expected), "at {limits:?} of {text}");
+    }
+    Ok(())
+}
+
+#[test]
+fn each_part_is_searched_alone(rt: HostRuntime) -> Result<(), Fail> {
+    let table: &[(&str, u32, &[[i64; 2]])] = &[
+        (FREE, 0, &[[1, 0]]),
+        (FREE, 1, &[[2, 0]]),
+        (BELOW, 0, &[[0, 1], [0, 2]]),
+        (BELOW, 1, &[[1, 2]]),
+    ];
+    for (text, number, expected) in table {
+        assert!(rt; *number < 2);
+        let searched = compile_text(rt.alloc(), text)?;
+        let part = part_of(rt.alloc(), &searched, *number)?;
+        let end = all_in(&rt, rt.alloc(), &searched, &part, (0, 0), 1, &NoGate)?;
+        assert!(rt; is_all(&end, None, expected), "in part {number} of {text}");
     }
     Ok(())
 }
@@ -299,5 +358,24 @@ fn a_lesser_number_cuts_a_search(rt: HostRuntime) -> Result<(), Fail> {
         assert!(rt; is_end(&end, expected), "as number {number}");
         assert_eq!(rt; found.seen(&mut other), Some(2));
     }
+    Ok(())
+}
+
+#[test]
+fn the_least_number_that_is_seen_cuts_a_search(rt: HostRuntime) -> Result<(), Fail> {
+    let searched = compile_text(rt.alloc(), FREE)?;
+    let (found, mut seat) = Found::<AnyNumber>::new(rt.alloc())?;
+    let mut other = found.split(&mut seat);
+    // the seat sees a greater number before a lesser one; a third number is posted when it has seen both
+    found.post(&mut other, 5);
+    assert_eq!(rt; found.seen(&mut seat), Some(5));
+    found.post(&mut other, 2);
+    assert_eq!(rt; found.seen(&mut seat), Some(2));
+    let end = first_of(&rt, rt.alloc(), &searched, (1, 0), 3, &found, &mut seat)?;
+    assert!(rt; is_end(&end, Expected::Cut(2)));
+    found.post(&mut other, 1);
+    let end = first_of(&rt, rt.alloc(), &searched, (1, 0), 3, &found, &mut seat)?;
+    assert!(rt; is_end(&end, Expected::Cut(1)));
+    assert_eq!(rt; found.seen(&mut other), Some(1));
     Ok(())
 }

@@ -40,7 +40,7 @@ module _ {L : Type 0} (plan : Plan L) (is : IsPlan plan) where
   first_ends_run : (number : ℕ) (seen : List ℕ) (sub : Bounds) (end : FirstEnd) → IsFirstEnd (first_of model plan.options sub) number seen end → IsFirstRun model plan.options seen number (Some sub) end
   first_ends_run number seen sub (FirstEnd.Done answer) h = h
   first_ends_run number seen sub (FirstEnd.Spent nodes why) h = h
-  first_ends_run number seen sub (FirstEnd.Cut lesser) h = (h.0, h.1)
+  first_ends_run number seen sub (FirstEnd.Cut lesser) h = (h.0, h.1.0)
 
   first_some : (number : ℕ) (seen : List ℕ) (sub : Bounds) (end : FirstEnd) → LeadsTo model (kernels_in plan) plan.options.depth plan.start.now number (Some sub) →
       IsFirstEnd (search_of model plan.run.now.program.now plan.run.now.node_limit plan.run.now.round_limit Kind.First sub) number seen end →

@@ -2,7 +2,7 @@
 #![tactic(auto)]
 
 /// Is called by each lane or worker before each of its steps: a lane's pass over a propagator, a worker's draw of a
-/// number. It can hold the caller up, and change no answer. All callers share it.
+/// number. It can hold the caller up; what the call says holds for every gate. All callers share it.
 pub trait Gate {
     /// The lane or worker of this number is about to begin a step. `turn` counts its steps from 0.
     fn pass(&self, number: u32, turn: u64);

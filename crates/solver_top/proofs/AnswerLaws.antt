@@ -5,11 +5,11 @@ use Rattle.constraint_model.specs.Searches.{IsSearchOf}
 use Rattle.command_line.specs.declared.words.Options.{Options}
 use Rattle.fzn_print.specs.declared.answers.Answer.{Answer}
 use Rattle.answer.specs.Finished.{IsFinished}
-use Rattle.answer.specs.Laws.{OneFinished}
+use Rattle.answer.specs.Laws.{OneFinished, UnfinishedMarks}
 use Rattle.fzn_print.specs.AnswerText.{answer_text}
 use Rattle.made_model.specs.Made.{summary}
 use Rattle.solver_top.specs.Texts.{IsTextOf}
-use Rattle.solver_top.specs.Answers.{HasNoLimit, IsAnswerOf, IsAnswerWith, IsLineOf, UnfinishedMarks, known_objective}
+use Rattle.solver_top.specs.Answers.{HasNoLimit, IsAnswerOf, IsAnswerWith, IsLineOf, known_objective}
 use Rattle.solver_top.proofs.KnownLaws.{known_is}
 
 module _ (one : (text : List ℕ) (m n : FznModel) → IsTextOf text m → IsTextOf text n → m ≡ n) (finished : OneFinished)

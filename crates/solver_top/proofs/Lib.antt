@@ -1,5 +1,4 @@
 pub mod AnswerLaws
 pub mod KnownLaws
-pub mod MarkLaws
 pub mod OutcomeLaws
 pub mod TextLaws

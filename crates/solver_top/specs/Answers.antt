@@ -1,10 +1,10 @@
 -- What is written of an answer.
 --
 -- Source: the FlatZinc chapter of the MiniZinc Handbook, its section on output. The line of a made text is this program's own.
-use Rattle.std.specs.Prelude.{◌≡◌, ◌≢◌, ◌⊎◌, ℕ, ℤ, List, [], ◌∷◌, ◌++◌, flat_map, Option, Some, None}
+use Rattle.std.specs.Prelude.{◌≡◌, ◌⊎◌, ℕ, ℤ, List, [], ◌∷◌, ◌++◌, flat_map, Option, Some, None, All}
 use Rattle.constraint_model.specs.declared.model.FznModel.{FznModel}
 use Rattle.constraint_model.specs.declared.model.Goal.{Goal}
-use Rattle.constraint_model.specs.Relations.{value}
+use Rattle.constraint_model.specs.Relations.{value, IsSolution}
 use Rattle.fzn_print.specs.AnswerText.{answer_text}
 use Rattle.fzn_print.specs.declared.marks.Mark.{Mark}
 use Rattle.command_line.specs.declared.words.Options.{Options}
@@ -13,7 +13,7 @@ use Rattle.fzn_print.specs.declared.answers.Answer.{Answer}
 use Rattle.answer.specs.Lists.{Assignment}
 use Rattle.answer.specs.Finished.{IsFinished}
 use Rattle.answer.specs.Unfinished.{IsUnfinished}
-use Rattle.answer.specs.Answers.{IsAnswer}
+use Rattle.answer.specs.Answers.{IsWhole, IsAnswer}
 use Rattle.made_model.specs.Made.{made, summary}
 use Rattle.solver_top.specs.Texts.{IsTextOf}
 
@@ -32,10 +32,11 @@ search_options o = record {
 abbrev pub HasNoLimit : Options → Type 0
 HasNoLimit o = (o.node_limit ≡ 0) × (o.round_limit ≡ 0)
 
--- an answer of the model, that of the whole search where no limit is set
+-- an answer of the model, that of the whole search where no limit is set; each solution that it gives solves the model
 pub record IsAnswerWith (options : Options) (model : FznModel) (answer : Answer) : Type 0 where
   pub is_answer : IsAnswer model (search_options options) answer
   pub whole : options.node_limit ≡ 0 → options.round_limit ≡ 0 → IsFinished model options.all answer
+  pub solve : All (IsSolution model) answer.solutions
 
 -- these bytes are an answer of the text's model
 pub record IsAnswerOf (options : Options) (text bytes : List ℕ) : Type 0 where
@@ -66,10 +67,11 @@ known_at _ objective = None
 abbrev pub known_objective : Goal → Answer → Option ℤ
 known_objective goal answer = known_at answer.mark (first_objective goal answer.solutions)
 
--- what is said of the objective: its number in the solution that is given, where the search came to its end, and else nothing
+-- what is said of the objective: its number in the solution that is given, where no limit stopped a part of the search, and else
+-- nothing
 abbrev pub IsKnown : FznModel → Options → Answer → Option ℤ → Type 0
 IsKnown model options answer objective =
-    (IsFinished model options.all answer × (objective ≡ first_objective model.goal answer.solutions))
+    (IsWhole model (search_options options) answer × (objective ≡ first_objective model.goal answer.solutions))
     ⊎ (IsUnfinished model (search_options options) answer × (objective ≡ None))
 
 -- these bytes are the line of the made text of `n` variables, and of an answer of its model
@@ -81,14 +83,3 @@ pub record IsLineOf (options : Options) (n : ℕ) (text bytes : List ℕ) : Type
   pub objective : Option ℤ
   pub known : IsKnown model options answer objective
   pub printed : bytes ≡ summary n objective
-
--- ---- the marks of an answer where a limit was spent
-
--- the mark says neither that the search is complete nor that no solution exists, and it says that nothing is known exactly
--- where no solution is given
-pub record IsMarkedOpen (answer : Answer) : Type 0 where
-  pub plain : answer.solutions ≢ [] → answer.mark ≡ Mark.Plain
-  pub unknown : answer.solutions ≡ [] → answer.mark ≡ Mark.Unknown
-
-abbrev pub UnfinishedMarks : Type 0
-UnfinishedMarks = (model : FznModel) (options : SearchOptions) (answer : Answer) → IsUnfinished model options answer → IsMarkedOpen answer

@@ -4,9 +4,9 @@ ghost use Rattle.std.specs.Prelude.{◌≡◌, ◌⊎◌, ℕ, List};
 ghost use Rattle.constraint_model.specs.declared.model.FznModel.{FznModel};
 ghost use Rattle.command_line.specs.declared.words.Options.{Options};
 ghost use Rattle.solver_top.specs.Texts.{IsTextOf, IsFaultOf};
-ghost use Rattle.solver_top.specs.Answers.{HasNoLimit, IsAnswerOf, IsLineOf, UnfinishedMarks};
+ghost use Rattle.solver_top.specs.Answers.{HasNoLimit, IsAnswerOf, IsLineOf};
 
-use answer::law_one_finished;
+use answer::{law_one_finished, law_unfinished_marks};
 use fzn_lexer::law_one_reading as law_one_lexing;
 use fzn_model::{law_one_model, law_well_formed};
 use fzn_parser::laws::law_one_reading as law_one_parsing;
@@ -34,8 +34,3 @@ pub fn law_one_answer()
     law_one_finished();
     law_unfinished_marks();
 }
-
-/// Where a limit was spent the mark of an answer is none, or that nothing is known. It does nothing.
-pub(crate) fn law_unfinished_marks()
-    ensures { UnfinishedMarks }
-{}

@@ -8,9 +8,10 @@ mod solving;
 mod status;
 mod top;
 
-pub use answer::Gates;
+pub use answer::{Answer, Gates, Options, answer};
 pub use gate::{Gate, NoGate};
 pub use laws::{law_one_answer, law_one_text};
+pub use made_model::made_text;
 pub use reader::{TextError, line_of, read_model};
 pub use status::{Status, report};
 pub use top::solve_main;

@@ -9,11 +9,10 @@ ghost use Rattle.solver_top.specs.Texts.{IsCause, IsTextOf, fault_line};
 ghost use Rattle.solver_top.specs.Answers.{IsAnswerOf, IsAnswerWith, IsLineOf, search_options};
 ghost use Rattle.solver_top.specs.Outcome.{CanOpen, IsAnswerOfInput, IsAnswerOfWords, IsFileAlone, IsFileCause, IsInputCause, IsTextCause, IsWordsCause, ReadsFile, WasAsked, told_text};
 
-use crate::laws::law_unfinished_marks;
 use crate::printing::known_objective;
 use crate::reader::{MOST_BYTES, TextError, line_of, read_model};
 use crate::status::Status;
-use answer::{Answer, Gates, answer};
+use answer::{Answer, Gates, answer, law_unfinished_marks};
 use command_line::{Config, Input, Options, WordsError, read_words};
 use fzn_io::{ReadError as FileError, Source, read_named};
 use fzn_model::{FaultKind, FznModel, law_well_formed};

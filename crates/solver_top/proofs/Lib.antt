@@ -1,4 +1,5 @@
 pub mod AnswerLaws
+pub mod MadeLaws
 pub mod KnownLaws
 pub mod OutcomeLaws
 pub mod TextLaws

@@ -1,6 +1,7 @@
 //! What the definitions say by themselves, as calls that do nothing.
 
 ghost use Rattle.std.specs.Prelude.{◌≡◌, ◌⊎◌, ℕ, List};
+ghost use Rattle.solver_top.specs.MadeTexts.{MadeLinesSayLeast, MadeTextsHaveModels, MadeTextsHaveNoFault};
 ghost use Rattle.constraint_model.specs.declared.model.FznModel.{FznModel};
 ghost use Rattle.command_line.specs.declared.words.Options.{Options};
 ghost use Rattle.solver_top.specs.Texts.{IsTextOf, IsFaultOf};
@@ -10,6 +11,7 @@ use answer::{law_one_finished, law_unfinished_marks};
 use fzn_lexer::law_one_reading as law_one_lexing;
 use fzn_model::{law_one_model, law_well_formed};
 use fzn_parser::laws::law_one_reading as law_one_parsing;
+use made_laws::law_made_has_a_model;
 
 /// Every text has one model or one fault, and never both. It does nothing.
 pub fn law_one_text()
@@ -21,6 +23,18 @@ pub fn law_one_text()
     law_one_lexing();
     law_one_parsing();
     law_one_model();
+}
+
+/// The made texts have models and no faults, so none is refused; and where no limit is set the line of each says the least cost
+/// of its model, and never that it is unknown. It does nothing.
+pub fn law_made_is_answered()
+    ensures model { MadeTextsHaveModels }
+    ensures no_fault { MadeTextsHaveNoFault }
+    ensures line { MadeLinesSayLeast }
+{
+    law_one_text();
+    law_made_has_a_model();
+    law_unfinished_marks();
 }
 
 /// Where no limit is set a text has at most one answer, whichever workers, lanes and parts search for it; and a made text has

@@ -10,7 +10,7 @@ mod top;
 
 pub use answer::{Answer, Gates, Options, answer};
 pub use gate::{Gate, NoGate};
-pub use laws::{law_one_answer, law_one_text};
+pub use laws::{law_made_is_answered, law_one_answer, law_one_text};
 pub use made_model::made_text;
 pub use reader::{TextError, line_of, read_model};
 pub use status::{Status, report};

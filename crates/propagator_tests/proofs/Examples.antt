@@ -9,7 +9,7 @@ use Rattle.std.specs.Prelude.{slice_index, slice_index_or}
 use Rattle.guarded_tell.specs.Words.{Lit}
 use Rattle.guarded_tell.specs.Words.{Tell}
 use Rattle.guarded_tell.specs.declared.kernel.Kernel.{Kernel}
-use Rattle.guarded_tell.specs.declared.kernel.Kernel.TheVariants.{Le, Eq, Times, Div, Mod, Abs, Max, Min, Clause, Element, InSet}
+use Rattle.guarded_tell.specs.declared.kernel.Kernel.TheVariants.{Le, Eq, Times, Div, Mod, Abs, Max, Min, Clause, Element, InSet, AllDiff, Cumulative}
 use Rattle.interval.specs.Limits.{IsBound, IsNumber, largest_number, box_limit}
 use Rattle.interval.specs.Boxes.{Bounds, IsInRange, IsProper, low_of, high_of}
 use Rattle.guarded_tell.specs.Words.{IsProperIn, AreVariables}
@@ -18,6 +18,8 @@ use Rattle.guarded_tell.specs.Extremes.{member_limit}
 use Rattle.guarded_tell.specs.Clause.{clause_vars, literal_limit}
 use Rattle.guarded_tell.specs.Literals.{literals_by_sign}
 use Rattle.guarded_tell.specs.InSet.{IsSet, range_limit}
+use Rattle.global_tells.specs.Ranges.{place_limit}
+use Rattle.global_tells.specs.Cumulative.{AreTasks, IsAmount}
 use Rattle.guarded_tell.specs.Hearing.{MayHearAll}
 use Rattle.guarded_tell.specs.Kernels.{vars_of, HasNumbers, IsKernel}
 
@@ -266,3 +268,44 @@ module _ (first middle last : ℤ) (h : AreEnds first middle last) where
     variables = subst (λ (v : ℕ). AreVariables 4 (v ∷ 1 ∷ [])) (sym z) (below_four (0 ∷ 1 ∷ []) refl);
     numbers = three_set;
   })
+
+-- ---- global constraints
+
+few_places : (n : ℕ) → n ≤ 9 → n ≤ place_limit
+unfolding place_limit
+few_places n h = omega arith
+
+pub different_made : (xs : List ℕ) → xs ≡ 0 ∷ 1 ∷ 2 ∷ [] → IsKernel 4 (AllDiff xs)
+unfolding vars_of HasNumbers
+different_made xs e = subst (λ (ys : List ℕ). IsKernel 4 (AllDiff ys)) (sym e) (record { variables = below_four (0 ∷ 1 ∷ 2 ∷ []) refl; numbers = few_places 3 (omega arith) })
+
+pub twice_made : (xs : List ℕ) → xs ≡ 0 ∷ 0 ∷ 1 ∷ [] → IsKernel 4 (AllDiff xs)
+unfolding vars_of HasNumbers
+twice_made xs e = subst (λ (ys : List ℕ). IsKernel 4 (AllDiff ys)) (sym e) (record { variables = below_four (0 ∷ 0 ∷ 1 ∷ []) refl; numbers = few_places 3 (omega arith) })
+
+pub none_different_made : (xs : List ℕ) → xs ≡ [] → IsKernel 4 (AllDiff xs)
+unfolding vars_of HasNumbers
+none_different_made xs e = subst (λ (ys : List ℕ). IsKernel 4 (AllDiff ys)) (sym e) (record { variables = below_four [] refl; numbers = few_places 0 (omega arith) })
+
+small_amount : (n : ℕ) → n ≤ 9 → IsAmount (pos n)
+unfolding largest_number
+small_amount n h = record { number = omega (arith, ints); positive = omega (arith, ints) }
+
+two_amounts : (m n : ℕ) → m ≤ 9 → n ≤ 9 → All IsAmount (pos m ∷ pos n ∷ [])
+two_amounts m n h k = All-cons IsAmount (pos m) (pos n ∷ []) (small_amount m h) (All-cons IsAmount (pos n) [] (small_amount n k) (All-nil IsAmount))
+
+two_tasks_are : AreTasks (0 ∷ 1 ∷ []) (pos 3 ∷ pos 2 ∷ []) (pos 2 ∷ pos 2 ∷ []) (pos 3)
+two_tasks_are = record {
+  a_duration_each = refl;
+  a_usage_each = refl;
+  short = few_places 2 (omega arith);
+  durations = two_amounts 3 2 (omega arith) (omega arith);
+  usages = two_amounts 2 2 (omega arith) (omega arith);
+  limit = small_amount 3 (omega arith);
+}
+
+pub two_tasks_made : (s : List ℕ) (d r : List ℤ) → s ≡ 0 ∷ 1 ∷ [] → d ≡ pos 3 ∷ pos 2 ∷ [] → r ≡ pos 2 ∷ pos 2 ∷ [] → IsKernel 4 (Cumulative s d r (pos 3))
+unfolding vars_of HasNumbers
+two_tasks_made s d r e f g =
+    let made : IsKernel 4 (Cumulative (0 ∷ 1 ∷ []) (pos 3 ∷ pos 2 ∷ []) (pos 2 ∷ pos 2 ∷ []) (pos 3)) = record { variables = below_four (0 ∷ 1 ∷ []) refl; numbers = two_tasks_are } in
+    subst (λ (x : List ℕ). IsKernel 4 (Cumulative x d r (pos 3))) (sym e) (subst (λ (y : List ℤ). IsKernel 4 (Cumulative (0 ∷ 1 ∷ []) y r (pos 3))) (sym f) (subst (λ (z : List ℤ). IsKernel 4 (Cumulative (0 ∷ 1 ∷ []) (pos 3 ∷ pos 2 ∷ []) z (pos 3))) (sym g) made))

@@ -23,7 +23,7 @@ pub type Pairs = [(i64, i64); 4];
 pub type Told = (u32, Side, i64);
 
 /// So many tells are kept.
-const MOST: usize = 16;
+const MOST: usize = 24;
 
 /// The tells that were heard, in order.
 #[derive(Clone, Copy)]

@@ -11,6 +11,8 @@ mod division;
 #[cfg(test)]
 mod four_variables;
 #[cfg(test)]
+mod global_constraints;
+#[cfg(test)]
 mod linear;
 #[cfg(test)]
 mod lists;

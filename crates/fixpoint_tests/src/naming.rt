@@ -188,22 +188,42 @@ fn are_found(kernels: &[Kernel], asked: &AskedSet, set: &MovedSet) -> bool
     agrees
 }
 
-/// Each variable alone, and each with another one.
+/// The first case in which the kernels that are asked aren't those that name a noted variable: each variable alone, and each
+/// with another one.
+fn first_missed(
+    kernels: &[Kernel],
+    masks: &Masks,
+    moved: &mut MovedSet,
+    asked: &mut AskedSet,
+) -> Option<u32>
+    requires kernels { All (IsKernel 200) kernels.now }
+    requires count { masks.now.count ≡ 200 }
+    requires sets { length masks.now.sets ≡ length kernels.now }
+    requires moved { length moved.old ≡ 200 }
+    requires asked { length asked.old ≡ length kernels.now }
+{
+    for k in 0..400 {
+        moved.clear();
+        asked.clear();
+        let v = (k / 2) % 200;
+        note(masks, moved, asked, v);
+        if k % 2 == 1 {
+            note(masks, moved, asked, (v * 7 + 3) % 200);
+        }
+        if !are_found(kernels, asked, moved) {
+            return Some(k);
+        }
+    }
+    None
+}
+
 #[test]
 fn kernels_of_shared_lists_are_found(rt: HostRuntime) -> Result<(), Fail> {
     let kernels = sharing_kernels(rt.alloc())?;
     let masks = Masks::new(rt.alloc(), kernels.as_slice(), 200)?;
     let mut moved = MovedSet::new(rt.alloc(), 200)?;
     let mut asked = AskedSet::new(rt.alloc(), kernels.len())?;
-    for k in 0..400 {
-        moved.clear();
-        asked.clear();
-        let v = (k / 2) % 200;
-        note(&masks, &mut moved, &mut asked, v);
-        if k % 2 == 1 {
-            note(&masks, &mut moved, &mut asked, (v * 7 + 3) % 200);
-        }
-        assert!(rt; are_found(kernels.as_slice(), &asked, &moved), "at {k}");
-    }
+    let missed = first_missed(kernels.as_slice(), &masks, &mut moved, &mut asked);
+    assert_eq!(rt; missed, None);
     Ok(())
 }

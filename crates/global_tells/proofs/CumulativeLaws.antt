@@ -40,7 +40,7 @@ sum_more_at f g r (k ∷ ks) (suc i) d l at h = let first = h 0 k (omega arith) 
 
 -- ---- the sure part
 
-sure_then : (b : Bounds) (t : ℤ) (k : Task) → is_sure_at b t k ≡ true → (high_of b k.start ≤ℤ t) × (t <ℤ (low_of b k.start +ℤ k.duration))
+pub sure_then : (b : Bounds) (t : ℤ) (k : Task) → is_sure_at b t k ≡ true → (high_of b k.start ≤ℤ t) × (t <ℤ (low_of b k.start +ℤ k.duration))
 unfolding is_sure_at
 sure_then b t k e = let p = and_parts (int_le (high_of b k.start) t) (int_lt t (low_of b k.start +ℤ k.duration)) e in let q = p.0 in let r = p.1 in (omega (arith, ints), omega (arith, ints))
 
@@ -55,7 +55,7 @@ usage_if : (b : Bounds) (t : ℤ) (k : Task) → is_sure_at b t k ≡ true → s
 unfolding sure_usage
 usage_if b t k e = ap (λ (s : Bool). cond s k.usage (pos 0)) e
 
-usage_else : (b : Bounds) (t : ℤ) (k : Task) → is_sure_at b t k ≡ false → sure_usage b t k ≡ pos 0
+pub usage_else : (b : Bounds) (t : ℤ) (k : Task) → is_sure_at b t k ≡ false → sure_usage b t k ≡ pos 0
 unfolding sure_usage
 usage_else b t k e = ap (λ (s : Bool). cond s k.usage (pos 0)) e
 

@@ -7,4 +7,6 @@ pub mod AllDifferentPlace
 pub mod TaskLaws
 pub mod CumulativeLaws
 pub mod CumulativePlace
+pub mod SetLaws
 pub mod QuietLaws
+pub mod FreeLaws

@@ -1,5 +1,7 @@
 -- What holds of each element of a list that is put together.
 use Rattle.std.proofs.Common.{◌≡◌, ℕ, zero, suc, ◌+◌, ◌<◌, List, [], ◌∷◌, ◌++◌, length, get_or, length-append, Bool, true, false, refl, subst, arith}
+use Rattle.std.proofs.Common.{◌≢◌, below_more, get_or-set_other, get_or-set_same}
+use Rattle.std.proofs.Math.ListN.{set}
 use Rattle.std.proofs.lemmas.List.{get_or_append_left, get_or-append-add}
 use Rattle.std.proofs.lemmas.List.Elements.{All-nil, All-append}
 use Rattle.std.specs.List.{All, flat_map}
@@ -52,3 +54,10 @@ module _ (P : Tell → Type 0) where
 
 pub All-none : {X : Type 0} (P : X → Type 0) → All P []
 All-none P = All-nil P
+
+-- what holds of the entries below a place, and of what is written there
+pub set_below : {X : Type 0} (d : X) (P : ℕ → X → Type 0) (xs : List X) (j : ℕ) (v : X) → j < length xs → ((k : ℕ) → k < j → P k (get_or xs k d)) → P j v → (k : ℕ) → k < j + 1 → P k (get_or (set xs j v) k d)
+set_below d P xs j v inside before here =
+    below_more (λ k. P k (get_or (set xs j v) k d)) j
+    (λ k h. let ne : k ≢ j = omega arith in rw get_or-set_other (before k h))
+    (rw get_or-set_same here)

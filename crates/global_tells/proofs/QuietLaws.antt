@@ -1,19 +1,86 @@
--- Where each place has more numbers than there are places, no range is full.
-use Rattle.std.proofs.Common.{◌≡◌, ℕ, ◌<◌, List, length, get_or, true, false, ℤ, pos, ◌+ℤ◌, ◌≤ℤ◌, ◌<ℤ◌, ⊎_elim, arith}
+-- Where each place has more numbers than there are places, no range is full; and where no range is overfull, and no other
+-- place has a low or a high in a full one, nothing is told.
+use Rattle.std.proofs.Common.{◌≡◌, ℕ, ◌<◌, List, [], ◌∷◌, length, get_or, Bool, true, false, not, ℤ, pos, bit_and, ◌+ℤ◌, ◌-ℤ◌, ◌≤ℤ◌, ◌<ℤ◌, ⊎_elim, sym, ap, ◌∙◌, arith}
 use Rattle.std.proofs.lemmas.Int.{ints}
-use Rattle.std.proofs.lemmas.Bool.{both_ways}
+use Rattle.std.proofs.lemmas.Bool.{and_parts, both_ways, not-true}
 use Rattle.std.proofs.lemmas.Bool.Decides.{Decides-int_eq}
 use Rattle.std.proofs.lemmas.List.Sums.{count_by-le-length}
 use Rattle.std.proofs.lemmas.List.Elements.{All-append}
-use Rattle.std.specs.Int.RustNames.{int_lt, int_le}
+use Rattle.std.specs.Int.RustNames.{int_lt, int_le, count_ones}
+use Rattle.std.specs.Prelude.{◌&&◌}
 use Rattle.std.specs.Ordering.{int_eq}
 use Rattle.std.specs.List.{All, flat_map}
 use Rattle.interval.specs.Boxes.{Bounds, low_of, high_of}
-use Rattle.tells.specs.Words.{when, Keeps}
-use Rattle.global_tells.specs.Ranges.{none_tells}
+use Rattle.tells.specs.Words.{when, Keeps, low_tell, high_tell}
+use Rattle.global_tells.specs.declared.places.Places.{Places}
+use Rattle.global_tells.specs.Ranges.{is_from_to, none_tells}
+use Rattle.global_tells.specs.Places.{mask_of, places_from, places_to, IsWithin}
 use Rattle.global_tells.specs.AllDifferent.{is_inside, places_inside, outside_tells, numbers_between, range_tells, all_different_tells}
 use Rattle.global_tells.proofs.Lists.{All-flat_map, All-when}
 use Rattle.global_tells.proofs.AllDifferentLaws.{some_or_none, count_none, inside_then}
+use Rattle.global_tells.proofs.SetLaws.{both_of, count_of, same_members}
+
+module _ (b : Bounds) (xs : List ℕ) (low high : ℤ) where
+  -- a place that has other numbers has neither its low nor its high in the range
+  abbrev pub HasNoEnd : ℕ → Type 0
+  HasNoEnd x = is_inside b low high x ≡ false → (is_from_to low high (low_of b x) ≡ true → ⊥) × (is_from_to low high (high_of b x) ≡ true → ⊥)
+
+  others_quiet : ((k : ℕ) → k < length xs → HasNoEnd (get_or xs k 0)) → All (Keeps b) (flat_map (outside_tells b low high) xs)
+  others_quiet no_end = All-flat_map (Keeps b) (outside_tells b low high) xs 0 (λ k h.
+      let x = get_or xs k 0 in
+      All-when (Keeps b) (not (is_inside b low high x)) _ (λ is_out.
+      let no = no_end k h (not-true _ is_out) in
+      All-append (Keeps b) (when (is_from_to low high (low_of b x)) (low_tell x (high +ℤ pos 1) ∷ [])) (when (is_from_to low high (high_of b x)) (high_tell x (low -ℤ pos 1) ∷ []))
+      (All-when (Keeps b) (is_from_to low high (low_of b x)) _ (λ t. absurd (no.0 t)))
+      (All-when (Keeps b) (is_from_to low high (high_of b x)) _ (λ t. absurd (no.1 t)))))
+
+  pub quiet_where : (int_le low high ≡ true → int_lt (numbers_between low high) (pos (places_inside b low high xs)) ≡ true → ⊥)
+      → (int_le low high ≡ true → int_eq (pos (places_inside b low high xs)) (numbers_between low high) ≡ true → (k : ℕ) → k < length xs → HasNoEnd (get_or xs k 0))
+      → All (Keeps b) (range_tells xs b low high)
+  quiet_where not_over full =
+      let n = places_inside b low high xs in
+      All-when (Keeps b) (int_le low high) _ (λ t.
+      All-append (Keeps b) (when (int_lt (numbers_between low high) (pos n)) (none_tells xs)) (when (int_eq (pos n) (numbers_between low high)) (flat_map (outside_tells b low high) xs))
+      (All-when (Keeps b) (int_lt (numbers_between low high) (pos n)) (none_tells xs) (λ over. absurd (not_over t over)))
+      (All-when (Keeps b) (int_eq (pos n) (numbers_between low high)) (flat_map (outside_tells b low high) xs) (λ f. others_quiet (full t f))))
+
+  module _ (from upto : Places) (e : from ≡ places_from b low xs) (f : upto ≡ places_to b high xs) where
+    inside_set : bit_and from.lows upto.highs ≡ mask_of (is_inside b low high) xs
+    unfolding is_inside
+    inside_set = (λ i. bit_and ((e i).lows) ((f i).highs)) ∙ both_of (λ x. int_le low (low_of b x)) (λ x. int_le (high_of b x) high) xs
+
+    lows_set : bit_and from.lows upto.lows ≡ mask_of (λ x. is_from_to low high (low_of b x)) xs
+    unfolding is_from_to
+    lows_set = (λ i. bit_and ((e i).lows) ((f i).lows)) ∙ both_of (λ x. int_le low (low_of b x)) (λ x. int_le (low_of b x) high) xs
+
+    highs_set : bit_and from.highs upto.highs ≡ mask_of (λ x. is_from_to low high (high_of b x)) xs
+    unfolding is_from_to
+    highs_set = (λ i. bit_and ((e i).highs) ((f i).highs)) ∙ both_of (λ x. int_le low (high_of b x)) (λ x. int_le (high_of b x) high) xs
+
+    count_inside : count_ones (bit_and from.lows upto.highs) ≡ places_inside b low high xs
+    unfolding places_inside
+    count_inside = ap count_ones inside_set ∙ count_of (is_inside b low high) xs
+
+    -- where a set is within the range's places, its members are places inside
+    members : (test : ℕ → Bool) (set : ℕ) → set ≡ mask_of test xs → IsWithin set (bit_and from.lows upto.highs) → (k : ℕ) → k < length xs → is_inside b low high (get_or xs k 0) ≡ false → test (get_or xs k 0) ≡ true → ⊥
+    members test set is within k h out t =
+        let same : mask_of test xs ≡ mask_of (λ x. test x && is_inside b low high x) xs =
+        sym is ∙ sym within ∙ (λ i. bit_and (is i) (inside_set i)) ∙ both_of test (is_inside b low high) xs in
+        let x = get_or xs k 0 in
+        let both = same_members test (λ x. test x && is_inside b low high x) xs same k h t in
+        both_ways _ out (and_parts (test x) (is_inside b low high x) both).1
+
+    pub sets_quiet : (n : ℕ) → n ≡ count_ones (bit_and from.lows upto.highs) → int_lt (numbers_between low high) (pos n) ≡ false
+        → (int_eq (pos n) (numbers_between low high) ≡ true
+        → IsWithin (bit_and from.lows upto.lows) (bit_and from.lows upto.highs) × IsWithin (bit_and from.highs upto.highs) (bit_and from.lows upto.highs))
+        → All (Keeps b) (range_tells xs b low high)
+    sets_quiet n is not_over full =
+        let count : n ≡ places_inside b low high xs = is ∙ count_inside in
+        quiet_where
+        (λ t over. both_ways _ not_over (ap (λ (m : ℕ). int_lt (numbers_between low high) (pos m)) count ∙ over))
+        (λ t is_full k h out.
+        let within = full (ap (λ (m : ℕ). int_eq (pos m) (numbers_between low high)) count ∙ is_full) in
+        (members (λ x. is_from_to low high (low_of b x)) _ lows_set within.0 k h out, members (λ x. is_from_to low high (high_of b x)) _ highs_set within.1 k h out))
 
 module _ (b : Bounds) (xs : List ℕ) (wide : (i : ℕ) → i < length xs → (low_of b (get_or xs i 0) +ℤ pos (length xs)) ≤ℤ high_of b (get_or xs i 0)) where
   few_inside : (low high : ℤ) → low ≤ℤ high → pos (places_inside b low high xs) <ℤ numbers_between low high
@@ -38,13 +105,9 @@ module _ (b : Bounds) (xs : List ℕ) (wide : (i : ℕ) → i < length xs → (l
   not_full n numbers less e = let same = (Decides-int_eq n numbers).0 e in omega (arith, ints)
 
   range_quiet : (low high : ℤ) → All (Keeps b) (range_tells xs b low high)
-  range_quiet low high =
-      let n = places_inside b low high xs in
-      All-when (Keeps b) (int_le low high) _ (λ t.
-      let few = few_inside low high (omega (arith, ints)) in
-      All-append (Keeps b) (when (int_lt (numbers_between low high) (pos n)) (none_tells xs)) (when (int_eq (pos n) (numbers_between low high)) (flat_map (outside_tells b low high) xs))
-      (All-when (Keeps b) (int_lt (numbers_between low high) (pos n)) (none_tells xs) (λ over. absurd (not_over (pos n) (numbers_between low high) few over)))
-      (All-when (Keeps b) (int_eq (pos n) (numbers_between low high)) (flat_map (outside_tells b low high) xs) (λ full. absurd (not_full (pos n) (numbers_between low high) few full))))
+  range_quiet low high = quiet_where b xs low high
+      (λ t over. not_over _ _ (few_inside low high (omega (arith, ints))) over)
+      (λ t full. absurd (not_full _ _ (few_inside low high (omega (arith, ints))) full))
 
   pub wide_quiet : All (Keeps b) (all_different_tells xs b)
   wide_quiet = All-flat_map (Keeps b) (λ x. flat_map (λ y. range_tells xs b (low_of b x) (high_of b y)) xs) xs 0 (λ i h.

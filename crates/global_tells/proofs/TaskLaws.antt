@@ -1,7 +1,5 @@
 -- The tasks of three lists, place by place.
 use Rattle.std.proofs.Common.{◌≡◌, ℕ, zero, suc, ◌+◌, ◌<◌, ◌≤◌, ◌+ℤ◌, ◌<ℤ◌, unsigned_abs, Bool, true, false, not, take, add-one, sym, ◌∙◌, List, [], ◌∷◌, length, map, get_or, ℤ, pos, ◌≤ℤ◌, to_z, of_z, refl, ap, arith}
-use Rattle.std.proofs.Common.{◌≢◌, below_more, get_or-set_other, get_or-set_same}
-use Rattle.std.proofs.Math.ListN.{set}
 use Rattle.std.proofs.lemmas.Int.{ints}
 use mir.Syntax.{w64}
 use Rattle.interval.specs.Limits.{largest_number}
@@ -119,10 +117,3 @@ sum_all f [] zero h = refl
 sum_all f [] (suc i) h = refl
 sum_all f (k ∷ ks) zero h = absurd (omega arith)
 sum_all f (k ∷ ks) (suc i) h = ap (λ (z : ℤ). f k +ℤ z) (sum_all f ks i (omega arith))
-
--- what holds of the entries below a place, and of what is written there
-pub set_below : (P : ℕ → ℤ → Type 0) (xs : List ℤ) (j : ℕ) (v : ℤ) → j < length xs → ((k : ℕ) → k < j → P k (get_or xs k (pos 0))) → P j v → (k : ℕ) → k < j + 1 → P k (get_or (set xs j v) k (pos 0))
-set_below P xs j v inside before here =
-    below_more (λ k. P k (get_or (set xs j v) k (pos 0))) j
-    (λ k h. let ne : k ≢ j = omega arith in rw get_or-set_other (before k h))
-    (rw get_or-set_same here)

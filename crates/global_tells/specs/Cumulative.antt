@@ -75,6 +75,11 @@ pub record AreUsedAtStarts (tasks : Tasks) (b : Bounds) (used : List ℤ) : Type
       → slice_index_or used j (pos 0) ≡ usage_at (tasks_in tasks) b (high_of b (slice_index tasks.starts.now j))
   pub in_range : (j : ℕ) → j < length tasks.starts.now → unsigned_abs (slice_index_or used j (pos 0)) ≤ usage_limit
 
+-- the task isn't sure to be under way at any time, and there is enough for it alone
+pub record IsFree (limit : ℤ) (b : Bounds) (k : Task) : Type 0 where
+  pub enough : k.usage ≤ℤ limit
+  pub unsure : (low_of b k.start +ℤ k.duration) ≤ℤ high_of b k.start
+
 -- more is used than there is
 abbrev pub overload_tells : List Task → ℤ → Bounds → ℤ → List Tell
 overload_tells tasks limit b t = when (int_lt limit (usage_at tasks b t)) (none_tells (map (λ k. k.start) tasks))

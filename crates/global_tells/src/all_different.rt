@@ -17,9 +17,11 @@ use tells::{Hear, high_tell, low_tell};
 
 /// A range of numbers, from the low of one variable to the high of another.
 #[derive(Clone, Copy)]
-struct Ends {
-    first: u32,
-    last: u32,
+pub struct Ends {
+    /// The one whose low begins it.
+    pub first: u32,
+    /// The one whose high ends it.
+    pub last: u32,
 }
 
 /// Gives the tells of: no two places of the list have the same number, to `h`, in order. It takes no memory.
@@ -67,7 +69,7 @@ fn tell_range<H: Hear>(xs: &[u32], ends: Ends, b: &BoxOf, h: &mut H)
 }
 
 /// Whether the range doesn't end before it begins.
-fn has_numbers(ends: Ends, b: &BoxOf) -> bool
+pub fn has_numbers(ends: Ends, b: &BoxOf) -> bool
     requires first { ends.first < length b.now }
     requires last { ends.last < length b.now }
     ensures { result ≡ int_le (low_of b.now ends.first) (high_of b.now ends.last) }
@@ -154,7 +156,7 @@ fn tell_full<H: Hear>(xs: &[u32], ends: Ends, count: usize, b: &BoxOf, h: &mut H
 
 /// Whether so many places are more than the range has numbers.
 #[tactic(auto, unfolding(crate::specs::Ranges::place_limit))]
-fn is_overfull(ends: Ends, count: usize, b: &BoxOf) -> bool
+pub fn is_overfull(ends: Ends, count: usize, b: &BoxOf) -> bool
     requires first { ends.first < length b.now }
     requires last { ends.last < length b.now }
     requires most { count ≤ place_limit }
@@ -165,7 +167,7 @@ fn is_overfull(ends: Ends, count: usize, b: &BoxOf) -> bool
 
 /// Whether so many places are as many as the range has numbers.
 #[tactic(auto, unfolding(crate::specs::Ranges::place_limit))]
-fn is_full(ends: Ends, count: usize, b: &BoxOf) -> bool
+pub fn is_full(ends: Ends, count: usize, b: &BoxOf) -> bool
     requires first { ends.first < length b.now }
     requires last { ends.last < length b.now }
     requires most { count ≤ place_limit }

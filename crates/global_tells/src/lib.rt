@@ -3,13 +3,16 @@
 
 mod all_different;
 mod cumulative;
+mod free;
 mod laws;
+mod places;
 mod quiet;
 mod ranges;
 mod tasks;
 
 pub use all_different::visit_all_different;
 pub use cumulative::visit_cumulative;
+pub use free::is_cumulative_quiet;
 pub use laws::{
     law_all_different_local, law_all_different_monotone, law_all_different_pairs,
     law_all_different_place, law_all_different_point, law_cumulative_local,

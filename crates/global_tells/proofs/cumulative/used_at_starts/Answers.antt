@@ -1,11 +1,12 @@
 -- Each step writes what is used at the latest start of one more task.
-use Rattle.std.proofs.Common.{◌≡◌, ◌<◌, ◌≤◌, ℤ, unsigned_abs, length, get_or, to_z, of_z, sym, ap, subst, ◌∙◌, arith}
+use Rattle.std.proofs.Common.{◌≡◌, ◌<◌, ◌≤◌, ℤ, unsigned_abs, pos, length, get_or, to_z, of_z, sym, ap, subst, ◌∙◌, arith}
 use Rattle.std.proofs.Math.ListN.{length-set}
 use mir.Syntax.{w64}
 use Rattle.interval.specs.Boxes.{high_of}
 use Rattle.global_tells.specs.Ranges.{place_limit}
 use Rattle.global_tells.specs.Cumulative.{usage_at, usage_limit, tasks_in}
-use Rattle.global_tells.proofs.TaskLaws.{coded_bound, coded_usage, set_below}
+use Rattle.global_tells.proofs.Lists.{set_below}
+use Rattle.global_tells.proofs.TaskLaws.{coded_bound, coded_usage}
 use Rattle.global_tells.proofs.cumulative.used_at_starts.Goals as goal
 
 pub bounds-used-j : goal.bounds-used-j
@@ -27,8 +28,8 @@ loop-j-preserved c =
     let value : to_z w64 (of_z w64 r) ≡ usage_at (tasks_in t) b (high_of b (get_or t.starts.now c.loop-j.j 0)) = coded ∙ c.usage_at.ensures.value ∙ ap (λ (z : ℤ). usage_at (tasks_in t) b z) time in
     let within : unsigned_abs (to_z w64 (of_z w64 r)) ≤ usage_limit = subst (λ (z : ℤ). unsigned_abs z ≤ usage_limit) (sym coded) c.usage_at.ensures.in_range in (
       omega (arith, length-set {A = ℤ}),
-      set_below (λ k z. z ≡ usage_at (tasks_in t) b (high_of b (get_or t.starts.now k 0))) c.loop-j.used c.loop-j.j (to_z w64 (of_z w64 r)) inside c.loop-j.invariant.1 value,
-      set_below (λ k z. unsigned_abs z ≤ usage_limit) c.loop-j.used c.loop-j.j (to_z w64 (of_z w64 r)) inside c.loop-j.invariant.2 within,
+      set_below (pos 0) (λ k z. z ≡ usage_at (tasks_in t) b (high_of b (get_or t.starts.now k 0))) c.loop-j.used c.loop-j.j (to_z w64 (of_z w64 r)) inside c.loop-j.invariant.1 value,
+      set_below (pos 0) (λ k z. unsigned_abs z ≤ usage_limit) c.loop-j.used c.loop-j.j (to_z w64 (of_z w64 r)) inside c.loop-j.invariant.2 within,
     )
 
 pub returns : goal.returns

@@ -1,48 +1,62 @@
--- Where each place has more numbers than there are places, no range is full; and where no range is overfull, and no other
--- place has a low or a high in a full one, nothing is told.
-use Rattle.std.proofs.Common.{◌≡◌, ℕ, ◌<◌, List, [], ◌∷◌, length, get_or, Bool, true, false, not, ℤ, pos, bit_and, ◌+ℤ◌, ◌-ℤ◌, ◌≤ℤ◌, ◌<ℤ◌, ⊎_elim, sym, ap, ◌∙◌, arith}
+-- A range of more numbers than places inside tells nothing, and so does a full one of which no other place has a low or a
+-- high in it; and where each place has more numbers than there are places, no range is full.
+use Rattle.std.proofs.Common.{◌≡◌, ℕ, ◌<◌, List, [], ◌∷◌, ◌++◌, length, get_or, Bool, true, false, not, ℤ, pos, bit_and, ◌+ℤ◌, ◌-ℤ◌, ◌≤ℤ◌, ◌<ℤ◌, ⊎_elim, refl, sym, ap, subst, ◌∙◌, suc, arith}
 use Rattle.std.proofs.lemmas.Int.{ints}
 use Rattle.std.proofs.lemmas.Bool.{and_parts, both_ways, not-true}
 use Rattle.std.proofs.lemmas.Bool.Decides.{Decides-int_eq}
 use Rattle.std.proofs.lemmas.List.Sums.{count_by-le-length}
-use Rattle.std.proofs.lemmas.List.Elements.{All-append}
 use Rattle.std.specs.Int.RustNames.{int_lt, int_le, count_ones}
 use Rattle.std.specs.Prelude.{◌&&◌}
 use Rattle.std.specs.Ordering.{int_eq}
 use Rattle.std.specs.List.{All, flat_map}
 use Rattle.interval.specs.Boxes.{Bounds, low_of, high_of}
+use Rattle.tells.specs.declared.tell.Tell.{Tell}
 use Rattle.tells.specs.Words.{when, Keeps, low_tell, high_tell}
 use Rattle.global_tells.specs.declared.places.Places.{Places}
 use Rattle.global_tells.specs.Ranges.{is_from_to, none_tells}
 use Rattle.global_tells.specs.Places.{mask_of, places_from, places_to, IsWithin}
 use Rattle.global_tells.specs.AllDifferent.{is_inside, places_inside, outside_tells, numbers_between, range_tells, all_different_tells}
-use Rattle.global_tells.proofs.Lists.{All-flat_map, All-when}
+use Rattle.global_tells.proofs.Lists.{All-none}
 use Rattle.global_tells.proofs.AllDifferentLaws.{some_or_none, count_none, inside_then}
 use Rattle.global_tells.proofs.SetLaws.{both_of, count_of, same_members}
+
+flat_map_none : {Y : Type 0} (f : Y → List Tell) (ys : List Y) (e : Y) → ((i : ℕ) → i < length ys → f (get_or ys i e) ≡ []) → flat_map f ys ≡ []
+flat_map_none f [] e h = refl
+flat_map_none f (y ∷ ys) e h =
+    let first = h 0 (omega arith) in
+    let rest = flat_map_none f ys e (λ i l. h (suc i) (omega arith)) in
+    (λ i. first i ++ rest i)
+
+pub when_none : (s : Bool) (ts : List Tell) → (s ≡ true → ts ≡ []) → when s ts ≡ []
+when_none true ts h = h refl
+when_none false ts h = refl
+
+both_none : (ts us : List Tell) → ts ≡ [] → us ≡ [] → ts ++ us ≡ []
+both_none ts us e f = (λ i. e i ++ f i)
 
 module _ (b : Bounds) (xs : List ℕ) (low high : ℤ) where
   -- a place that has other numbers has neither its low nor its high in the range
   abbrev pub HasNoEnd : ℕ → Type 0
   HasNoEnd x = is_inside b low high x ≡ false → (is_from_to low high (low_of b x) ≡ true → ⊥) × (is_from_to low high (high_of b x) ≡ true → ⊥)
 
-  others_quiet : ((k : ℕ) → k < length xs → HasNoEnd (get_or xs k 0)) → All (Keeps b) (flat_map (outside_tells b low high) xs)
-  others_quiet no_end = All-flat_map (Keeps b) (outside_tells b low high) xs 0 (λ k h.
+  others_none : ((k : ℕ) → k < length xs → HasNoEnd (get_or xs k 0)) → flat_map (outside_tells b low high) xs ≡ []
+  others_none no_end = flat_map_none (outside_tells b low high) xs 0 (λ k h.
       let x = get_or xs k 0 in
-      All-when (Keeps b) (not (is_inside b low high x)) _ (λ is_out.
+      when_none (not (is_inside b low high x)) _ (λ is_out.
       let no = no_end k h (not-true _ is_out) in
-      All-append (Keeps b) (when (is_from_to low high (low_of b x)) (low_tell x (high +ℤ pos 1) ∷ [])) (when (is_from_to low high (high_of b x)) (high_tell x (low -ℤ pos 1) ∷ []))
-      (All-when (Keeps b) (is_from_to low high (low_of b x)) _ (λ t. absurd (no.0 t)))
-      (All-when (Keeps b) (is_from_to low high (high_of b x)) _ (λ t. absurd (no.1 t)))))
+      both_none (when (is_from_to low high (low_of b x)) (low_tell x (high +ℤ pos 1) ∷ [])) (when (is_from_to low high (high_of b x)) (high_tell x (low -ℤ pos 1) ∷ []))
+      (when_none (is_from_to low high (low_of b x)) _ (λ t. absurd (no.0 t)))
+      (when_none (is_from_to low high (high_of b x)) _ (λ t. absurd (no.1 t)))))
 
-  pub quiet_where : (int_le low high ≡ true → int_lt (numbers_between low high) (pos (places_inside b low high xs)) ≡ true → ⊥)
+  pub none_where : (int_le low high ≡ true → int_lt (numbers_between low high) (pos (places_inside b low high xs)) ≡ true → ⊥)
       → (int_le low high ≡ true → int_eq (pos (places_inside b low high xs)) (numbers_between low high) ≡ true → (k : ℕ) → k < length xs → HasNoEnd (get_or xs k 0))
-      → All (Keeps b) (range_tells xs b low high)
-  quiet_where not_over full =
+      → range_tells xs b low high ≡ []
+  none_where not_over full =
       let n = places_inside b low high xs in
-      All-when (Keeps b) (int_le low high) _ (λ t.
-      All-append (Keeps b) (when (int_lt (numbers_between low high) (pos n)) (none_tells xs)) (when (int_eq (pos n) (numbers_between low high)) (flat_map (outside_tells b low high) xs))
-      (All-when (Keeps b) (int_lt (numbers_between low high) (pos n)) (none_tells xs) (λ over. absurd (not_over t over)))
-      (All-when (Keeps b) (int_eq (pos n) (numbers_between low high)) (flat_map (outside_tells b low high) xs) (λ f. others_quiet (full t f))))
+      when_none (int_le low high) _ (λ t.
+      both_none (when (int_lt (numbers_between low high) (pos n)) (none_tells xs)) (when (int_eq (pos n) (numbers_between low high)) (flat_map (outside_tells b low high) xs))
+      (when_none (int_lt (numbers_between low high) (pos n)) (none_tells xs) (λ over. absurd (not_over t over)))
+      (when_none (int_eq (pos n) (numbers_between low high)) (flat_map (outside_tells b low high) xs) (λ f. others_none (full t f))))
 
   module _ (from upto : Places) (e : from ≡ places_from b low xs) (f : upto ≡ places_to b high xs) where
     inside_set : bit_and from.lows upto.highs ≡ mask_of (is_inside b low high) xs
@@ -70,13 +84,13 @@ module _ (b : Bounds) (xs : List ℕ) (low high : ℤ) where
         let both = same_members test (λ x. test x && is_inside b low high x) xs same k h t in
         both_ways _ out (and_parts (test x) (is_inside b low high x) both).1
 
-    pub sets_quiet : (n : ℕ) → n ≡ count_ones (bit_and from.lows upto.highs) → int_lt (numbers_between low high) (pos n) ≡ false
+    pub sets_none : (n : ℕ) → n ≡ count_ones (bit_and from.lows upto.highs) → int_lt (numbers_between low high) (pos n) ≡ false
         → (int_eq (pos n) (numbers_between low high) ≡ true
         → IsWithin (bit_and from.lows upto.lows) (bit_and from.lows upto.highs) × IsWithin (bit_and from.highs upto.highs) (bit_and from.lows upto.highs))
-        → All (Keeps b) (range_tells xs b low high)
-    sets_quiet n is not_over full =
+        → range_tells xs b low high ≡ []
+    sets_none n is not_over full =
         let count : n ≡ places_inside b low high xs = is ∙ count_inside in
-        quiet_where
+        none_where
         (λ t over. both_ways _ not_over (ap (λ (m : ℕ). int_lt (numbers_between low high) (pos m)) count ∙ over))
         (λ t is_full k h out.
         let within = full (ap (λ (m : ℕ). int_eq (pos m) (numbers_between low high)) count ∙ is_full) in
@@ -104,11 +118,14 @@ module _ (b : Bounds) (xs : List ℕ) (wide : (i : ℕ) → i < length xs → (l
   not_full : (n numbers : ℤ) → n <ℤ numbers → int_eq n numbers ≡ true → ⊥
   not_full n numbers less e = let same = (Decides-int_eq n numbers).0 e in omega (arith, ints)
 
-  range_quiet : (low high : ℤ) → All (Keeps b) (range_tells xs b low high)
-  range_quiet low high = quiet_where b xs low high
+  range_none : (low high : ℤ) → range_tells xs b low high ≡ []
+  range_none low high = none_where b xs low high
       (λ t over. not_over _ _ (few_inside low high (omega (arith, ints))) over)
       (λ t full. absurd (not_full _ _ (few_inside low high (omega (arith, ints))) full))
 
+  none : all_different_tells xs b ≡ []
+  none = flat_map_none (λ x. flat_map (λ y. range_tells xs b (low_of b x) (high_of b y)) xs) xs 0 (λ i h.
+      flat_map_none (λ y. range_tells xs b (low_of b (get_or xs i 0)) (high_of b y)) xs 0 (λ j l. range_none (low_of b (get_or xs i 0)) (high_of b (get_or xs j 0))))
+
   pub wide_quiet : All (Keeps b) (all_different_tells xs b)
-  wide_quiet = All-flat_map (Keeps b) (λ x. flat_map (λ y. range_tells xs b (low_of b x) (high_of b y)) xs) xs 0 (λ i h.
-      All-flat_map (Keeps b) (λ y. range_tells xs b (low_of b (get_or xs i 0)) (high_of b y)) xs 0 (λ j l. range_quiet (low_of b (get_or xs i 0)) (high_of b (get_or xs j 0))))
+  wide_quiet = subst (All (Keeps b)) (sym none) (All-none (Keeps b))

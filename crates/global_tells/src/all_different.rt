@@ -8,9 +8,12 @@ ghost use Rattle.tells.specs.Words.{AreVariables, when};
 ghost use Rattle.tells.specs.Words as words;
 ghost use Rattle.tells.specs.Hearing.{MayHearAll, HearsAll};
 ghost use Rattle.global_tells.specs.Ranges.{place_limit, is_from_to, none_tells};
+ghost use Rattle.global_tells.specs.Places as sets;
+ghost use Rattle.global_tells.specs.Places.{AreUpToHighs};
 ghost use Rattle.global_tells.specs.AllDifferent as different;
 ghost use Rattle.global_tells.specs.AllDifferent.{range_tells, counted_tells, outside_tells, numbers_between, all_different_tells};
 
+use crate::places::{Places, WORD_PLACES, is_untold, places_from, places_up_to_highs};
 use crate::ranges::{is_from_to, tell_none};
 use interval::BoxOf;
 use tells::{Hear, high_tell, low_tell};
@@ -24,6 +27,9 @@ pub struct Ends {
     pub last: u32,
 }
 
+/// A list of fewer places is visited as fast without sets of places.
+const FEW_PLACES: usize = 10;
+
 /// Gives the tells of: no two places of the list have the same number, to `h`, in order. It takes no memory.
 pub fn visit_all_different<H: Hear>(xs: &[u32], b: &BoxOf, h: &mut H)
     requires variables { AreVariables (length b.now) xs.now }
@@ -31,8 +37,79 @@ pub fn visit_all_different<H: Hear>(xs: &[u32], b: &BoxOf, h: &mut H)
     requires hearer { MayHearAll H.can_hear H.hears h.old (all_different_tells xs.now b.now) }
     ensures { HearsAll H.hears h.old (all_different_tells xs.now b.now) h.new }
 {
+    if xs.len() < FEW_PLACES || xs.len() > WORD_PLACES {
+        tell_ranges(xs, b, h);
+    } else {
+        tell_by_sets(xs, b, h);
+    }
+}
+
+/// Tells of the ranges, of which each counts its places anew.
+fn tell_ranges<H: Hear>(xs: &[u32], b: &BoxOf, h: &mut H)
+    requires variables { AreVariables (length b.now) xs.now }
+    requires short { length xs.now ≤ place_limit }
+    requires hearer { MayHearAll H.can_hear H.hears h.old (all_different_tells xs.now b.now) }
+    ensures { HearsAll H.hears h.old (all_different_tells xs.now b.now) h.new }
+{
     for i in 0..xs.len() {
         tell_from(xs, xs[i], b, h);
+    }
+}
+
+/// Tells of the ranges, of which sets of places say whether there is anything to tell.
+fn tell_by_sets<H: Hear>(xs: &[u32], b: &BoxOf, h: &mut H)
+    requires variables { AreVariables (length b.now) xs.now }
+    requires few { length xs.now ≤ 128 }
+    requires hearer { MayHearAll H.can_hear H.hears h.old (all_different_tells xs.now b.now) }
+    ensures { HearsAll H.hears h.old (all_different_tells xs.now b.now) h.new }
+{
+    let upto = places_up_to_highs(xs, b);
+    for i in 0..xs.len() {
+        tell_from_by_sets(xs, xs[i], &upto, b, h);
+    }
+}
+
+/// Tells of the ranges that begin with the low of one variable, by the places up to each high.
+fn tell_from_by_sets<H: Hear>(xs: &[u32], first: u32, upto: &[Places], b: &BoxOf, h: &mut H)
+    requires variables { AreVariables (length b.now) xs.now }
+    requires few { length xs.now ≤ 128 }
+    requires first { first < length b.now }
+    requires upto { AreUpToHighs xs.now b.now upto.now }
+    requires hearer { MayHearAll H.can_hear H.hears h.old
+        (flat_map (λ y. range_tells xs.now b.now (low_of b.now first) (high_of b.now y)) xs.now) }
+    ensures { HearsAll H.hears h.old
+        (flat_map (λ y. range_tells xs.now b.now (low_of b.now first) (high_of b.now y)) xs.now) h.new }
+{
+    let from = places_from(xs, first, b);
+    for j in 0..xs.len() {
+        let ends = Ends { first, last: xs[j] };
+        tell_range_by_sets(xs, ends, &from, &upto[j], b, h);
+    }
+}
+
+/// Tells of one range, unless the places from its first number and up to its last say that there is nothing to tell.
+#[tactic(auto, unfolding(crate::specs::Ranges::place_limit))]
+fn tell_range_by_sets<H: Hear>(
+    xs: &[u32],
+    ends: Ends,
+    from: &Places,
+    upto: &Places,
+    b: &BoxOf,
+    h: &mut H,
+)
+    requires variables { AreVariables (length b.now) xs.now }
+    requires few { length xs.now ≤ 128 }
+    requires first { ends.first < length b.now }
+    requires last { ends.last < length b.now }
+    requires from { from.now ≡ sets.places_from b.now (low_of b.now ends.first) xs.now }
+    requires upto { upto.now ≡ sets.places_to b.now (high_of b.now ends.last) xs.now }
+    requires hearer { MayHearAll H.can_hear H.hears h.old
+        (range_tells xs.now b.now (low_of b.now ends.first) (high_of b.now ends.last)) }
+    ensures { HearsAll H.hears h.old
+        (range_tells xs.now b.now (low_of b.now ends.first) (high_of b.now ends.last)) h.new }
+{
+    if !is_untold(ends, from, upto, b) {
+        tell_range(xs, ends, b, h);
     }
 }
 

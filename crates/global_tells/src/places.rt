@@ -1,12 +1,14 @@
 //! Sets of places of a list of variables, as the bits of a word.
 
-ghost use Rattle.std.specs.Prelude.{◌≡◌, ◌<◌, ◌≤◌, ◌+◌, ◌*◌, ◌^◌, cond, length, int_le, count_ones, IsTrue, ◌↔◌};
+ghost use Rattle.std.specs.Prelude.{◌≡◌, ◌<◌, ◌≤◌, ◌+◌, ◌*◌, ◌^◌, ℕ, List, [], cond, length, int_le, bit_and, count_ones, IsTrue, ◌↔◌};
+ghost use Rattle.std.specs.Bool.{OnTrue};
 ghost use Rattle.interval.specs.Boxes.{low_of, high_of};
 ghost use Rattle.tells.specs.Words.{AreVariables};
 ghost use Rattle.global_tells.specs.Places as places;
 ghost use Rattle.global_tells.specs.Places.{AreUpToHighs, IsWithin};
+ghost use Rattle.global_tells.specs.AllDifferent.{range_tells};
 
-use crate::all_different::{Ends, has_numbers};
+use crate::all_different::{Ends, has_numbers, is_full, is_overfull};
 use interval::BoxOf;
 
 /// A word has the bits of so many places.
@@ -68,6 +70,37 @@ pub fn places_up_to_highs(xs: &[u32], b: &BoxOf) -> [Places; WORD_PLACES]
     upto
 }
 
+/// Whether nothing is told of the range, by the places from its first number and up to its last.
+#[tactic(auto, unfolding(crate::specs::Ranges::place_limit))]
+pub fn is_untold(ends: Ends, from: &Places, upto: &Places, b: &BoxOf) -> bool
+    requires first { ends.first < length b.now }
+    requires last { ends.last < length b.now }
+    ensures { OnTrue result ((xs : List ℕ) → from.now ≡ places.places_from b.now (low_of b.now ends.first) xs
+        → upto.now ≡ places.places_to b.now (high_of b.now ends.last) xs
+        → range_tells xs b.now (low_of b.now ends.first) (high_of b.now ends.last) ≡ []) }
+{
+    if !has_numbers(ends, b) {
+        return true;
+    }
+    let count = size_of(from.lows & upto.highs);
+    if is_overfull(ends, count, b) {
+        return false;
+    }
+    if !is_full(ends, count, b) {
+        return true;
+    }
+    has_no_others(from, upto)
+}
+
+/// Whether only places that have no numbers but those of the range have a low or a high in it.
+fn has_no_others(from: &Places, upto: &Places) -> bool
+    ensures lows { OnTrue result (IsWithin (bit_and from.now.lows upto.now.lows) (bit_and from.now.lows upto.now.highs)) }
+    ensures highs { OnTrue result (IsWithin (bit_and from.now.highs upto.now.highs) (bit_and from.now.lows upto.now.highs)) }
+{
+    let inside = from.lows & upto.highs;
+    is_within(from.lows & upto.lows, inside) && is_within(from.highs & upto.highs, inside)
+}
+
 /// The set of places of a list that has one more in front, which may be in it.
 fn with_place(is_in: bool, set: u128) -> u128
     requires { set < 2 ^ 127 }
@@ -95,7 +128,7 @@ fn is_high_to(x: u32, last: u32, b: &BoxOf) -> bool
 }
 
 /// How many places are in the set.
-pub fn size_of(set: u128) -> usize
+fn size_of(set: u128) -> usize
     ensures value { result ≡ count_ones set }
     ensures most { result ≤ 128 }
 {
@@ -103,7 +136,7 @@ pub fn size_of(set: u128) -> usize
 }
 
 /// Whether each place of the first set is in the second.
-pub fn is_within(inner: u128, outer: u128) -> bool
+fn is_within(inner: u128, outer: u128) -> bool
     ensures { IsTrue result ↔ IsWithin inner outer }
 {
     inner & outer == inner

@@ -1,6 +1,6 @@
 -- Each step makes the hearer hear the tells of one more place.
 use Rattle.global_tells.proofs.HearingLaws.{leads_may, leads_next}
-use Rattle.global_tells.proofs.all_different.visit_all_different.Goals as goal
+use Rattle.global_tells.proofs.all_different.tell_ranges.Goals as goal
 
 pub tell_from-requires-clause-hearer : goal.tell_from-requires-clause-hearer
 tell_from-requires-clause-hearer g c = leads_may _ _ _ _ _ _ c.loop-i.i 0 c.loop-i-test.true c.loop-i.invariant

@@ -12,12 +12,14 @@ use Rattle.constraint_model.specs.declared.model.VarDecl.{VarDecl}
 use Rattle.constraint_model.specs.Relations.{cost_of, value, IsWithin}
 use Rattle.branching.specs.Tree.{AreFixed, values_of, IsSolutionIn, BranchLaws}
 use Rattle.solution_lists.specs.Solutions.{LiesIn, SolvesInside, FixedIsPoint, PointSolves}
+use Rattle.solution_lists.specs.Static.{IsStaticSearch, Precedes, BoxPrecedes, LeftPrecedes, StrictOrder}
 use Rattle.search.specs.declared.kind.Kind.{Kind}
 use Rattle.search.specs.Costs.{IsBelow, IsAtMost}
 use Rattle.search.specs.Machine.{Search, State, Step, Node, is_dropped, is_solved, is_parted, MayFall, cut_by, best_after, Reached, begun, stepped}
 use Rattle.search.specs.Laws.{IsInsideStart, RecordsSolutions, IsLeastSoFar, FindsLeast, RecordsBelow, CostsFall}
+use Rattle.search.specs.Static.{FindsFirst}
 use Rattle.search.proofs.CutLaws.{stays, costs_at_most}
-use Rattle.search.proofs.StackLaws.{Lies, cut_inside, greatest_lies, parts_of, top_lies}
+use Rattle.search.proofs.StackLaws.{Lies, cut_inside, greatest_lies, parts_of, top_lies, all_last, all_front}
 use Rattle.search.proofs.PremiseLaws.{long_sub}
 
 -- ---- boxes of a list
@@ -349,6 +351,122 @@ module _ (order : InsideOrder) (branches : BranchLaws) (fixed : FixedIsPoint) (s
     pub least_so_far : (state : State) → Reached s state → IsLeastSoFar s state
     least_so_far state r = record { covers = covers state r; recorded = above state r; origin = origin state r }
 
+-- ---- a static order
+
+module _ (order : InsideOrder) (branches : BranchLaws) (fixed : FixedIsPoint) (solve : PointSolves) (precedes : LeftPrecedes) (strict : StrictOrder)
+    (s : Search) (p : IsInsideStart s) (static : IsStaticSearch s.model) (least : s.kind ≡ Kind.Least) where
+  -- each box of the stack comes before all that stand before it
+  abbrev Comes : Bounds → Bounds → Type 0
+  Comes b c = BoxPrecedes s.model c b
+
+  InTurn : List Bounds → Type 0
+  InTurn [] = Unit {0}
+  InTurn (b ∷ bs) = All (Comes b) bs × InTurn bs
+
+  narrower : (b c inner : Bounds) → IsInside inner c → Comes b c → Comes b inner
+  narrower b c inner i h x y lx ly ix iy = h x y lx ly (order.through _ inner c ix i) iy
+
+  turn_front : (rest : List Bounds) (top : Bounds) → InTurn (rest ++ top ∷ []) → InTurn rest × All (λ b. Comes b top) rest
+  unfolding InTurn
+  turn_front [] top h = (tt, All-nil (λ b. Comes b top))
+  turn_front (b ∷ rest) top h =
+      let k = turn_front rest top h.1 in
+      ((all_front (Comes b) rest (top ∷ []) h.0, k.0), All-cons (λ c. Comes c top) b rest (all_last (Comes b) rest top h.0) k.1)
+
+  turn_append : (top : Bounds) (rest back : List Bounds) → InTurn rest → InTurn back → All (λ b. Comes b top) rest → All (λ c. IsInside c top) back → InTurn (rest ++ back)
+  unfolding InTurn
+  turn_append top [] back h k before inside = k
+  turn_append top (b ∷ rest) back h k before inside = (
+    All-append (Comes b) rest back h.0 (All-weaker (λ c. IsInside c top) (Comes b) (λ c i. narrower b top c i (before 0 b (omega arith))) back inside),
+    turn_append top rest back h.1 k (λ i d l. before (suc i) d (omega arith)) inside,
+  )
+
+  record BackInTurn (top : Bounds) (back : List Bounds) : Type 0 where
+    turn : InTurn back
+    inside : All (λ c. IsInside c top) back
+
+  back_none : (top : Bounds) → BackInTurn top []
+  unfolding InTurn
+  back_none top = record { turn = tt; inside = All-nil (λ c. IsInside c top) }
+
+  back_in_turn : (top seen : Bounds) (back : List Bounds) (recorded : List (List ℤ)) → Here order branches fixed solve s p top → IsInside seen top → Node s.model s.kernels seen back recorded → BackInTurn top back
+  unfolding InTurn
+  back_in_turn top seen back recorded l i (is_dropped _ _ _ _ _ fails none nothing) = subst (BackInTurn top) (sym none) (back_none top)
+  back_in_turn top seen back recorded l i (is_solved _ _ _ _ _ g gr all none one) = subst (BackInTurn top) (sym none) (back_none top)
+  back_in_turn top seen back recorded l i (is_parted _ _ _ _ _ g left right gr br two nothing) =
+      let k = greatest_lies order branches s p.phases (long_sub s p) p.in_range top seen g l i gr in
+      let q = parts_of order branches s p.phases (long_sub s p) p.in_range g left right k gr.closed.proper br in
+      let in_top = order.through g seen top gr.inside i in
+      subst (BackInTurn top) (sym two) (record {
+        turn = (
+          All-cons (Comes right) left [] (precedes s.model g left right static p.phases (let e = k.inside.same_length in let m = long_sub s p in omega arith) gr.closed.proper br) (All-nil (Comes right)),
+          (All-nil (Comes left), tt),
+        );
+        inside = All-cons (λ c. IsInside c top) right (left ∷ []) (order.through right g top q.second_part.inside in_top)
+            (All-cons (λ c. IsInside c top) left [] (order.through left g top q.first_part.inside in_top) (All-nil (λ c. IsInside c top)));
+      })
+
+  in_turn : (state : State) → Reached s state → InTurn state.stack
+  unfolding InTurn
+  in_turn state (begun _ _ e _ _ _) = subst InTurn (sym e) (All-nil (Comes s.sub), tt)
+  in_turn state (stepped _ before _ r on st) =
+      let l = top_lies order branches s p.phases (long_sub s p) p.in_range before st.rest st.top r st.takes.taken in
+      let i = cut_inside order branches s p.phases (long_sub s p) p.in_range s.kind st.best st.top in
+      let front = turn_front st.rest st.top (subst InTurn st.takes.taken (in_turn before r)) in
+      let back = back_in_turn st.top (cut_by s.kind s.model.goal st.best st.top) st.back st.recorded l i st.node in
+      subst InTurn (sym st.stack) (turn_append st.top st.rest st.back front.0 back.turn front.1 back.inside)
+
+  -- where something is recorded nothing is put back
+  none_back : (seen : Bounds) (back : List Bounds) (recorded : List (List ℤ)) (a : List ℤ) → Node s.model s.kernels seen back recorded → recorded ≡ a ∷ [] → back ≡ []
+  none_back seen back recorded a (is_dropped _ _ _ _ _ fails none nothing) e = none
+  none_back seen back recorded a (is_solved _ _ _ _ _ g gr all none one) e = none
+  none_back seen back recorded a (is_parted _ _ _ _ _ g left right gr br two nothing) e = let q : [] ≡ a ∷ [] = sym nothing ∙ e in absurd cc
+
+  pub finds_first_in : (state : State) → Reached s state → (a other : List ℤ) (cost more : ℤ) → Contains state.found a → SolvesInside s.model s.sub other → Precedes s.model other a →
+      cost_of s.model.goal a ≡ Some cost → cost_of s.model.goal other ≡ Some more → cost <ℤ more
+  finds_first_in state (begun _ _ _ _ _ nothing) a other cost more k h first e f = absurd (nothing_in (subst (λ (xs : List (List ℤ)). Contains xs a) nothing k))
+    where
+      nothing_in : Contains [] a → ⊥
+      nothing_in (i, l, e) = omega arith
+  finds_first_in state (stepped _ before _ r on st) a other cost more k h first e f =
+      let l = top_lies order branches s p.phases (long_sub s p) p.in_range before st.rest st.top r st.takes.taken in
+      let seen = cut_by Kind.Least s.model.goal st.best st.top in
+      let i = cut_inside order branches s p.phases (long_sub s p) p.in_range Kind.Least st.best st.top in
+      let node : Node s.model s.kernels seen st.back st.recorded = subst (λ (k : Kind). Node s.model s.kernels (cut_by k s.model.goal st.best st.top) st.back st.recorded) least st.node in
+      let all = recorded_solve order branches fixed solve s p st.top seen st.back st.recorded l i node in
+      let front = turn_front st.rest st.top (subst InTurn st.takes.taken (in_turn before r)) in
+      let len_other = fits order branches fixed solve s p s.sub other h in
+      elim (Contains-append_cases before.found st.recorded a (subst (λ (xs : List (List ℤ)). Contains xs a) st.found k)) [
+        | inl q ↦ finds_first_in before r a other cost more q h first e f
+        | inr q ↦
+            let one = one_recorded order branches fixed solve s p least seen st.back st.recorded a node q in
+            let a_seen = All-contains (SolvesInside s.model seen) st.recorded a all q in
+            let a_top = order.through _ seen st.top a_seen.inside i in
+            let len_a = fits order branches fixed solve s p seen a a_seen in
+            let below = recorded_below order branches fixed solve s p st.top st.best a cost l a_seen e in
+            let by_best : IsAtMost st.best more → cost <ℤ more = λ m. less_than order branches fixed solve s p least st.best more cost m below in
+            elim (covers order branches fixed solve s p least before r other more h f) [
+              | inl m ↦ by_best (after_fall s.posted before.best st.best more st.takes.falls m)
+              | inr m ↦ elim (any_append (LiesIn s.model other) st.rest (st.top ∷ []) (subst (Any (LiesIn s.model other)) st.takes.taken m)) [
+                | inl u ↦ absurd (strict.not_both s.model other a first (behind len_a len_other st.rest st.top front.1 a_top u))
+                | inr u ↦ elim (below_or_not st.best more) [
+                  | inl m ↦ by_best m
+                  | inr m ↦ absurd (elim (kept order branches fixed solve s p st.top seen st.back st.recorded other l i node
+                      (stays_below order branches fixed solve s p st.top st.best other more l (record { solves = h.solves; inside = any_one (LiesIn s.model other) st.top u }) f m)) [
+                        | inl both ↦ strict.never_itself s.model a (subst (λ (x : List ℤ). Precedes s.model x a) (same_one other a (sym both ∙ one)) first)
+                        | inr w ↦ any_none (LiesIn s.model other) (subst (Any (LiesIn s.model other)) (none_back seen st.back st.recorded a node one) w)
+                      ])
+                ]
+              ]
+            ]
+      ]
+    where
+      same_one : (x y : List ℤ) → x ∷ [] ≡ y ∷ [] → x ≡ y
+      same_one x y e = cc
+
+      behind : length a ≡ length s.model.vars → length other ≡ length s.model.vars → (rest : List Bounds) (top : Bounds) → All (λ b. Comes b top) rest → LiesIn s.model a top → Any (LiesIn s.model other) rest → Precedes s.model a other
+      behind len_a len_other rest top each a_top (n, b, w, g, here) = subst (λ (c : Bounds). Comes c top) g (each n b w) a other len_a len_other a_top here
+
 pub records_solutions : InsideOrder → BranchLaws → FixedIsPoint → PointSolves → RecordsSolutions
 records_solutions order branches fixed solve s state p r = records order branches fixed solve s p state r
 
@@ -360,3 +478,6 @@ records_below order branches fixed solve s before after least p r step a cost k 
 
 pub costs_fall : InsideOrder → BranchLaws → FixedIsPoint → PointSolves → CostsFall
 costs_fall order branches fixed solve s state least p r = falls order branches fixed solve s p least state r
+
+pub finds_first : InsideOrder → BranchLaws → FixedIsPoint → PointSolves → LeftPrecedes → StrictOrder → FindsFirst
+finds_first order branches fixed solve precedes strict s state least p static r = finds_first_in order branches fixed solve precedes strict s p static least state r

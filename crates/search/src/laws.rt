@@ -4,12 +4,13 @@ ghost use Rattle.std.specs.Prelude.{length};
 ghost use Rattle.interval.specs.Boxes.{IsInside};
 ghost use Rattle.search.specs.Premises.{IsRun, CanSearch};
 ghost use Rattle.search.specs.Laws.{RecordsSolutions, PrefixLaws, FindsLeast, RecordsBelow, CostsFall, MorePosted, EndLaws, LimitLaws};
+ghost use Rattle.search.specs.Static.{FindsFirst};
 
 use crate::run::Run;
 use branching::{law_branches, law_every_list, law_points};
 use fixpoint_laws::{law_one_fixpoint, law_rounds_lead};
 use interval::{BoxOf, law_inside_order};
-use solution_lists::{law_fixed_is_point, law_point_solves};
+use solution_lists::{law_fixed_is_point, law_left_precedes, law_point_solves, law_strict_order};
 
 /// What a search records are the model's solutions in its box.
 pub fn law_records_solutions()
@@ -59,6 +60,18 @@ pub fn law_costs_fall()
     law_branches();
     law_fixed_is_point();
     law_point_solves();
+}
+
+/// Where each phase takes its variables as they stand, each solution in the box that precedes a recorded one costs more.
+pub fn law_finds_first()
+    ensures { FindsFirst }
+{
+    law_inside_order();
+    law_branches();
+    law_fixed_is_point();
+    law_point_solves();
+    law_left_precedes();
+    law_strict_order();
 }
 
 /// Where more costs are posted a search reaches what it reached.

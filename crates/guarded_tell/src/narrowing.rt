@@ -14,7 +14,7 @@ use crate::parted::is_whole_equation_quiet;
 use crate::products::is_product_quiet;
 use crate::quiet::{Hint, is_at_most_quiet, is_clause_quiet};
 use crate::{Hear, Kernel, Side, Tell, law_tell_place, visit_tells};
-use global_tells::is_all_different_quiet;
+use global_tells::{is_all_different_quiet, is_cumulative_quiet};
 use interval::{BoxOf, law_clamp_order, law_quotient_order};
 
 /// Gives the tells of the kernel that narrow the box to `h`, each once and in order. It takes no memory.
@@ -52,6 +52,18 @@ pub fn is_quiet(k: &Kernel, b: &BoxOf, hint: &mut Hint) -> bool
         Kernel::Clause { lits } => is_clause_quiet(lits, b, hint),
         Kernel::Times { x, y, z } => is_product_quiet(*x, *y, *z, b),
         Kernel::AllDiff { xs } => is_all_different_quiet(xs.as_slice(), b),
+        Kernel::Cumulative {
+            starts,
+            durations,
+            usages,
+            limit,
+        } => is_cumulative_quiet(
+            starts.as_slice(),
+            durations.as_slice(),
+            usages.as_slice(),
+            *limit,
+            b,
+        ),
         _ => false,
     }
 }

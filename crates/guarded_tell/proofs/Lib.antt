@@ -42,3 +42,5 @@ pub mod QuotientLaws
 pub mod RoomLaws
 pub mod ClauseQuiet
 pub mod ProductQuiet
+pub mod ShortTellLaws
+pub mod ShortSumLaws

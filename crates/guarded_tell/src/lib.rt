@@ -22,6 +22,8 @@ mod products;
 mod quiet;
 mod remainder;
 mod short;
+mod short_sum;
+mod short_terms;
 mod terms;
 mod times;
 mod visit;

@@ -1,7 +1,7 @@
 //! The tells that narrow a box.
 
 ghost use Rattle.std.specs.Prelude.{◌≡◌, ◌≢◌, ◌<◌, pos, length, [], ◌∷◌};
-ghost use Rattle.std.specs.Bool.{OnTrue};
+ghost use Rattle.std.specs.Bool.{OnTrue, OnFalse};
 ghost use Rattle.std.specs.List.{All};
 ghost use Rattle.guarded_tell.specs.Words.{IsProperIn, Keeps};
 ghost use Rattle.guarded_tell.specs.Hearing.{MayHearAll, HearsAll};
@@ -10,9 +10,9 @@ ghost use Rattle.guarded_tell.specs.Kernels.{vars_of, tells, IsKernel};
 ghost use Rattle.guarded_tell.specs.Narrowing.{narrowing, narrowing_tells};
 ghost use Rattle.guarded_tell.specs.Narrowing as words;
 
-use crate::parted::is_whole_equation_quiet;
 use crate::products::is_product_quiet;
-use crate::quiet::{Hint, is_at_most_quiet, is_clause_quiet};
+use crate::quiet::{Hint, is_clause_quiet};
+use crate::short_sum::{narrow_at_most, narrow_equation};
 use crate::{Hear, Kernel, Side, Tell, law_tell_place, visit_tells};
 use global_tells::{is_all_different_quiet, is_cumulative_quiet};
 use interval::{BoxOf, law_clamp_order, law_quotient_order};
@@ -24,17 +24,19 @@ pub fn visit_narrowing<H: Hear>(k: &Kernel, b: &BoxOf, hint: &mut Hint, h: &mut 
     requires hearer { MayHearAll H.can_hear H.hears h.old (narrowing_tells k.now b.now) }
     ensures { HearsAll H.hears h.old (narrowing_tells k.now b.now) h.new }
 {
-    if !is_quiet(k, b, hint) {
+    if !is_given(k, b, hint, h) {
         pass_tells(k, b, h);
     }
 }
 
-/// Whether the kernel is seen to narrow nothing, without its tells being formed.
+/// Gives the tells of a sum in 64 bits, and sees that other kernels narrow nothing. Where it doesn't, it gives none.
 #[tactic(auto, unfolding(crate::specs::Kernels::tells, crate::specs::Kernels::vars_of, crate::specs::Kernels::HasNumbers))]
-pub fn is_quiet(k: &Kernel, b: &BoxOf, hint: &mut Hint) -> bool
+fn is_given<H: Hear>(k: &Kernel, b: &BoxOf, hint: &mut Hint, h: &mut H) -> bool
     requires kernel { IsKernel (length b.now) k.now }
     requires proper { IsProperIn (vars_of k.now) b.now }
-    ensures { OnTrue result (All (Keeps b.now) (tells k.now b.now)) }
+    requires hearer { MayHearAll H.can_hear H.hears h.old (narrowing_tells k.now b.now) }
+    ensures given { OnTrue result (HearsAll H.hears h.old (narrowing_tells k.now b.now) h.new) }
+    ensures left { OnFalse result (h.new ≡ h.old) }
 {
     match k {
         Kernel::Le {
@@ -42,13 +44,25 @@ pub fn is_quiet(k: &Kernel, b: &BoxOf, hint: &mut Hint) -> bool
             coeffs,
             vars,
             limit,
-        } => is_at_most_quiet(*lit, coeffs.as_slice(), vars.as_slice(), *limit, b),
+        } => narrow_at_most(*lit, coeffs.as_slice(), vars.as_slice(), *limit, b, h),
         Kernel::Eq {
             lit,
             coeffs,
             vars,
             limit,
-        } => is_whole_equation_quiet(*lit, coeffs, vars, *limit, b, hint),
+        } => narrow_equation(*lit, coeffs, vars, *limit, b, hint, h),
+        _ => is_quiet(k, b, hint),
+    }
+}
+
+/// Whether the kernel is seen to narrow nothing, without its tells being formed.
+#[tactic(auto, unfolding(crate::specs::Kernels::tells, crate::specs::Kernels::vars_of, crate::specs::Kernels::HasNumbers))]
+fn is_quiet(k: &Kernel, b: &BoxOf, hint: &mut Hint) -> bool
+    requires kernel { IsKernel (length b.now) k.now }
+    requires proper { IsProperIn (vars_of k.now) b.now }
+    ensures { OnTrue result (All (Keeps b.now) (tells k.now b.now)) }
+{
+    match k {
         Kernel::Clause { lits } => is_clause_quiet(lits, b, hint),
         Kernel::Times { x, y, z } => is_product_quiet(*x, *y, *z, b),
         Kernel::AllDiff { xs } => is_all_different_quiet(xs.as_slice(), b),

@@ -18,22 +18,8 @@ use crate::{Lit, Literals};
 use interval::{BoxOf, law_clamp_order, law_quotient_order};
 use tells::{is_out, is_sure, stands_false, stands_true};
 
-/// Whether the inequality is seen to narrow nothing. Where its numbers are large, it isn't seen.
-pub fn is_at_most_quiet(lit: Lit, coeffs: &[i64], vars: &[u32], limit: i64, b: &BoxOf) -> bool
-    requires linear { IsLinear coeffs.now vars.now limit }
-    requires variables { AreVariables (length b.now) (lit.var ∷ vars.now) }
-    requires proper { IsProperIn (lit.var ∷ vars.now) b.now }
-    ensures { OnTrue result (All (Keeps b.now) (at_most_tells lit coeffs.now vars.now limit b.now)) }
-{
-    if coeffs.len() == 2 {
-        is_pair_at_most_quiet(lit, coeffs, vars, limit, b)
-    } else {
-        is_sum_at_most_quiet(lit, coeffs, vars, limit, b)
-    }
-}
-
-/// The same for the inequality of two terms.
-fn is_pair_at_most_quiet(lit: Lit, coeffs: &[i64], vars: &[u32], limit: i64, b: &BoxOf) -> bool
+/// Whether the inequality of two terms is seen to narrow nothing. Where its numbers are large, it isn't seen.
+pub fn is_pair_at_most_quiet(lit: Lit, coeffs: &[i64], vars: &[u32], limit: i64, b: &BoxOf) -> bool
     requires two { length coeffs.now ≡ 2 }
     requires linear { IsLinear coeffs.now vars.now limit }
     requires variables { AreVariables (length b.now) (lit.var ∷ vars.now) }
@@ -48,24 +34,9 @@ fn is_pair_at_most_quiet(lit: Lit, coeffs: &[i64], vars: &[u32], limit: i64, b: 
     }
 }
 
-/// The same for the inequality of any number of terms.
-fn is_sum_at_most_quiet(lit: Lit, coeffs: &[i64], vars: &[u32], limit: i64, b: &BoxOf) -> bool
-    requires linear { IsLinear coeffs.now vars.now limit }
-    requires variables { AreVariables (length b.now) (lit.var ∷ vars.now) }
-    requires proper { IsProperIn (lit.var ∷ vars.now) b.now }
-    ensures { OnTrue result (All (Keeps b.now) (at_most_tells lit coeffs.now vars.now limit b.now)) }
-{
-    law_quotient_order();
-    law_clamp_order();
-    match short_sums(coeffs, vars, b) {
-        Some(sums) => leaves_room(lit, limit, sums, b),
-        None => false,
-    }
-}
-
 /// Whether the sums leave more room to the limit than a term can grow by.
 #[tactic(auto, unfolding(crate::specs::Short::short_sum_limit, interval::specs::Limits::largest_number))]
-fn leaves_room(lit: Lit, limit: i64, sums: Sums, b: &BoxOf) -> bool
+pub fn leaves_room(lit: Lit, limit: i64, sums: Sums, b: &BoxOf) -> bool
     requires variable { lit.var < length b.now }
     requires proper { low_of b.now lit.var ≤ℤ high_of b.now lit.var }
     requires limit { IsNumber limit }
@@ -188,7 +159,7 @@ fn open_places(coeffs: &[i64], vars: &[u32], b: &BoxOf) -> Hint
 }
 
 /// The same for the equation of two terms.
-fn is_pair_equation_quiet(lit: Lit, coeffs: &[i64], vars: &[u32], limit: i64, b: &BoxOf) -> bool
+pub fn is_pair_equation_quiet(lit: Lit, coeffs: &[i64], vars: &[u32], limit: i64, b: &BoxOf) -> bool
     requires two { length coeffs.now ≡ 2 }
     requires linear { IsLinear coeffs.now vars.now limit }
     requires variables { AreVariables (length b.now) (lit.var ∷ vars.now) }

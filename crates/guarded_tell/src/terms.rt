@@ -124,7 +124,7 @@ pub fn tell_product_at_least<H: Hear>(var: u32, coeff: i64, room: i128, h: &mut 
 }
 
 /// The greatest whole number that is at most `room` divided by `coeff`. A coefficient 1 or -1 takes no division.
-fn floor_quotient(room: i128, coeff: i64) -> i128
+pub fn floor_quotient(room: i128, coeff: i64) -> i128
     requires coefficient { coeff ≢ pos 0 }
     requires dividend { unsigned_abs room ≤ dividend_limit }
     ensures { result ≡ floor_of room coeff }

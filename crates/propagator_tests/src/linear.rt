@@ -175,12 +175,58 @@ static SUMS: [(&[i64], i64); 13] = [
     (&[1, 1, 1], 4),
 ];
 
-/// Visits the kernels of the sums with this relation on the boxes round their limits.
-fn told_of_sums(rt: &impl Abort, alloc: Global, relation: Relation) -> Result<(), NoMemory> {
-    for (coeffs, limit) in &SUMS {
+/// Boxes at the ends of the range, and inside what fits 32 bits, with the literal false, true and open.
+static WIDE: [Pairs; 12] = [
+    [(0, 0), (-PAST, PAST), (-PAST, PAST), (-PAST, PAST)],
+    [(0, 0), (-9, 9), (-9, 9), (-9, 9)],
+    [(0, 0), (LARGEST, PAST), (-PAST, -LARGEST), (7, 7)],
+    [(1, 1), (-PAST, PAST), (-PAST, PAST), (-PAST, PAST)],
+    [(1, 1), (-9, 9), (-9, 9), (-9, 9)],
+    [(1, 1), (LARGEST, PAST), (-PAST, -LARGEST), (-9, 9)],
+    [(1, 1), (-PAST, -PAST), (PAST, PAST), (-9, 9)],
+    [
+        (1, 1),
+        (-2_147_483_647, 2_147_483_647),
+        (-2_147_483_647, 2_147_483_647),
+        (0, 9),
+    ],
+    [
+        (1, 1),
+        (-2_147_483_648, 2_147_483_647),
+        (-32_768, 32_767),
+        (-9, 0),
+    ],
+    [(0, 1), (-PAST, PAST), (-PAST, PAST), (-PAST, PAST)],
+    [(0, 1), (-9, 9), (-9, 9), (-9, 9)],
+    [(0, 1), (4, 4), (-6, -6), (2, 2)],
+];
+
+/// Coefficients on both sides of those whose products fit 64 bits, with limits that their terms reach.
+static STEEP: [(&[i64], i64); 10] = [
+    (&[1, -1, 2], 3),
+    (&[-1, 2, -2], -17),
+    (&[2, -2, 1], -100),
+    (&[32_767, -32_767, 1], 5),
+    (&[-32_767, 32_767, -2], -65_537),
+    (&[32_768, -1, 32_767], 32_767),
+    (&[2_147_483_647, -2_147_483_647, 2], 2_147_483_646),
+    (&[2_147_483_648, -2_147_483_648, -1], -2_147_483_647),
+    (&[-2_147_483_648, 1, -32_767], LARGEST),
+    (&[3, -5], -LARGEST),
+];
+
+/// Visits the kernels of the sums with this relation on the boxes, where what narrows is compared with the tells.
+fn told_of_sums(
+    rt: &impl Abort,
+    alloc: Global,
+    relation: Relation,
+    sums: &'static [(&'static [i64], i64)],
+    boxes: &[Pairs],
+) -> Result<(), NoMemory> {
+    for (coeffs, limit) in sums {
         for apart in ways(relation) {
             let kernel = linear(rt, alloc, &(relation, true, coeffs, *limit), *apart)?;
-            tell_on_each(rt, alloc, kernel, &NEAR)?;
+            tell_on_each(rt, alloc, kernel, boxes)?;
         }
     }
     Ok(())
@@ -188,13 +234,15 @@ fn told_of_sums(rt: &impl Abort, alloc: Global, relation: Relation) -> Result<()
 
 #[test]
 fn inequalities_give_just_what_narrows(rt: HostRuntime) -> Result<(), Fail> {
-    told_of_sums(&rt, rt.alloc(), AtMost)?;
+    told_of_sums(&rt, rt.alloc(), AtMost, &SUMS, &NEAR)?;
+    told_of_sums(&rt, rt.alloc(), AtMost, &STEEP, &WIDE)?;
     Ok(())
 }
 
 #[test]
 fn equations_give_just_what_narrows(rt: HostRuntime) -> Result<(), Fail> {
-    told_of_sums(&rt, rt.alloc(), Equal)?;
+    told_of_sums(&rt, rt.alloc(), Equal, &SUMS, &NEAR)?;
+    told_of_sums(&rt, rt.alloc(), Equal, &STEEP, &WIDE)?;
     Ok(())
 }
 

@@ -1,5 +1,5 @@
--- The variables of the kernel are those of its parts, and so are its tells.
-use Rattle.std.proofs.Common.{◌≡◌, ℕ, List, ◌∷◌, ◌∙◌, to_z, of_z, sym, subst, arith}
+-- The kernel's tells are those of its tasks.
+use Rattle.std.proofs.Common.{◌≡◌, List, ◌∙◌, to_z, of_z, sym, subst, arith}
 use Rattle.std.proofs.lemmas.Int.{ints}
 use Rattle.std.specs.Bool.{OnTrue}
 use Rattle.std.specs.List.{All}
@@ -8,23 +8,9 @@ use Rattle.interval.specs.Limits.{largest_number}
 use Rattle.tells.specs.declared.tell.Tell.{Tell}
 use Rattle.global_tells.specs.Cumulative.{tasks_of, cumulative_tells, AreTasks}
 use Rattle.guarded_tell.specs.declared.kernel.Kernel.{Kernel}
-use Rattle.guarded_tell.specs.Words.{IsProperIn, Keeps}
-use Rattle.guarded_tell.specs.Kernels.{vars_of, tells, HasNumbers}
+use Rattle.guarded_tell.specs.Words.{Keeps}
+use Rattle.guarded_tell.specs.Kernels.{tells, HasNumbers}
 use Rattle.guarded_tell.proofs.narrowing.is_quiet.Goals as goal
-
-pub is_at_most_quiet-requires-clause-proper : goal.is_at_most_quiet-requires-clause-proper
-unfolding vars_of
-is_at_most_quiet-requires-clause-proper c =
-    let P : List ℕ → Type 0 = λ vs. IsProperIn (c.in-Le.lit.var ∷ vs) c.args.b.now in
-    let Q : Kernel → Type 0 = λ k. IsProperIn (vars_of k) c.args.b.now in
-    let same : c.as_slice-in-Le.result.now ≡ c.in-Le.vars = cc in
-    subst P (sym same) (subst Q c.in-Le.is c.requires.proper)
-
-pub is_whole_equation_quiet-requires-clause-proper : goal.is_whole_equation_quiet-requires-clause-proper
-unfolding vars_of
-is_whole_equation_quiet-requires-clause-proper c =
-    let Q : Kernel → Type 0 = λ k. IsProperIn (vars_of k) c.args.b.now in
-    subst Q c.in-Eq.is c.requires.proper
 
 pub returns-in-Cumulative : goal.returns-in-Cumulative
 unfolding tells HasNumbers largest_number

@@ -37,8 +37,10 @@ pub mod ShortLaws
 pub mod QuietLaws
 pub mod PartedLaws
 pub mod PairLaws
+pub mod ShapeLaws
 pub mod OpenLaws
 pub mod QuotientLaws
 pub mod RoomLaws
 pub mod ClauseQuiet
+pub mod ShapeQuiet
 pub mod ProductQuiet

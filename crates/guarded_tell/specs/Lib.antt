@@ -18,4 +18,5 @@ pub mod Hull
 pub mod Kernels
 pub mod Narrowing
 pub mod Short
+pub mod Shapes
 pub mod Products

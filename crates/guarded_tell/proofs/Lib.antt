@@ -37,10 +37,12 @@ pub mod ShortLaws
 pub mod QuietLaws
 pub mod PartedLaws
 pub mod PairLaws
+pub mod ShapeLaws
 pub mod OpenLaws
 pub mod QuotientLaws
 pub mod RoomLaws
 pub mod ClauseQuiet
+pub mod ShapeQuiet
 pub mod ProductQuiet
 pub mod ShortTellLaws
 pub mod ShortSumLaws

@@ -19,4 +19,5 @@ pub mod Kernels
 pub mod Narrowing
 pub mod Short
 pub mod ShortTells
+pub mod Shapes
 pub mod Products

@@ -21,6 +21,7 @@ mod parted_quiet;
 mod products;
 mod quiet;
 mod remainder;
+mod shape;
 mod short;
 mod short_sum;
 mod short_terms;
@@ -34,5 +35,6 @@ pub use laws::{law_local, law_monotone, law_narrowing, law_point, law_tell_place
 pub use literal_list::Literals;
 pub use narrowing::visit_narrowing;
 pub use quiet::Hint;
+pub use shape::{Shape, shape_of};
 pub use tells::{Hear, Lit, Side, Tell};
 pub use visit::visit_tells;

@@ -7,18 +7,55 @@ ghost use Rattle.guarded_tell.specs.Words.{IsProperIn, Keeps};
 ghost use Rattle.guarded_tell.specs.Hearing.{MayHearAll, HearsAll};
 ghost use Rattle.guarded_tell.specs.Linear.{product_at_most, product_at_least};
 ghost use Rattle.guarded_tell.specs.Kernels.{vars_of, tells, IsKernel};
+ghost use Rattle.guarded_tell.specs.Shapes.{IsShapeOf};
 ghost use Rattle.guarded_tell.specs.Narrowing.{narrowing, narrowing_tells};
 ghost use Rattle.guarded_tell.specs.Narrowing as words;
 
+use crate::pairs::{pair_leaves_room, pair_leaves_room_on_both_sides};
 use crate::products::is_product_quiet;
 use crate::quiet::{Hint, is_clause_quiet};
+use crate::shape::{Shape, difference, is_either_quiet};
 use crate::short_sum::{narrow_at_most, narrow_equation};
 use crate::{Hear, Kernel, Side, Tell, law_tell_place, visit_tells};
 use global_tells::{is_all_different_quiet, is_cumulative_quiet};
 use interval::{BoxOf, law_clamp_order, law_quotient_order};
 
 /// Gives the tells of the kernel that narrow the box to `h`, each once and in order. It takes no memory.
-pub fn visit_narrowing<H: Hear>(k: &Kernel, b: &BoxOf, hint: &mut Hint, h: &mut H)
+pub fn visit_narrowing<H: Hear>(k: &Kernel, shape: &Shape, b: &BoxOf, hint: &mut Hint, h: &mut H)
+    requires kernel { IsKernel (length b.now) k.now }
+    requires shape { IsShapeOf k.now shape.now }
+    requires proper { IsProperIn (vars_of k.now) b.now }
+    requires hearer { MayHearAll H.can_hear H.hears h.old (narrowing_tells k.now b.now) }
+    ensures { HearsAll H.hears h.old (narrowing_tells k.now b.now) h.new }
+{
+    if !is_quiet_by_shape(k, shape, b) {
+        give_tells(k, b, hint, h);
+    }
+}
+
+/// Whether the kernel is seen to narrow nothing, by its shape alone.
+fn is_quiet_by_shape(k: &Kernel, shape: &Shape, b: &BoxOf) -> bool
+    requires kernel { IsKernel (length b.now) k.now }
+    requires shape { IsShapeOf k.now shape.now }
+    requires proper { IsProperIn (vars_of k.now) b.now }
+    ensures { OnTrue result (All (Keeps b.now) (tells k.now b.now)) }
+{
+    law_quotient_order();
+    law_clamp_order();
+    match shape {
+        Shape::AtMost { lit, x, y, limit } => {
+            pair_leaves_room(*lit, *limit, difference(*x, *y, b), b)
+        }
+        Shape::Same { lit, x, y, limit } => {
+            pair_leaves_room_on_both_sides(*lit, *limit, difference(*x, *y, b), b)
+        }
+        Shape::Either { first, second } => is_either_quiet(*first, *second, b),
+        Shape::Other => false,
+    }
+}
+
+/// The same as `visit_narrowing`, without a look at the shape.
+fn give_tells<H: Hear>(k: &Kernel, b: &BoxOf, hint: &mut Hint, h: &mut H)
     requires kernel { IsKernel (length b.now) k.now }
     requires proper { IsProperIn (vars_of k.now) b.now }
     requires hearer { MayHearAll H.can_hear H.hears h.old (narrowing_tells k.now b.now) }

@@ -48,7 +48,7 @@ fn term_of(coeff: i64, var: u32, b: &BoxOf) -> Option<SmallTerm>
 }
 
 /// What the variable is at least and at most.
-fn plain(var: u32, b: &BoxOf) -> SmallTerm
+pub fn plain(var: u32, b: &BoxOf) -> SmallTerm
     requires variable { var < length b.now }
     requires proper { low_of b.now var ≤ℤ high_of b.now var }
     ensures { IsTermOf b.now (pos 1) var result }
@@ -61,7 +61,7 @@ fn plain(var: u32, b: &BoxOf) -> SmallTerm
 
 /// What the opposite of the variable is at least and at most.
 #[tactic(auto, unfolding(interval::specs::Limits::bound_limit, interval::specs::Limits::largest_number))]
-fn opposite(var: u32, b: &BoxOf) -> SmallTerm
+pub fn opposite(var: u32, b: &BoxOf) -> SmallTerm
     requires variable { var < length b.now }
     requires proper { low_of b.now var ≤ℤ high_of b.now var }
     ensures { IsTermOf b.now (negsuc 0) var result }

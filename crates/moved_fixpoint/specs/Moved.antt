@@ -4,6 +4,7 @@ use Rattle.std.specs.List.{All}
 use Rattle.interval.specs.Boxes.{Bounds, put_of}
 use Rattle.guarded_tell.specs.declared.kernel.Kernel.{Kernel}
 use Rattle.guarded_tell.specs.Kernels.{vars_of, IsKernel, IsClosedUnder}
+use Rattle.guarded_tell.specs.Shapes.{AreShapesOf}
 use Rattle.fixpoint_laws.specs.Fixpoints.{IsClosed}
 use Rattle.moved_set.specs.Sets.{IsIn, Naming, IsNaming}
 
@@ -35,10 +36,11 @@ IsQuietUnlessIn set b kernel = Misses set (vars_of kernel) → IsClosedUnder ker
 abbrev pub AreMovedOrQuiet : Set → Bounds → List Kernel → Type 0
 AreMovedOrQuiet set b kernels = All (IsQuietUnlessIn set b) kernels
 
--- the masks are those of the kernels' variables, of so many variables
+-- the masks are those of the kernels' variables, of so many variables, and have the kernels' shapes
 pub record AreMasksOf (kernels : List Kernel) (count : ℕ) (masks : Naming) : Type 0 where
   pub naming : IsNaming kernels masks
   pub same_count : masks.count ≡ count
+  pub shapes : AreShapesOf kernels masks.shapes
 
 -- how callers come by a set that names what moved: on a closed box any set will do, on any box a set of all its variables;
 -- and where one variable gets other bounds and is put into the set

@@ -55,7 +55,7 @@ pub(crate) fn run_kernel(
     let _length = b.len();
     let kernel = &kernels[place];
     sets.asked.forget(place);
-    sets.gather(kernel, place, b.current());
+    sets.gather(kernel, masks.shape(place), place, b.current());
     if sets.told.refused {
         return Progress::Refused;
     }

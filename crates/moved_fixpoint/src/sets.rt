@@ -4,10 +4,11 @@ ghost use Rattle.std.specs.Prelude.{◌≡◌, false, length, IfOk};
 ghost use Rattle.guarded_tell.specs.Words.{IsProperIn};
 ghost use Rattle.guarded_tell.specs.Kernels.{vars_of, IsKernel};
 ghost use Rattle.guarded_tell.specs.Narrowing.{narrowing_tells};
+ghost use Rattle.guarded_tell.specs.Shapes.{IsShapeOf};
 ghost use Rattle.moved_fixpoint.specs.Moved.{count_of, Fit, IsEmpty};
 
 use crate::told::Told;
-use guarded_tell::{Hint, Kernel};
+use guarded_tell::{Hint, Kernel, Shape};
 use interval::{BoxOf, NoMemory};
 use moved_set::{AskedSet, MovedSet};
 use std::alloc::Global;
@@ -60,16 +61,17 @@ impl AskedSets {
     }
 
     /// Gathers those tells of the kernel at a place that narrow the box.
-    pub(crate) fn gather(&mut self, kernel: &Kernel, place: usize, b: &BoxOf)
+    pub(crate) fn gather(&mut self, kernel: &Kernel, shape: &Shape, place: usize, b: &BoxOf)
         requires kernel { IsKernel (length b.now) kernel.now }
+        requires shape { IsShapeOf kernel.now shape.now }
         requires proper { IsProperIn (vars_of kernel.now) b.now }
         ensures asked { self.new.asked ≡ self.old.asked }
         ensures told { self.new.told.refused ≡ false → self.new.told.tells.items ≡ narrowing_tells kernel.now b.now }
     {
         if place < self.hints.len() {
-            self.told.gather(kernel, b, &mut self.hints[place]);
+            self.told.gather(kernel, shape, b, &mut self.hints[place]);
         } else {
-            self.told.gather(kernel, b, &mut Hint::new());
+            self.told.gather(kernel, shape, b, &mut Hint::new());
         }
     }
 }

@@ -6,6 +6,7 @@ use Rattle.std.specs.declared.alloc.Global.{Global}
 use Rattle.std.proofs.lemmas.List.{take_more}
 use Rattle.std.proofs.lemmas.List.Folds.{list_any-append}
 use Rattle.std.proofs.lemmas.List.FromFn.{length-map-range_with_len, get_or-map-range_with_len}
+use Rattle.guarded_tell.specs.declared.shape.Shape.{Shape}
 use Rattle.moved_set.specs.declared.mask.Mask.{Mask}
 use Rattle.moved_set.specs.Sets.{Naming, set_at}
 use Rattle.moved_set.specs.Words.{names}
@@ -64,11 +65,11 @@ set_has own lists_of users count kernels j v h k =
     ∙ get_or-map-range_with_len (λ v. asks own lists_of users v j) 0 count v v false k (omega arith)
 
 -- all of them
-pub asked_all : (old new : List Bool) (own : List (List Mask)) (lists_of : List (Vec ℕ Global)) (users : List (List Mask)) (count kernels v : ℕ) (naming : Naming) (row : List Mask) (lists : List ℕ)
-    → record { count = count; sets = asked_sets own lists_of users count kernels } ≡ naming → v < count → length old ≡ length naming.sets
+pub asked_all : (old new : List Bool) (own : List (List Mask)) (lists_of : List (Vec ℕ Global)) (users : List (List Mask)) (count kernels v : ℕ) (shapes : List Shape) (naming : Naming) (row : List Mask) (lists : List ℕ)
+    → record { count = count; sets = asked_sets own lists_of users count kernels; shapes = shapes } ≡ naming → v < count → length old ≡ length naming.sets
     → row ≡ masks_at own v → lists ≡ row_at lists_of v → IsAsked old (λ j. names row j || some_uses users j lists) new
     → IsAsked old (λ j. get_or (set_at naming j) v false) new
-asked_all old new own lists_of users count kernels v naming row lists is h len row_is lists_is asked = record {
+asked_all old new own lists_of users count kernels v shapes naming row lists is h len row_is lists_is asked = record {
   same_length = asked.same_length;
   each = λ j k.
       let size : length naming.sets ≡ kernels = ap (λ (n : Naming). length n.sets) (sym is) ∙ sets_length own lists_of users count kernels in

@@ -9,6 +9,7 @@ use Rattle.std.proofs.lemmas.List.{get_or_past, get_or_default}
 use Rattle.std.proofs.lemmas.List.Elements.{Contains-get_or}
 use Rattle.std.proofs.lemmas.List.Folds.{Any-from_list_any, list_any_at}
 use Rattle.guarded_tell.specs.declared.kernel.Kernel.{Kernel}
+use Rattle.guarded_tell.specs.declared.shape.Shape.{Shape}
 use Rattle.guarded_tell.specs.Kernels.{vars_of, IsKernel}
 use Rattle.moved_set.specs.declared.mask.Mask.{Mask}
 use Rattle.moved_set.specs.declared.parts.Part.{Part}
@@ -95,8 +96,8 @@ module _ (kernels : List Kernel) (lists : List (List ℕ)) (parts : List Part) (
       let listed : Contains (list_at lists (part_at parts j).list) v = subst (λ (i : ℕ). Contains (list_at lists i) v) (sym same) pl.1 in
       (pu.0, (named_in_part (vars_at kernels j) lists (part_at parts j) v (parts_are.each j pu.0)).1 (inr listed)))
 
-  pub masks_name : IsNaming kernels (record { count = count; sets = asked_sets own lists_of users count (length kernels) })
-  masks_name = record {
+  pub masks_name : (shapes : List Shape) → IsNaming kernels (record { count = count; sets = asked_sets own lists_of users count (length kernels); shapes = shapes })
+  masks_name shapes = record {
     same_length = sets_length own lists_of users count (length kernels);
     each = λ j d v h.
         let same : vars_at kernels j ≡ vars_of (get_or kernels j d) = vars_are kernels j d h in

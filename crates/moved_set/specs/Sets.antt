@@ -2,6 +2,7 @@
 use Rattle.std.specs.Prelude.{◌≡◌, ℕ, ◌<◌, Bool, true, false, List, [], length, slice_index_or, ◌↔◌, Contains}
 use Rattle.guarded_tell.specs.declared.kernel.Kernel.{Kernel}
 use Rattle.guarded_tell.specs.Kernels.{vars_of}
+use Rattle.guarded_tell.specs.declared.shape.Shape.{Shape}
 
 -- the number v is in the set
 abbrev pub IsIn : List Bool → ℕ → Type 0
@@ -9,10 +10,11 @@ IsIn set v = slice_index_or set v false ≡ true
 
 -- ---- the variables of kernels
 
--- for each kernel the set of the variables that it names, of so many variables
+-- for each kernel the set of the variables that it names, of so many variables, and its shape
 pub record Naming : Type 0 where
   pub count : ℕ
   pub sets : List (List Bool)
+  pub shapes : List Shape
 
 -- the set of the kernel's variables
 abbrev pub set_at : Naming → ℕ → List Bool

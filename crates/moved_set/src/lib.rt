@@ -11,6 +11,7 @@ mod masks;
 mod parts;
 mod rows;
 mod set;
+mod shapes;
 
 pub use asked::AskedSet;
 pub use masks::Masks;

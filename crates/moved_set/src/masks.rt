@@ -4,6 +4,7 @@
 ghost use Rattle.std.specs.Prelude.{◌≡◌, ◌<◌, ◌^◌, ℕ, false, length, slice_index_or, All, IfOk};
 ghost use Rattle.std.specs.Bool.{OnTrue};
 ghost use Rattle.guarded_tell.specs.Kernels.{IsKernel};
+ghost use Rattle.guarded_tell.specs.Shapes.{AreShapesOf};
 ghost use Rattle.moved_set.specs.Sets.{IsNaming, set_at};
 ghost use Rattle.moved_set.specs.Asking.{IsAsked};
 
@@ -12,7 +13,8 @@ use crate::build::masks_of;
 use crate::groups::Groups;
 use crate::parts::parts_of;
 use crate::rows::Rows;
-use guarded_tell::Kernel;
+use crate::shapes::shapes_of;
+use guarded_tell::{Kernel, Shape};
 use interval::NoMemory;
 use std::alloc::Global;
 use std::marker::Model;
@@ -29,6 +31,8 @@ pub struct Masks {
     lists_of: Vec<Vec<u32>>,
     // for each list the kernels that have it
     users: Groups,
+    // for each kernel its shape
+    shapes: Vec<Shape>,
 }
 
 impl Model for Masks {
@@ -38,7 +42,7 @@ impl Model for Masks {
 
     ghost Value = { Naming };
 
-    ghost view = { λ m. record { count = m.count; sets = asked_sets m.own m.lists_of.items m.users m.count m.kernels } };
+    ghost view = { λ m. record { count = m.count; sets = asked_sets m.own m.lists_of.items m.users m.count m.kernels; shapes = m.shapes.items } };
 
     ghost invariant = { IsConsistent };
 }
@@ -49,6 +53,7 @@ impl Masks {
         requires { All (IsKernel count) kernels.now }
         ensures count { IfOk result (λ m. m.count ≡ count) }
         ensures naming { IfOk result (IsNaming kernels.now) }
+        ensures shapes { IfOk result (λ m. AreShapesOf kernels.now m.shapes) }
     {
         let parts = parts_of(alloc, kernels, count)?;
         if !can_be_numbered(kernels.len(), parts.lists.len()) {
@@ -58,6 +63,7 @@ impl Masks {
         let words = kernels.len() / 32 + 1;
         let own = masks_of(alloc, rows.own.as_slice(), words)?;
         let users = masks_of(alloc, rows.users.as_slice(), words)?;
+        let shapes = shapes_of(alloc, kernels)?;
         let Rows { lists_of, .. } = rows;
         Ok(Masks {
             count,
@@ -65,7 +71,16 @@ impl Masks {
             own,
             lists_of,
             users,
+            shapes,
         })
+    }
+
+    /// The shape of the kernel at a place.
+    pub fn shape(&self, place: usize) -> &Shape
+        requires { place < length self.now.shapes }
+        ensures { result.now ≡ slice_index_or self.now.shapes place result.now }
+    {
+        &self.shapes.as_slice()[place]
     }
 
     /// Puts the kernels that name the variable into the set too.

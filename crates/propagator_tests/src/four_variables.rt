@@ -4,8 +4,9 @@ ghost use Rattle.std.specs.Prelude.{◌≡◌, ◌≤◌, IfOk, length, unsigned
 ghost use Rattle.interval.specs.Limits.{IsBound, IsNumber, bound_limit, largest_number};
 ghost use Rattle.interval.specs.Boxes.{IsProper};
 ghost use Rattle.guarded_tell.specs.Kernels.{IsKernel};
+ghost use Rattle.guarded_tell.specs.Shapes.{IsShapeOf};
 
-use guarded_tell::{Hear, Hint, Kernel, Side, Tell, visit_narrowing, visit_tells};
+use guarded_tell::{Hear, Hint, Kernel, Shape, Side, Tell, shape_of, visit_narrowing, visit_tells};
 use interval::{BoxOf, NoMemory, is_crossed};
 use std::alloc::Global;
 use std::process::Abort;
@@ -116,30 +117,57 @@ fn tells_on(kernel: &Kernel, b: &BoxOf) -> Heard
     heard
 }
 
-/// The tells of the kernel that narrow the box, in order.
-fn narrowing_on(kernel: &Kernel, b: &BoxOf, hint: &mut Hint) -> Heard
+/// The tells of the kernel of this shape that narrow the box, in order.
+fn narrowing_on(kernel: &Kernel, shape: &Shape, b: &BoxOf, hint: &mut Hint) -> Heard
     requires kernel { IsKernel 4 kernel.now }
+    requires shape { IsShapeOf kernel.now shape.now }
     requires four { length b.now ≡ 4 }
     requires proper { IsProper b.now }
 {
     let mut heard = Heard::new();
-    visit_narrowing(kernel, b, hint, &mut heard);
+    visit_narrowing(kernel, shape, b, hint, &mut heard);
     heard
 }
 
-/// The tells of the kernel on the box of these bounds, in order. Those that narrow it are given alone too, whatever is
-/// remembered of the visit before.
+/// Asserts that the tells that narrow these bounds are given alone, whatever is remembered of the visit before.
+fn expect_narrowing(
+    rt: &impl Abort,
+    kernel: &Kernel,
+    shape: Shape,
+    b: &BoxOf,
+    pairs: &Pairs,
+    tells: &[Told],
+)
+    requires kernel { IsKernel 4 kernel.now }
+    requires shape { IsShapeOf kernel.now shape }
+    requires four { length b.now ≡ 4 }
+    requires proper { IsProper b.now }
+{
+    let mut hint = Hint::new();
+    for _ in 0..2 {
+        let narrowing = narrowing_on(kernel, &shape, b, &mut hint);
+        assert!(rt; are_those_that_narrow(tells, pairs, narrowing.as_slice(rt)));
+    }
+}
+
+/// The tells of the kernel on the box of these bounds, in order. Those that narrow it are given alone too, by its shape and
+/// without it.
+#[tactic(auto, unfolding(guarded_tell::specs::Shapes::IsShapeOf))]
 fn told(rt: &impl Abort, alloc: Global, kernel: &Kernel, pairs: &Pairs) -> Result<Heard, NoMemory>
     requires { IsKernel 4 kernel.now }
 {
     let b = box_of(rt, alloc, pairs)?;
     let heard = tells_on(kernel, &b);
-    let mut hint = Hint::new();
-    for _ in 0..2 {
-        let narrowing = narrowing_on(kernel, &b, &mut hint);
-        assert!(rt; are_those_that_narrow(heard.as_slice(rt), pairs, narrowing.as_slice(rt)));
-    }
+    expect_narrowing(rt, kernel, shape_of(kernel), &b, pairs, heard.as_slice(rt));
+    expect_narrowing(rt, kernel, Shape::Other, &b, pairs, heard.as_slice(rt));
     Ok(heard)
+}
+
+/// The shape of the kernel.
+pub fn shape(kernel: Kernel) -> Shape
+    requires { IsKernel 4 kernel }
+{
+    shape_of(&kernel)
 }
 
 /// The tells of the kernel that narrow the box of these bounds, in order.
@@ -166,7 +194,7 @@ fn narrowing_by(
     requires { IsKernel 4 kernel.now }
 {
     let b = box_of(rt, alloc, pairs)?;
-    Ok(narrowing_on(kernel, &b, hint))
+    Ok(narrowing_on(kernel, &shape_of(kernel), &b, hint))
 }
 
 /// Whether `narrowing` are the tells that narrow these bounds, in their order.

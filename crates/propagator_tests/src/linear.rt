@@ -8,10 +8,11 @@ ghost use Rattle.guarded_tell.specs.Linear.{IsLinear};
 ghost use Rattle.guarded_tell.specs.Kernels.{IsKernel};
 
 use crate::four_variables::{
-    LARGEST, PAST, Pairs, Told, expect_bounds, expect_tells, narrowing_told, number, tell_on_each,
+    LARGEST, PAST, Pairs, Told, expect_bounds, expect_tells, narrowing_told, number, shape,
+    tell_on_each,
 };
 use guarded_tell::Side::{High, Low};
-use guarded_tell::{Extended, Hint, Kernel, Lit};
+use guarded_tell::{Extended, Hint, Kernel, Lit, Shape};
 use interval::NoMemory;
 use shared_list::SharedList;
 use std::alloc::{AllocError, Global};
@@ -175,6 +176,28 @@ static SUMS: [(&[i64], i64); 13] = [
     (&[1, 1, 1], 4),
 ];
 
+/// Boxes at the ends of the range, with the literal false, true and open.
+static FAR: [Pairs; 9] = [
+    [(0, 0), (-PAST, PAST), (-PAST, PAST), (0, 0)],
+    [(0, 0), (PAST, PAST), (-PAST, PAST), (0, 0)],
+    [(0, 0), (LARGEST, LARGEST), (0, PAST), (0, 0)],
+    [(1, 1), (-PAST, PAST), (-PAST, PAST), (0, 0)],
+    [(1, 1), (-PAST, -PAST), (PAST, PAST), (0, 0)],
+    [(1, 1), (-LARGEST, 0), (0, 0), (0, 0)],
+    [(0, 1), (-PAST, PAST), (-PAST, PAST), (0, 0)],
+    [(0, 1), (LARGEST, PAST), (0, 0), (0, 0)],
+    [(0, 1), (LARGEST, LARGEST), (0, 0), (0, 0)],
+];
+
+/// Differences with limits at the ends of the range.
+static FAR_SUMS: [(&[i64], i64); 5] = [
+    (&[1, -1], LARGEST),
+    (&[1, -1], -LARGEST),
+    (&[-1, 1], LARGEST),
+    (&[-1, 1], -LARGEST),
+    (&[1, -1], 0),
+];
+
 /// Boxes at the ends of the range, and inside what fits 32 bits, with the literal false, true and open.
 static WIDE: [Pairs; 12] = [
     [(0, 0), (-PAST, PAST), (-PAST, PAST), (-PAST, PAST)],
@@ -236,6 +259,7 @@ fn told_of_sums(
 fn inequalities_give_just_what_narrows(rt: HostRuntime) -> Result<(), Fail> {
     told_of_sums(&rt, rt.alloc(), AtMost, &SUMS, &NEAR)?;
     told_of_sums(&rt, rt.alloc(), AtMost, &STEEP, &WIDE)?;
+    told_of_sums(&rt, rt.alloc(), AtMost, &FAR_SUMS, &FAR)?;
     Ok(())
 }
 
@@ -243,6 +267,40 @@ fn inequalities_give_just_what_narrows(rt: HostRuntime) -> Result<(), Fail> {
 fn equations_give_just_what_narrows(rt: HostRuntime) -> Result<(), Fail> {
     told_of_sums(&rt, rt.alloc(), Equal, &SUMS, &NEAR)?;
     told_of_sums(&rt, rt.alloc(), Equal, &STEEP, &WIDE)?;
+    told_of_sums(&rt, rt.alloc(), Equal, &FAR_SUMS, &FAR)?;
+    Ok(())
+}
+
+#[test]
+fn a_difference_is_seen_in_either_order(rt: HostRuntime) -> Result<(), Fail> {
+    let lit = Lit {
+        var: 0,
+        positive: true,
+    };
+    let at_most = linear(&rt, rt.alloc(), &(AtMost, true, &[-1, 1], 5), WAYS[0])?;
+    assert_eq!(rt;
+        shape(at_most),
+        Shape::AtMost {
+            lit,
+            x: 2,
+            y: 1,
+            limit: 5
+        }
+    );
+    for apart in &WAYS {
+        let same = linear(&rt, rt.alloc(), &(Equal, true, &[1, -1], -5), *apart)?;
+        assert_eq!(rt;
+            shape(same),
+            Shape::Same {
+                lit,
+                x: 1,
+                y: 2,
+                limit: -5
+            }
+        );
+        let sum = linear(&rt, rt.alloc(), &(Equal, true, &[1, 1], -5), *apart)?;
+        assert_eq!(rt; shape(sum), Shape::Other);
+    }
     Ok(())
 }
 

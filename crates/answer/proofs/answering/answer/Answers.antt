@@ -1,5 +1,6 @@
 use Rattle.std.proofs.Common.{List, refl, subst, ◌∙◌}
 use Rattle.guarded_tell.specs.declared.kernel.Kernel.{Kernel}
+use Rattle.guarded_tell.specs.Shapes.{AreShapesOf}
 use Rattle.moved_set.specs.Sets.{IsNaming}
 use Rattle.answer.proofs.answering.answer.Goals as goal
 
@@ -11,6 +12,7 @@ answer_of-requires-clause-set_up g c = λ lifetimes outlive. record {
     masks = record {
       naming = subst (λ (ks : List Kernel). IsNaming ks c.in_ok-masks.masks) c.as_slice.ensures c.in_ok-masks.ensures.naming;
       same_count = c.in_ok-masks.ensures.count ∙ c.len.ensures.value;
+      shapes = subst (λ (ks : List Kernel). AreShapesOf ks c.in_ok-masks.masks.shapes) c.as_slice.ensures c.in_ok-masks.ensures.shapes;
     };
     some_lanes = c.requires.some_lanes;
     most_lanes = c.requires.most_lanes;

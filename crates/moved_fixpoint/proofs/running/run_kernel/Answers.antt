@@ -3,6 +3,8 @@ use Rattle.std.specs.List.{All}
 use Rattle.std.proofs.lemmas.List.{get_or_default}
 use Rattle.interval.specs.Boxes.{Bounds}
 use Rattle.guarded_tell.specs.declared.kernel.Kernel.{Kernel}
+use Rattle.guarded_tell.specs.declared.shape.Shape.{Shape}
+use Rattle.guarded_tell.specs.Shapes.{IsShapeOf}
 use Rattle.guarded_tell.specs.Words.{Tell}
 use Rattle.guarded_tell.specs.Kernels.{IsKernel}
 use Rattle.guarded_tell.specs.Narrowing.{narrowing_tells}
@@ -18,6 +20,16 @@ join_all-after-requires c = record {
       (here_is c.args.kernels.now (length c.args.b.now.current) c.args.place c.index-kernels-place.result c.requires.kernels c.requires.place c.index-kernels-place.is) c.as_slice.result.now
       (c.as_slice.ensures.value ∙ c.gather.ensures.told c.if-sets.false ∙ ap (λ (b : Bounds). narrowing_tells c.index-kernels-place.result b) c.current.ensures);
 }
+
+pub shape-requires : goal.shape-requires
+shape-requires c = omega (arith, c.requires.place, c.requires.masks.shapes.same_length)
+
+pub gather-requires-clause-shape : goal.gather-requires-clause-shape
+gather-requires-clause-shape c =
+    let k : Kernel = c.index-kernels-place.result in
+    let s : Shape = c.shape.result.now in
+    subst (λ (j : Kernel). IsShapeOf j s) (sym c.index-kernels-place.is)
+    (subst (λ (r : Shape). IsShapeOf (get_or c.args.kernels.now c.args.place k) r) (sym c.shape.ensures) (c.requires.masks.shapes.each c.args.place k s c.requires.place))
 
 pub ask_told-requires-clause-variables : goal.ask_told-requires-clause-variables
 ask_told-requires-clause-variables c k d h =

@@ -1,5 +1,6 @@
 use Rattle.std.proofs.Common.{List, subst, ◌∙◌}
 use Rattle.guarded_tell.specs.declared.kernel.Kernel.{Kernel}
+use Rattle.guarded_tell.specs.Shapes.{AreShapesOf}
 use Rattle.moved_set.specs.Sets.{IsNaming}
 use Rattle.search_tests.proofs.models.compile_text.Goals as goal
 
@@ -10,5 +11,6 @@ returns c = record {
   are_masks = record {
     naming = subst (λ (ks : List Kernel). IsNaming ks c.in_ok-masks.masks) c.as_slice.ensures c.in_ok-masks.ensures.naming;
     same_count = c.in_ok-masks.ensures.count ∙ c.len.ensures.value;
+    shapes = subst (λ (ks : List Kernel). AreShapesOf ks c.in_ok-masks.masks.shapes) c.as_slice.ensures c.in_ok-masks.ensures.shapes;
   };
 }

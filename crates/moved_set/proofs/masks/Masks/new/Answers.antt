@@ -28,4 +28,7 @@ returns-clause-naming c =
     let own = groups_lent c.in_ok-rows.rows.own.items c.as_slice.result.now c.args.count c.in_ok-own.own c.as_slice.ensures.value c.in_ok-rows.ensures.own.length_is c.in_ok-own.ensures.masks in
     let users = groups_lent c.in_ok-rows.rows.users.items c.as_slice-2.result.now (length c.in_ok-parts.parts.lists.items) c.in_ok-users.users c.as_slice-2.ensures.value c.in_ok-rows.ensures.users.length_is c.in_ok-users.ensures.masks in
     masks_name c.args.kernels.now c.in_ok-parts.parts.lists.items c.in_ok-parts.parts.of_kernels.items c.args.count c.in_ok-rows.rows.own.items c.in_ok-rows.rows.lists_of.items c.in_ok-rows.rows.users.items
-    c.in_ok-own.own c.in_ok-users.users c.requires c.in_ok-parts.ensures.parts c.in_ok-rows.ensures.own c.in_ok-rows.ensures.lists c.in_ok-rows.ensures.users own users
+    c.in_ok-own.own c.in_ok-users.users c.requires c.in_ok-parts.ensures.parts c.in_ok-rows.ensures.own c.in_ok-rows.ensures.lists c.in_ok-rows.ensures.users own users c.in_ok-shapes.shapes.items
+
+pub shapes_of-requires : goal.shapes_of-requires
+shapes_of-requires c = λ i d h. (c.requires i d h).numbers

@@ -1,0 +1,165 @@
+-- Shapes and the kernels that they are of.
+use Rattle.std.proofs.Common.{◌≡◌, ℕ, zero, suc, ◌<◌, List, [], ◌∷◌, ◌++◌, length, get_or, ℤ, pos, negsuc, ◌≤ℤ◌, ◌⊎◌, inl, inr, ⊎_elim, Option, None, Some, refl, sym, ap, subst, ◌∙◌, arith}
+use Rattle.std.specs.Prelude.{MatchOption}
+use Rattle.std.proofs.lemmas.List.{get_or_default}
+use mir.Val.{to_z, of_z}
+use mir.Syntax.{w64}
+use Rattle.tells.specs.declared.tell.Lit.{Lit}
+use Rattle.interval.specs.Limits.{IsNumber}
+use Rattle.interval.specs.Boxes.{Bounds, low_of, high_of}
+use Rattle.guarded_tell.specs.Words.{AreVariables, IsProperIn}
+use Rattle.guarded_tell.specs.Linear.{IsLinear}
+use Rattle.guarded_tell.specs.Clause.{clause_vars}
+use Rattle.guarded_tell.specs.declared.kernel.Kernel.{Kernel}
+use Rattle.guarded_tell.specs.declared.kernel.Kernel.TheVariants.{Le, Eq, Times, Div, Mod, Abs, Max, Min, Clause, Element, InSet, AllDiff, Cumulative}
+use Rattle.guarded_tell.specs.declared.shape.Shape.{Shape}
+use Rattle.guarded_tell.specs.declared.shape.Shape.TheVariants.{AtMost, Same, Either, Other}
+use Rattle.guarded_tell.specs.Kernels.{vars_of, HasNumbers, IsKernel}
+use Rattle.guarded_tell.specs.Shapes.{IsDifference, IsShapeOf}
+use Rattle.guarded_tell.proofs.ShortLaws.{short_number}
+
+-- a list of two items
+pub two_items : {A : Type 0} (xs : List A) (x y : A) → length xs ≡ 2 → x ≡ get_or xs 0 x → y ≡ get_or xs 1 y → xs ≡ x ∷ y ∷ []
+two_items [] x y h e f = absurd (omega arith)
+two_items (a ∷ []) x y h e f = absurd (omega arith)
+two_items (a ∷ c ∷ d ∷ xs) x y h e f = absurd (omega arith)
+two_items (a ∷ c ∷ []) x y h e f = λ i. sym e i ∷ sym f i ∷ []
+
+pub item_and_last : {A : Type 0} (xs front : List A) (x last : A) → xs ≡ front ++ last ∷ [] → length front ≡ 1 → x ≡ get_or front 0 x → xs ≡ x ∷ last ∷ []
+item_and_last xs [] x last e h f = absurd (omega arith)
+item_and_last xs (a ∷ c ∷ front) x last e h f = absurd (omega arith)
+item_and_last xs (a ∷ []) x last e h f = e ∙ (λ i. sym f i ∷ last ∷ [])
+
+-- what the code reads of a coefficient
+pub coefficient_read : (coeffs : List ℤ) (vars : List ℕ) (limit : ℤ) (i : ℕ) → IsLinear coeffs vars limit → i < length coeffs → to_z w64 (of_z w64 (get_or coeffs i (pos 0))) ≡ get_or coeffs i (to_z w64 (of_z w64 (get_or coeffs i (pos 0))))
+coefficient_read coeffs vars limit i linear inside =
+    let same = short_number (get_or coeffs i (pos 0)) (linear.coefficients i inside) in
+    same ∙ get_or_default coeffs i (pos 0) (to_z w64 (of_z w64 (get_or coeffs i (pos 0)))) inside
+
+-- what two terms say of their signs
+abbrev pub SaysSigns : List ℤ → List ℕ → Option (ℕ × ℕ) → Type 0
+SaysSigns coeffs vars o = MatchOption o ((x y : ℕ) → IsDifference coeffs vars x y → ⊥) (λ d. IsDifference coeffs vars d.0 d.1)
+
+pub says_signs : (coeffs : List ℤ) (vars : List ℕ) (a c : ℤ) (x y : ℕ) (o : Option (ℕ × ℕ)) → coeffs ≡ a ∷ c ∷ [] → vars ≡ x ∷ y ∷ [] → SaysSigns (a ∷ c ∷ []) (x ∷ y ∷ []) o → SaysSigns coeffs vars o
+says_signs coeffs vars a c x y o e f s =
+    subst (λ (cs : List ℤ). SaysSigns cs vars o) (sym e) (subst (λ (vs : List ℕ). SaysSigns (a ∷ c ∷ []) vs o) (sym f) s)
+
+-- ---- a kernel's parts, with others where it is of another kind
+
+coeffs_of : Kernel → List ℤ
+coeffs_of (Le l coeffs vars limit) = coeffs
+coeffs_of (Eq l coeffs vars limit) = coeffs
+coeffs_of (Times x y z) = []
+coeffs_of (Div x y z) = []
+coeffs_of (Mod x y z) = []
+coeffs_of (Abs x y) = []
+coeffs_of (Max m xs) = []
+coeffs_of (Min m xs) = []
+coeffs_of (Clause lits) = []
+coeffs_of (Element x entries c) = []
+coeffs_of (InSet l x ranges) = []
+coeffs_of (AllDiff xs) = []
+coeffs_of (Cumulative starts durations usages limit) = []
+
+terms_of : Kernel → List ℕ
+terms_of (Le l coeffs vars limit) = vars
+terms_of (Eq l coeffs vars limit) = vars
+terms_of (Times x y z) = []
+terms_of (Div x y z) = []
+terms_of (Mod x y z) = []
+terms_of (Abs x y) = []
+terms_of (Max m xs) = []
+terms_of (Min m xs) = []
+terms_of (Clause lits) = []
+terms_of (Element x entries c) = []
+terms_of (InSet l x ranges) = []
+terms_of (AllDiff xs) = []
+terms_of (Cumulative starts durations usages limit) = []
+
+literals_of : Kernel → List Lit
+literals_of (Le l coeffs vars limit) = []
+literals_of (Eq l coeffs vars limit) = []
+literals_of (Times x y z) = []
+literals_of (Div x y z) = []
+literals_of (Mod x y z) = []
+literals_of (Abs x y) = []
+literals_of (Max m xs) = []
+literals_of (Min m xs) = []
+literals_of (Clause lits) = lits
+literals_of (Element x entries c) = []
+literals_of (InSet l x ranges) = []
+literals_of (AllDiff xs) = []
+literals_of (Cumulative starts durations usages limit) = []
+
+-- ---- no short shape is of a kernel that is no difference, and of another kernel
+
+module _ (l : Lit) (coeffs : List ℤ) (vars : List ℕ) (limit : ℤ) (none : (x y : ℕ) → IsDifference coeffs vars x y → ⊥) where
+  no_difference : (cs : List ℤ) (vs : List ℕ) (x y : ℕ) → coeffs ≡ cs → vars ≡ vs → IsDifference cs vs x y → ⊥
+  no_difference cs vs x y e f d = none x y (subst (λ (c : List ℤ). IsDifference c vars x y) (sym e) (subst (λ (v : List ℕ). IsDifference cs v x y) (sym f) d))
+
+  pub other_inequality : (k : Kernel) → k ≡ Le l coeffs vars limit → (s : Shape) → IsShapeOf k s → s ≡ Other
+  unfolding IsShapeOf coeffs_of terms_of
+  other_inequality k e (AtMost m x y bound) (cs, vs, f, d) = absurd (no_difference cs vs x y (ap coeffs_of (sym e ∙ f)) (ap terms_of (sym e ∙ f)) d)
+  other_inequality k e (Same m x y bound) (cs, vs, f, d) = absurd (cc)
+  other_inequality k e (Either m n) f = absurd (cc)
+  other_inequality k e Other f = refl
+
+  pub other_equation : (k : Kernel) → k ≡ Eq l coeffs vars limit → (s : Shape) → IsShapeOf k s → s ≡ Other
+  unfolding IsShapeOf coeffs_of terms_of
+  other_equation k e (AtMost m x y bound) (cs, vs, f, d) = absurd (cc)
+  other_equation k e (Same m x y bound) (cs, vs, f, d) = absurd (no_difference cs vs x y (ap coeffs_of (sym e ∙ f)) (ap terms_of (sym e ∙ f)) d)
+  other_equation k e (Either m n) f = absurd (cc)
+  other_equation k e Other f = refl
+
+pub other_clause : (lits : List Lit) → (length lits ≡ 2 → ⊥) → (s : Shape) → IsShapeOf (Clause lits) s → s ≡ Other
+unfolding IsShapeOf literals_of
+other_clause lits n (AtMost m x y bound) (cs, vs, f, d) = absurd (cc)
+other_clause lits n (Same m x y bound) (cs, vs, f, d) = absurd (cc)
+other_clause lits n (Either l m) f = absurd (n (ap (λ (k : Kernel). length (literals_of k)) f))
+other_clause lits n Other f = refl
+
+pub any_is_other : (k : Kernel) → IsShapeOf k Other
+unfolding IsShapeOf
+any_is_other k = tt
+
+pub other_kernel : (k : Kernel) → ((l : Lit) (coeffs : List ℤ) (vars : List ℕ) (limit : ℤ) → k ≡ Le l coeffs vars limit → ⊥) → ((l : Lit) (coeffs : List ℤ) (vars : List ℕ) (limit : ℤ) → k ≡ Eq l coeffs vars limit → ⊥)
+    → ((lits : List Lit) → k ≡ Clause lits → ⊥) → (s : Shape) → IsShapeOf k s → s ≡ Other
+unfolding IsShapeOf
+other_kernel k p q r (AtMost m x y bound) (cs, vs, f, d) = absurd (p m cs vs bound f)
+other_kernel k p q r (Same m x y bound) (cs, vs, f, d) = absurd (q m cs vs bound f)
+other_kernel k p q r (Either l m) f = absurd (r (l ∷ m ∷ []) f)
+other_kernel k p q r Other f = refl
+
+-- ---- the short shape of a difference, by what the code reads
+
+module _ (k : Kernel) (l : Lit) (coeffs cs : List ℤ) (vars vs : List ℕ) (limit : ℤ) (numbers : HasNumbers k) (same_coeffs : cs ≡ coeffs) (same_vars : vs ≡ vars) where
+  difference_read : (x y : ℕ) → IsDifference cs vs x y → IsDifference coeffs vars x y
+  difference_read x y d = subst (λ (c : List ℤ). IsDifference c vars x y) same_coeffs (subst (λ (v : List ℕ). IsDifference cs v x y) same_vars d)
+
+  pub none_read : ((x y : ℕ) → IsDifference cs vs x y → ⊥) → (x y : ℕ) → IsDifference coeffs vars x y → ⊥
+  none_read none x y d = none x y (subst (λ (c : List ℤ). IsDifference c vs x y) (sym same_coeffs) (subst (λ (v : List ℕ). IsDifference coeffs v x y) (sym same_vars) d))
+
+  pub at_most_made : k ≡ Le l coeffs vars limit → (x y : ℕ) → IsDifference cs vs x y → IsShapeOf k (AtMost l x y (to_z w64 (of_z w64 limit)))
+  unfolding IsShapeOf HasNumbers
+  at_most_made is x y d =
+      let linear : IsLinear coeffs vars limit = subst (λ (j : Kernel). HasNumbers j) is numbers in
+      let read = short_number limit linear.limit_in_range in
+      (coeffs, vars, subst (λ (z : ℤ). k ≡ Le l coeffs vars z) (sym read) is, difference_read x y d)
+
+  pub same_made : k ≡ Eq l coeffs vars limit → (x y : ℕ) → IsDifference cs vs x y → IsShapeOf k (Same l x y (to_z w64 (of_z w64 limit)))
+  unfolding IsShapeOf HasNumbers
+  same_made is x y d =
+      let linear : IsLinear coeffs vars limit = subst (λ (j : Kernel). HasNumbers j) is numbers in
+      let read = short_number limit linear.limit_in_range in
+      (coeffs, vars, subst (λ (z : ℤ). k ≡ Eq l coeffs vars z) (sym read) is, difference_read x y d)
+
+-- the same of lists whose last items stand apart
+pub coefficients_read : (cs front : List ℤ) (vs : List ℕ) (last : ℤ) (limit : ℤ) → IsLinear cs vs limit → cs ≡ front ++ last ∷ [] → length front ≡ 1
+    → cs ≡ to_z w64 (of_z w64 (get_or front 0 (pos 0))) ∷ to_z w64 (of_z w64 last) ∷ []
+coefficients_read cs [] vs last limit linear e h = absurd (omega arith)
+coefficients_read cs (a ∷ c ∷ front) vs last limit linear e h = absurd (omega arith)
+coefficients_read cs (a ∷ []) vs last limit linear e h =
+    let made : IsLinear (a ∷ last ∷ []) vs limit = subst (λ (c : List ℤ). IsLinear c vs limit) e linear in
+    let first = short_number a (made.coefficients 0 (omega arith)) in
+    let second = short_number last (made.coefficients 1 (omega arith)) in
+    e ∙ (λ i. sym first i ∷ sym second i ∷ [])

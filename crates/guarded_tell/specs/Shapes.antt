@@ -1,0 +1,44 @@
+-- Shapes: a kernel of two variables or of two literals as one record, without its lists.
+use Rattle.std.specs.Prelude.{◌≡◌, ◌⊎◌, ℕ, ℤ, pos, negsuc, Bool, not, ◌&&◌, ◌||◌, List, [], ◌∷◌, length, slice_index_or, ◌<◌}
+use Rattle.interval.specs.Boxes.{Bounds}
+use Rattle.guarded_tell.specs.Words.{Lit, is_sure, is_out}
+use Rattle.guarded_tell.specs.Short.{IsTermOf}
+use Rattle.guarded_tell.specs.declared.pairs.Pair.{Pair}
+use Rattle.guarded_tell.specs.declared.kernel.Kernel.{Kernel}
+use Rattle.guarded_tell.specs.declared.kernel.Kernel.TheVariants.{Le, Eq, Clause}
+use Rattle.guarded_tell.specs.declared.shape.Shape.{Shape}
+use Rattle.guarded_tell.specs.declared.shape.Shape.TheVariants.{AtMost, Same, Either, Other}
+
+-- the sum of these terms is x - y
+abbrev pub IsDifference : List ℤ → List ℕ → ℕ → ℕ → Type 0
+IsDifference coeffs vars x y =
+    ((coeffs ≡ pos 1 ∷ negsuc 0 ∷ []) × (vars ≡ x ∷ y ∷ []))
+    ⊎ ((coeffs ≡ negsuc 0 ∷ pos 1 ∷ []) × (vars ≡ y ∷ x ∷ []))
+
+-- the kernel is an inequality, or an equation, of the difference of x and y
+abbrev pub IsAtMostOf : Kernel → Lit → ℕ → ℕ → ℤ → Type 0
+IsAtMostOf k l x y limit = (coeffs : List ℤ) × (vars : List ℕ) × (k ≡ Le l coeffs vars limit) × IsDifference coeffs vars x y
+
+abbrev pub IsSameOf : Kernel → Lit → ℕ → ℕ → ℤ → Type 0
+IsSameOf k l x y limit = (coeffs : List ℤ) × (vars : List ℕ) × (k ≡ Eq l coeffs vars limit) × IsDifference coeffs vars x y
+
+-- which kernels a shape is of
+unfoldable pub IsShapeOf : Kernel → Shape → Type 0
+IsShapeOf k (AtMost l x y limit) = IsAtMostOf k l x y limit
+IsShapeOf k (Same l x y limit) = IsSameOf k l x y limit
+IsShapeOf k (Either l m) = k ≡ Clause (l ∷ m ∷ [])
+IsShapeOf k Other = Unit {0}
+
+-- each shape is of the kernel at its place
+pub record AreShapesOf (kernels : List Kernel) (shapes : List Shape) : Type 0 where
+  pub same_length : length shapes ≡ length kernels
+  pub each : (i : ℕ) (k : Kernel) (s : Shape) → i < length kernels → IsShapeOf (slice_index_or kernels i k) (slice_index_or shapes i s)
+
+-- what the two terms of a difference are at least and at most
+pub record IsDifferenceIn (b : Bounds) (x y : ℕ) (p : Pair) : Type 0 where
+  pub first : IsTermOf b (pos 1) x p.first
+  pub second : IsTermOf b (negsuc 0) y p.second
+
+-- one of the literals is sure, or neither is out
+abbrev pub is_either_quiet : Lit → Lit → Bounds → Bool
+is_either_quiet l m b = is_sure l b || is_sure m b || (not (is_out l b) && not (is_out m b))

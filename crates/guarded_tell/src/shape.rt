@@ -1,0 +1,169 @@
+//! What a visit of a kernel looks at first: a record of its own, side by side with those of the other kernels.
+
+ghost use Rattle.std.specs.Prelude.{◌≡◌, ◌<◌, ◌≤ℤ◌, ℕ, pos, [], ◌∷◌, length, MatchOption};
+ghost use Rattle.interval.specs.Boxes.{low_of, high_of};
+ghost use Rattle.guarded_tell.specs.Linear.{IsLinear};
+ghost use Rattle.guarded_tell.specs.Kernels.{HasNumbers};
+ghost use Rattle.guarded_tell.specs.Shapes.{IsShapeOf, IsDifference, IsDifferenceIn};
+ghost use Rattle.guarded_tell.specs.Shapes as words;
+
+use crate::pairs::{Pair, opposite, plain};
+use crate::{Extended, Kernel, Lit, Literals};
+use interval::BoxOf;
+use tells::{stands_false, stands_true};
+
+/// A kernel of two variables or of two literals, whole, or that it is another kernel.
+#[derive(Clone, Copy, PartialEq, Eq, Debug)]
+pub enum Shape {
+    /// The literal is true exactly where `x - y` is at most the limit.
+    AtMost {
+        /// The literal.
+        lit: Lit,
+        /// The variable that is added.
+        x: u32,
+        /// The variable that is taken away.
+        y: u32,
+        /// The limit.
+        limit: i64,
+    },
+    /// The literal is true exactly where `x - y` is the limit.
+    Same {
+        /// The literal.
+        lit: Lit,
+        /// The variable that is added.
+        x: u32,
+        /// The variable that is taken away.
+        y: u32,
+        /// The limit.
+        limit: i64,
+    },
+    /// One of two literals is true.
+    Either {
+        /// The first literal.
+        first: Lit,
+        /// The second literal.
+        second: Lit,
+    },
+    /// Any kernel.
+    Other,
+}
+
+/// The shape of the kernel. It is `Other` only where no other shape is the kernel's.
+#[tactic(auto, unfolding(crate::specs::Kernels::HasNumbers))]
+pub fn shape_of(k: &Kernel) -> Shape
+    requires { HasNumbers k.now }
+    ensures shape { IsShapeOf k.now result }
+    ensures shortest { (s : Shape) → IsShapeOf k.now s → result ≡ Shape.Other → s ≡ Shape.Other }
+{
+    match k {
+        Kernel::Le {
+            lit,
+            coeffs,
+            vars,
+            limit,
+        } => match difference_of(coeffs.as_slice(), vars.as_slice()) {
+            Some((x, y)) => Shape::AtMost {
+                lit: *lit,
+                x,
+                y,
+                limit: *limit,
+            },
+            None => Shape::Other,
+        },
+        Kernel::Eq {
+            lit,
+            coeffs,
+            vars,
+            limit,
+        } => match extended_difference_of(coeffs, vars) {
+            Some((x, y)) => Shape::Same {
+                lit: *lit,
+                x,
+                y,
+                limit: *limit,
+            },
+            None => Shape::Other,
+        },
+        Kernel::Clause { lits } => clause_shape(lits),
+        _ => Shape::Other,
+    }
+}
+
+/// The shape of a clause.
+fn clause_shape(lits: &Literals) -> Shape
+    ensures shape { IsShapeOf (Kernel.Clause lits.now) result }
+    ensures shortest { (s : Shape) → IsShapeOf (Kernel.Clause lits.now) s → result ≡ Shape.Other → s ≡ Shape.Other }
+{
+    if lits.len() == 2 {
+        Shape::Either {
+            first: lits.at(0),
+            second: lits.at(1),
+        }
+    } else {
+        Shape::Other
+    }
+}
+
+/// The variables `x` and `y` where the sum is `x - y`.
+fn difference_of(coeffs: &[i64], vars: &[u32]) -> Option<(u32, u32)>
+    requires { IsLinear coeffs.now vars.now (pos 0) }
+    ensures { MatchOption result ((x y : ℕ) → IsDifference coeffs.now vars.now x y → ⊥) (λ d. IsDifference coeffs.now vars.now d.0 d.1) }
+{
+    if coeffs.len() == 2 {
+        difference_by_signs(coeffs[0], coeffs[1], vars[0], vars[1])
+    } else {
+        None
+    }
+}
+
+/// The same of lists whose last items may stand apart.
+fn extended_difference_of(coeffs: &Extended<i64>, vars: &Extended<u32>) -> Option<(u32, u32)>
+    requires { IsLinear coeffs.now vars.now (pos 0) }
+    ensures { MatchOption result ((x y : ℕ) → IsDifference coeffs.now vars.now x y → ⊥) (λ d. IsDifference coeffs.now vars.now d.0 d.1) }
+{
+    let (coeffs, last_coeff) = coeffs.split_last()?;
+    let (vars, last_var) = vars.split_last()?;
+    if coeffs.len() == 1 && vars.len() == 1 {
+        difference_by_signs(coeffs[0], last_coeff, vars[0], last_var)
+    } else {
+        None
+    }
+}
+
+/// The same of two terms.
+fn difference_by_signs(first: i64, second: i64, x: u32, y: u32) -> Option<(u32, u32)>
+    ensures { MatchOption result ((v w : ℕ) → IsDifference (first ∷ second ∷ []) (x ∷ y ∷ []) v w → ⊥) (λ d. IsDifference (first ∷ second ∷ []) (x ∷ y ∷ []) d.0 d.1) }
+{
+    match (first, second) {
+        (1, -1) => Some((x, y)),
+        (-1, 1) => Some((y, x)),
+        _ => None,
+    }
+}
+
+/// What `x` and the opposite of `y` are at least and at most.
+pub fn difference(x: u32, y: u32, b: &BoxOf) -> Pair
+    requires first { x < length b.now }
+    requires second { y < length b.now }
+    requires proper_first { low_of b.now x ≤ℤ high_of b.now x }
+    requires proper_second { low_of b.now y ≤ℤ high_of b.now y }
+    ensures { IsDifferenceIn b.now x y result }
+{
+    Pair {
+        first: plain(x, b),
+        second: opposite(y, b),
+    }
+}
+
+/// Whether one of the literals is sure, or neither is out.
+pub fn is_either_quiet(first: Lit, second: Lit, b: &BoxOf) -> bool
+    requires first { first.var < length b.now }
+    requires second { second.var < length b.now }
+    requires proper_first { low_of b.now first.var ≤ℤ high_of b.now first.var }
+    requires proper_second { low_of b.now second.var ≤ℤ high_of b.now second.var }
+    ensures { result ≡ words.is_either_quiet first second b.now }
+{
+    stands_true(first, b)
+        || stands_true(second, b)
+        || (!stands_false(first, b) && !stands_false(second, b))
+}

@@ -1,0 +1,28 @@
+-- The shapes of the first kernels.
+use Rattle.std.proofs.Common.{◌≡◌, ℕ, ◌<◌, ◌≤◌, ◌+◌, List, [], ◌∷◌, ◌++◌, length, get_or, sym, subst, ◌∙◌, ap, ⊎_elim, arith}
+use Rattle.std.proofs.lemmas.Bool.{cases_lt}
+use Rattle.std.proofs.lemmas.List.{length_push, get_or_append_left, get_or_push, get_or_read}
+use Rattle.guarded_tell.specs.declared.kernel.Kernel.{Kernel}
+use Rattle.guarded_tell.specs.declared.shape.Shape.{Shape}
+use Rattle.guarded_tell.specs.Shapes.{IsShapeOf}
+
+-- so many shapes are those of the first kernels
+pub record AreFirstShapes (kernels : List Kernel) (to : ℕ) (shapes : List Shape) : Type 0 where
+  pub same_length : length shapes ≡ to
+  pub each : (i : ℕ) (k : Kernel) (s : Shape) → i < to → IsShapeOf (get_or kernels i k) (get_or shapes i s)
+
+pub shapes_more : (kernels : List Kernel) (j : ℕ) (k : Kernel) (shapes : List Shape) (s : Shape) → j < length kernels → k ≡ get_or kernels j k → IsShapeOf k s
+    → AreFirstShapes kernels j shapes → AreFirstShapes kernels (j + 1) (shapes ++ s ∷ [])
+shapes_more kernels j k shapes s h is shape are = record {
+  same_length = length_push shapes s ∙ ap (λ (n : ℕ). n + 1) are.same_length;
+  each = λ i d e lt.
+      let len = are.same_length in
+      let before : i < j → IsShapeOf (get_or kernels i d) (get_or (shapes ++ s ∷ []) i e) =
+      λ below. subst (IsShapeOf (get_or kernels i d)) (sym (get_or_append_left shapes (s ∷ []) e i (omega arith))) (are.each i d e below) in
+      let here : j ≤ i → IsShapeOf (get_or kernels i d) (get_or (shapes ++ s ∷ []) i e) =
+      λ above.
+      let same : j ≡ i = omega arith in
+      let kernel : k ≡ get_or kernels i d = get_or_read kernels j k h is d ∙ ap (λ (n : ℕ). get_or kernels n d) same in
+      subst (λ (l : Kernel). IsShapeOf l (get_or (shapes ++ s ∷ []) i e)) kernel (subst (IsShapeOf k) (sym (get_or_push shapes s e i (omega arith))) shape) in
+      ⊎_elim before here (cases_lt i j);
+}

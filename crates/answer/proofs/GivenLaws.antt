@@ -49,13 +49,13 @@ limited s Why.Nodes nodes found n r h = h.out.limited n
 limited s Why.Rounds nodes found n r h = h.out.given_up.limited r
 
 module _ (model : FznModel) (options : Options) (n : options.node_limit ≡ 0) (r : options.round_limit ≡ 0) where
-  first_unlimited : (results : List FirstEnd) (number : ℕ) (path : Option Bounds) (end : FirstEnd) → IsFirstResult model options results number path end → IsFirstSpent end → ⊥
+  pub first_unlimited : (results : List FirstEnd) (number : ℕ) (path : Option Bounds) (end : FirstEnd) → IsFirstResult model options results number path end → IsFirstSpent end → ⊥
   first_unlimited results number path (FirstEnd.Done answer) h s = s
   first_unlimited results number path (FirstEnd.Cut lesser) h s = s
   first_unlimited results number None (FirstEnd.Spent nodes why) h s = let e : FirstEnd.Spent nodes why ≡ FirstEnd.Done None = h in absurd cc
   first_unlimited results number (Some sub) (FirstEnd.Spent nodes why) h s = limited _ why nodes [] n r h
 
-  all_unlimited : (number : ℕ) (path : Option Bounds) (end : AllEnd) → IsAllResult model options number path end → IsAllSpent end → ⊥
+  pub all_unlimited : (number : ℕ) (path : Option Bounds) (end : AllEnd) → IsAllResult model options number path end → IsAllSpent end → ⊥
   all_unlimited number path (AllEnd.Done found) h s = s
   all_unlimited number None (AllEnd.Spent nodes why found) h s = let e : AllEnd.Spent nodes why found ≡ AllEnd.Done [] = h in absurd cc
   all_unlimited number (Some sub) (AllEnd.Spent nodes why found) h s = limited _ why nodes found n r h
@@ -98,7 +98,7 @@ all_of_results ends results e h = of_ends results (subst (All (λ end. IsLeastSp
         (of_ends rs (All-tail (λ end. IsLeastSpent end → ⊥) r.1 (map (λ (r : LeastResult). r.1) rs) h))
 
 -- no result is stopped, if each that is one of its number isn't
-none_spent : {E : Type 0} (model : FznModel) (depth : ℕ) (b : Bounds) (Is : ℕ → Option Bounds → E → Type 0) (Spent : E → Type 0) (results : List E) → AreResults model depth b Is results →
+pub none_spent : {E : Type 0} (model : FznModel) (depth : ℕ) (b : Bounds) (Is : ℕ → Option Bounds → E → Type 0) (Spent : E → Type 0) (results : List E) → AreResults model depth b Is results →
     ((number : ℕ) (path : Option Bounds) (end : E) → Is number path end → Spent end → ⊥) → Any Spent results → ⊥
 none_spent model depth b Is Spent results are unlimited (k, x, l, e, s) =
     let own = are.each k x (slice_get-get_or results k x l ∙ ap (λ y. Some y) e) in
@@ -163,7 +163,7 @@ module _ (order : InsideOrder) (one : OneList) (every : EveryList) (laws : PathL
     pub first_unspent : All (λ end. IsFirstSpent end → ⊥) results → answer.mark ≡ mark_for false answer.solutions Mark.Plain → IsGiven model options answer
     first_unspent unspent m =
         let done = finished all_list.0 all_list.1 (first_of_all one laws model options start results all_list.0 can h unspent all_list.1) m in
-        record { is_answer = inl (record { finished = done; unspent = searched }); whole = λ n r. done; solve = first_solve }
+        record { is_answer = inl (record { finished = done; unspent = λ limit. searched }); whole = λ n r. done; solve = first_solve }
       where
         searched : IsUnspentSearch model options
         searched = subst₂ (λ (g : Goal) (b : Bool). IsUnspentFor g b model options) (sym satisfy) (sym first) (record { results = results; are = h; unspent = unspent })
@@ -197,7 +197,7 @@ module _ (order : InsideOrder) (one : OneList) (every : EveryList) (laws : PathL
     pub all_unspent : All (λ end. IsAllSpent end → ⊥) results → answer.mark ≡ mark_for false answer.solutions Mark.Complete → IsGiven model options answer
     all_unspent unspent m =
         let done = all_finished all_list.0 all_list.1 (all_of_all one laws model options start results all_list.0 can h unspent all_list.1) m in
-        record { is_answer = inl (record { finished = done; unspent = searched }); whole = λ n r. done; solve = all_solutions_solve }
+        record { is_answer = inl (record { finished = done; unspent = λ limit. searched }); whole = λ n r. done; solve = all_solutions_solve }
       where
         searched : IsUnspentSearch model options
         searched = subst₂ (λ (g : Goal) (b : Bool). IsUnspentFor g b model options) (sym satisfy) (sym all) (record { results = results; are = h; unspent = unspent })
@@ -255,7 +255,7 @@ module _ (order : InsideOrder) (one : OneList) (every : EveryList) (laws : PathL
             unspent = unspent;
             second = λ cost least. absurd (nothing least.some.assignment least.some.solves);
           } in
-          record { is_answer = inl (record { finished = done; unspent = least_unspent model.goal options.all objective searched }); whole = λ n r. done; solve = solved }
+          record { is_answer = inl (record { finished = done; unspent = λ limit. least_unspent model.goal options.all objective searched }); whole = λ n r. done; solve = solved }
 
     -- what the second phase gives
     module _ (cost : ℤ) (least : IsLeastCost model cost) (best : Assignment) (finds : FindsBest model options best) (best_is : IsSolutionAt model cost best) (results : List FirstEnd)
@@ -310,7 +310,7 @@ module _ (order : InsideOrder) (one : OneList) (every : EveryList) (laws : PathL
             unspent = finds.unspent;
             second = λ other k. subst (λ (c : ℤ). IsUnspentFirst model options (cut_to model.goal c start)) (same_cost model cost other least k) (record { results = results; are = h; unspent = unspent });
           } in
-          record { is_answer = inl (record { finished = done; unspent = least_unspent model.goal options.all objective searched }); whole = λ n r. done; solve = second_solve }
+          record { is_answer = inl (record { finished = done; unspent = λ limit. least_unspent model.goal options.all objective searched }); whole = λ n r. done; solve = second_solve }
 
 module _ (order : InsideOrder) (one : OneList) (every : EveryList) (laws : PathLaws) (cuts : CutLaws) (are : SolutionsAreListed) (declared : InDeclarationOrder) (records : RecordsSolutions)
     (model : FznModel) (rule : IsSearchOf model) (goal : IsGoalOf model.vars model.goal) (f : IsProgramOf model (program_of model)) (options : Options) (answer : Answer) where

@@ -18,3 +18,4 @@ pub mod AnswerLaws
 pub mod FrontLaws
 pub mod GivesLaws
 pub mod OneLimited
+pub mod DepthLaws

@@ -28,8 +28,9 @@ use Rattle.answer.specs.Results.{program_of, IsFirstResult, AreFirstResults, fir
 use Rattle.answer.specs.Finished.{IsUnsatisfiable, IsFirst, Gives}
 use Rattle.answer.specs.Unfinished.{mark_where, IsFirstCollected, AreAllCollected, GivesCollected, IsUnfinished}
 use Rattle.answer.specs.Unspent.{IsUnspentFirst, IsUnspentAll, IsUnspentFor}
-use Rattle.answer.specs.Answers.{IsWhole, IsAnswer}
+use Rattle.answer.specs.Answers.{HasLimit, IsWhole, IsAnswer}
 use Rattle.answer.proofs.AlongLaws.{stands_first, stands_later, one_entry}
+use Rattle.answer.proofs.GivenLaws.{first_unlimited, all_unlimited, none_spent}
 use Rattle.answer.proofs.HeadLaws.{first_of_all}
 use Rattle.answer.proofs.ListedLaws.{start_can_be_cut, lists_solutions}
 use Rattle.answer.proofs.OneFinished.{one_finished, same_answer}
@@ -225,7 +226,9 @@ module _ (ends : EndLaws) (laws : PathLaws) (model : FznModel) (rule : IsSearchO
 
       whole_and_left : (x y : Answer) → IsWhole model options x → IsUnfinished model options y → x ≡ y
       whole_and_left x y h k =
-          let unspent : IsUnspentFirst model options start = subst₂ (λ (g : Goal) (all : Bool). IsUnspentFor g all model options) satisfy first h.unspent in
+          let limit : HasLimit options = inl (λ none. none_spent model options.depth start (IsFirstResult model options (first_left y k).results) IsFirstSpent (first_left y k).results (first_left y k).are
+          (first_unlimited model options none no_rounds (first_left y k).results) (first_left y k).spent) in
+          let unspent : IsUnspentFirst model options start = subst₂ (λ (g : Goal) (all : Bool). IsUnspentFor g all model options) satisfy first (h.unspent limit) in
           let finished : IsUnsatisfiable model x ⊎ IsFirst model x = subst₂ (λ (g : Goal) (all : Bool). IsUnsatisfiable model x ⊎ Gives g all model x) satisfy first h.finished in
           let left = first_left y k in
           let whole = whole_first x unspent.results unspent.are unspent.unspent finished in
@@ -255,7 +258,9 @@ module _ (ends : EndLaws) (laws : PathLaws) (model : FznModel) (rule : IsSearchO
 
       not_both_ways : (x y : Answer) → IsWhole model options x → IsUnfinished model options y → ⊥
       not_both_ways x y h k =
-          let unspent : IsUnspentAll model options = subst₂ (λ (g : Goal) (every_one : Bool). IsUnspentFor g every_one model options) satisfy all h.unspent in
+          let limit : HasLimit options = inl (λ none. none_spent model options.depth start (IsAllResult model options) IsAllSpent (all_left y k).results (all_left y k).are
+          (all_unlimited model options none no_rounds) (all_left y k).spent) in
+          let unspent : IsUnspentAll model options = subst₂ (λ (g : Goal) (every_one : Bool). IsUnspentFor g every_one model options) satisfy all (h.unspent limit) in
           let left = all_left y k in
           let same = same_all unspent.results left.results unspent.are left.are in
           none_of_any IsAllSpent left.results (subst (λ (rs : List AllEnd). All (λ r. IsAllSpent r → ⊥) rs) same unspent.unspent) left.spent

@@ -8,7 +8,7 @@ ghost use Rattle.constraint_model.specs.WellFormed.{IsWellFormed};
 ghost use Rattle.crew.specs.Crews.{workers_of};
 ghost use Rattle.answer.specs.Results.{listed};
 ghost use Rattle.answer.specs.Finished.{IsFinished};
-ghost use Rattle.answer.specs.Answers.{IsAnswer};
+ghost use Rattle.answer.specs.Answers.{HasLimit, IsAnswer};
 ghost use Rattle.answer.specs.Given.{mark_for, IsSetUp, IsBestKnown, IsGiven};
 
 use crate::all_job::all_ends;
@@ -253,6 +253,19 @@ pub struct Gates<'a, C, L> {
     pub lanes: &'a L,
 }
 
+/// The depth to which the search tree is cut. Where one worker searches without limits, parts would only cost time; under a
+/// limit they are what the limit stands for.
+fn depth_for(options: &Options) -> u32
+    ensures limited { HasLimit options.now → result ≡ options.now.depth }
+    ensures most { result ≤ options.now.depth }
+{
+    if options.workers == 1 && options.node_limit == 0 && options.round_limit == 0 {
+        0
+    } else {
+        options.depth
+    }
+}
+
 /// The answer of a model: its first solution in the order of the search tree, all solutions, or the first of those of least
 /// cost; where a limit stopped a part of the search, what is known.
 pub fn answer<R: Threads + Sync, C: CrewGate + Sync, L: Gate + Sync>(
@@ -284,6 +297,8 @@ pub fn answer<R: Threads + Sync, C: CrewGate + Sync, L: Gate + Sync>(
         gate: &*gates.lanes,
     };
     let mut crew = Workers::new(alloc, options.workers)?;
-    let answer = answer_of(rt, alloc, &run, *options, &mut crew, gates.crew)?;
+    let mut parted = *options;
+    parted.depth = depth_for(options);
+    let answer = answer_of(rt, alloc, &run, parted, &mut crew, gates.crew)?;
     Ok(answer)
 }

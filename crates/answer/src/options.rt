@@ -9,7 +9,8 @@ pub struct Options {
     pub workers: u32,
     /// How many lanes each worker propagates with, 1 to 64.
     pub lanes: u32,
-    /// How deep the search tree is cut: there are at most 2 to this power subproblems. At most 16.
+    /// How deep the search tree is cut: there are at most 2 to this power subproblems. At most 16. One worker cuts it only
+    /// under a limit.
     pub depth: u32,
     /// The most nodes of a subproblem's search; 0 is no limit.
     pub node_limit: u64,

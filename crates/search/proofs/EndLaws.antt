@@ -37,24 +37,24 @@ module _ (one : OneFixpoint) (branches : BranchLaws) (s : Search) (rule : IsSear
   greatest_same : (top other g h : Bounds) → top ≡ other → IsGreatest g top s.kernels → IsGreatest h other s.kernels → g ≡ h
   greatest_same top other g h e gr hr = one.unique other s.kernels g h (subst (λ (b : Bounds). IsGreatest g b s.kernels) e gr) hr
 
-  one_node : (top other : Bounds) (back again : List Bounds) (recorded others : List (List ℤ)) → top ≡ other → Node s.model s.kernels top back recorded →
-      Node s.model s.kernels other again others → (back ≡ again) × (recorded ≡ others)
-  one_node top other back again recorded others e (is_dropped _ _ _ _ _ fails none nothing) (is_dropped _ _ _ _ _ _ no_box no_list) = (none ∙ sym no_box, nothing ∙ sym no_list)
-  one_node top other back again recorded others e (is_dropped _ _ _ _ _ fails _ _) (is_solved _ _ _ _ _ h hr _ _ _) =
+  one_node : (top other : Bounds) (back again : List Bounds) (recorded others : List (List ℤ)) → top ≡ other → Node s.model s.kernels s.round_limit top back recorded →
+      Node s.model s.kernels s.round_limit other again others → (back ≡ again) × (recorded ≡ others)
+  one_node top other back again recorded others e (is_dropped _ _ _ _ _ _ fails none nothing) (is_dropped _ _ _ _ _ _ _ no_box no_list) = (none ∙ sym no_box, nothing ∙ sym no_list)
+  one_node top other back again recorded others e (is_dropped _ _ _ _ _ _ fails _ _) (is_solved _ _ _ _ _ _ h hr _ _ _ _) =
       absurd (one.not_both top s.kernels h (subst (λ (b : Bounds). IsGreatest h b s.kernels) (sym e) hr) fails)
-  one_node top other back again recorded others e (is_dropped _ _ _ _ _ fails _ _) (is_parted _ _ _ _ _ h _ _ hr _ _ _) =
+  one_node top other back again recorded others e (is_dropped _ _ _ _ _ _ fails _ _) (is_parted _ _ _ _ _ _ h _ _ hr _ _ _ _) =
       absurd (one.not_both top s.kernels h (subst (λ (b : Bounds). IsGreatest h b s.kernels) (sym e) hr) fails)
-  one_node top other back again recorded others e (is_solved _ _ _ _ _ g gr _ _ _) (is_dropped _ _ _ _ _ fails _ _) =
+  one_node top other back again recorded others e (is_solved _ _ _ _ _ _ g gr _ _ _ _) (is_dropped _ _ _ _ _ _ fails _ _) =
       absurd (one.not_both other s.kernels g (subst (λ (b : Bounds). IsGreatest g b s.kernels) e gr) fails)
-  one_node top other back again recorded others e (is_solved _ _ _ _ _ g gr _ none alone) (is_solved _ _ _ _ _ h hr _ no_box single) =
+  one_node top other back again recorded others e (is_solved _ _ _ _ _ _ g gr _ _ none alone) (is_solved _ _ _ _ _ _ h hr _ _ no_box single) =
       (none ∙ sym no_box, alone ∙ ap (λ (b : Bounds). values_of s.model b ∷ []) (greatest_same top other g h e gr hr) ∙ sym single)
-  one_node top other back again recorded others e (is_solved _ _ _ _ _ g gr all _ _) (is_parted _ _ _ _ _ h left right hr br _ _) =
+  one_node top other back again recorded others e (is_solved _ _ _ _ _ _ g gr _ all _ _) (is_parted _ _ _ _ _ _ h left right hr _ br _ _) =
       absurd (branches.not_both s.model h left right rule br (subst (AreFixed s.model) (greatest_same top other g h e gr hr) all))
-  one_node top other back again recorded others e (is_parted _ _ _ _ _ g _ _ gr _ _ _) (is_dropped _ _ _ _ _ fails _ _) =
+  one_node top other back again recorded others e (is_parted _ _ _ _ _ _ g _ _ gr _ _ _ _) (is_dropped _ _ _ _ _ _ fails _ _) =
       absurd (one.not_both other s.kernels g (subst (λ (b : Bounds). IsGreatest g b s.kernels) e gr) fails)
-  one_node top other back again recorded others e (is_parted _ _ _ _ _ g left right gr br _ _) (is_solved _ _ _ _ _ h hr all _ _) =
+  one_node top other back again recorded others e (is_parted _ _ _ _ _ _ g left right gr _ br _ _) (is_solved _ _ _ _ _ _ h hr _ all _ _) =
       absurd (branches.not_both s.model g left right rule br (subst (AreFixed s.model) (sym (greatest_same top other g h e gr hr)) all))
-  one_node top other back again recorded others e (is_parted _ _ _ _ _ g left right gr br two nothing) (is_parted _ _ _ _ _ h first second hr cr both no_list) =
+  one_node top other back again recorded others e (is_parted _ _ _ _ _ _ g left right gr _ br two nothing) (is_parted _ _ _ _ _ _ h first second hr _ cr both no_list) =
       let sides = branches.one s.model h left right first second (subst (λ (b : Bounds). IsBranch s.model b left right) (greatest_same top other g h e gr hr) br) cr in
       (two ∙ ap (λ (b : Bounds). b ∷ left ∷ []) sides.1 ∙ ap (λ (b : Bounds). second ∷ b ∷ []) sides.0 ∙ sym both, nothing ∙ sym no_list)
 

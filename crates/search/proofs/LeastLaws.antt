@@ -136,11 +136,11 @@ module _ (order : InsideOrder) (branches : BranchLaws) (fixed : FixedIsPoint) (s
       solves seen (values_of s.model g) (order.through seen top s.sub i l.inside)
       (record { point = g; is_point = point_of_greatest top seen g l i gr all; closed = gr.closed; inside = gr.inside; is_values = refl })
 
-  recorded_solve : (top seen : Bounds) (back : List Bounds) (recorded : List (List ℤ)) → Here top → IsInside seen top → Node s.model s.kernels seen back recorded → All (Solves seen) recorded
-  recorded_solve top seen back recorded l i (is_dropped _ _ _ _ _ fails none nothing) = subst (All (Solves seen)) (sym nothing) (All-nil (Solves seen))
-  recorded_solve top seen back recorded l i (is_solved _ _ _ _ _ g gr all none one) =
+  recorded_solve : (top seen : Bounds) (back : List Bounds) (recorded : List (List ℤ)) → Here top → IsInside seen top → Node s.model s.kernels s.round_limit seen back recorded → All (Solves seen) recorded
+  recorded_solve top seen back recorded l i (is_dropped _ _ _ _ _ _ fails none nothing) = subst (All (Solves seen)) (sym nothing) (All-nil (Solves seen))
+  recorded_solve top seen back recorded l i (is_solved _ _ _ _ _ _ g gr _ all none one) =
       subst (All (Solves seen)) (sym one) (All-cons (Solves seen) (values_of s.model g) [] (solved top seen g l i gr all) (All-nil (Solves seen)))
-  recorded_solve top seen back recorded l i (is_parted _ _ _ _ _ g left right gr br two nothing) = subst (All (Solves seen)) (sym nothing) (All-nil (Solves seen))
+  recorded_solve top seen back recorded l i (is_parted _ _ _ _ _ _ g left right gr _ br two nothing) = subst (All (Solves seen)) (sym nothing) (All-nil (Solves seen))
 
   pub records : (state : State) → Reached s state → All (Solves s.sub) state.found
   records state (begun _ _ _ _ _ nothing) = subst (All (Solves s.sub)) (sym nothing) (All-nil (Solves s.sub))
@@ -153,19 +153,19 @@ module _ (order : InsideOrder) (branches : BranchLaws) (fixed : FixedIsPoint) (s
       (recorded_solve st.top seen st.back st.recorded l i st.node)))
 
   -- a solution in what a node looks at is recorded, or lies in what it puts back
-  kept : (top seen : Bounds) (back : List Bounds) (recorded : List (List ℤ)) (a : List ℤ) → Here top → IsInside seen top → Node s.model s.kernels seen back recorded →
+  kept : (top seen : Bounds) (back : List Bounds) (recorded : List (List ℤ)) (a : List ℤ) → Here top → IsInside seen top → Node s.model s.kernels s.round_limit seen back recorded →
       Solves seen a → (recorded ≡ a ∷ []) ⊎ Any (LiesIn s.model a) back
   kept top seen back recorded a l i node h = case back recorded node (closed seen a inside h)
     where
       inside : IsInside seen s.sub
       inside = order.through seen top s.sub i l.inside
 
-      case : (back : List Bounds) (recorded : List (List ℤ)) → Node s.model s.kernels seen back recorded → Closed seen a → (recorded ≡ a ∷ []) ⊎ Any (LiesIn s.model a) back
-      case back recorded (is_dropped _ _ _ _ _ fails none nothing) c = absurd (fails c.point c.closed c.inside)
-      case back recorded (is_solved _ _ _ _ _ g gr all none one) c =
+      case : (back : List Bounds) (recorded : List (List ℤ)) → Node s.model s.kernels s.round_limit seen back recorded → Closed seen a → (recorded ≡ a ∷ []) ⊎ Any (LiesIn s.model a) back
+      case back recorded (is_dropped _ _ _ _ _ _ fails none nothing) c = absurd (fails c.point c.closed c.inside)
+      case back recorded (is_solved _ _ _ _ _ _ g gr _ all none one) c =
           let same = same_point order c.point g c.closed.proper (point_of_greatest top seen g l i gr all) (gr.greatest c.point c.closed c.inside) in
           inl (one ∙ ap (λ (b : Bounds). values_of s.model b ∷ []) (sym same) ∙ ap (λ (xs : List ℤ). xs ∷ []) (sym c.is_values))
-      case back recorded (is_parted _ _ _ _ _ g left right gr br two nothing) c =
+      case back recorded (is_parted _ _ _ _ _ _ g left right gr _ br two nothing) c =
           let k = greatest_lies order branches s p.phases (long_sub s p) p.in_range top seen g l i gr in
           let q = parts_of order branches s p.phases (long_sub s p) p.in_range g left right k gr.closed.proper br in
           inr (subst (Any (LiesIn s.model a)) (sym two) (elim (q.in_one c.point c.is_point (gr.greatest c.point c.closed c.inside)) [
@@ -221,7 +221,7 @@ module _ (order : InsideOrder) (branches : BranchLaws) (fixed : FixedIsPoint) (s
         let l = top_lies order branches s p.phases (long_sub s p) p.in_range before st.rest st.top r st.takes.taken in
         let seen = cut_by Kind.Least goal st.best st.top in
         let i = cut_inside order branches s p.phases (long_sub s p) p.in_range Kind.Least st.best st.top in
-        let node : Node s.model s.kernels seen st.back st.recorded = subst (λ (k : Kind). Node s.model s.kernels (cut_by k goal st.best st.top) st.back st.recorded) least st.node in
+        let node : Node s.model s.kernels s.round_limit seen st.back st.recorded = subst (λ (k : Kind). Node s.model s.kernels s.round_limit (cut_by k goal st.best st.top) st.back st.recorded) least st.node in
         let falls : state.best ≡ best_after Kind.Least goal st.best st.recorded = st.falls ∙ ap (λ (k : Kind). best_after k goal st.best st.recorded) least in
         let all = recorded_solve st.top seen st.back st.recorded l i node in
         let low : IsAtMost st.best cost → IsAtMost state.best cost =
@@ -248,17 +248,17 @@ module _ (order : InsideOrder) (branches : BranchLaws) (fixed : FixedIsPoint) (s
     abbrev Above : State → Type 0
     Above state = (a : List ℤ) (cost : ℤ) → Contains state.found a → cost_of goal a ≡ Some cost → IsAtMost state.best cost
 
-    one_recorded : (seen : Bounds) (back : List Bounds) (recorded : List (List ℤ)) (a : List ℤ) → Node s.model s.kernels seen back recorded → Contains recorded a → recorded ≡ a ∷ []
-    one_recorded seen back recorded a (is_dropped _ _ _ _ _ fails none nothing) k = absurd (nothing_in (subst (λ (xs : List (List ℤ)). Contains xs a) nothing k))
+    one_recorded : (seen : Bounds) (back : List Bounds) (recorded : List (List ℤ)) (a : List ℤ) → Node s.model s.kernels s.round_limit seen back recorded → Contains recorded a → recorded ≡ a ∷ []
+    one_recorded seen back recorded a (is_dropped _ _ _ _ _ _ fails none nothing) k = absurd (nothing_in (subst (λ (xs : List (List ℤ)). Contains xs a) nothing k))
       where
         nothing_in : Contains [] a → ⊥
         nothing_in (i, l, e) = omega arith
-    one_recorded seen back recorded a (is_solved _ _ _ _ _ g gr all none one) k = one ∙ ap (λ (x : List ℤ). x ∷ []) (the_one (subst (λ (xs : List (List ℤ)). Contains xs a) one k))
+    one_recorded seen back recorded a (is_solved _ _ _ _ _ _ g gr _ all none one) k = one ∙ ap (λ (x : List ℤ). x ∷ []) (the_one (subst (λ (xs : List (List ℤ)). Contains xs a) one k))
       where
         the_one : Contains (values_of s.model g ∷ []) a → values_of s.model g ≡ a
         the_one (zero, l, e) = e
         the_one (suc i, l, e) = absurd (omega arith)
-    one_recorded seen back recorded a (is_parted _ _ _ _ _ g left right gr br two nothing) k = absurd (nothing_in (subst (λ (xs : List (List ℤ)). Contains xs a) nothing k))
+    one_recorded seen back recorded a (is_parted _ _ _ _ _ _ g left right gr _ br two nothing) k = absurd (nothing_in (subst (λ (xs : List (List ℤ)). Contains xs a) nothing k))
       where
         nothing_in : Contains [] a → ⊥
         nothing_in (i, l, e) = omega arith
@@ -272,7 +272,7 @@ module _ (order : InsideOrder) (branches : BranchLaws) (fixed : FixedIsPoint) (s
         let l = top_lies order branches s p.phases (long_sub s p) p.in_range before st.rest st.top r st.takes.taken in
         let seen = cut_by Kind.Least goal st.best st.top in
         let i = cut_inside order branches s p.phases (long_sub s p) p.in_range Kind.Least st.best st.top in
-        let node : Node s.model s.kernels seen st.back st.recorded = subst (λ (k : Kind). Node s.model s.kernels (cut_by k goal st.best st.top) st.back st.recorded) least st.node in
+        let node : Node s.model s.kernels s.round_limit seen st.back st.recorded = subst (λ (k : Kind). Node s.model s.kernels s.round_limit (cut_by k goal st.best st.top) st.back st.recorded) least st.node in
         let falls : state.best ≡ best_after Kind.Least goal st.best st.recorded = st.falls ∙ ap (λ (k : Kind). best_after k goal st.best st.recorded) least in
         let all = recorded_solve st.top seen st.back st.recorded l i node in
         elim (Contains-append_cases before.found st.recorded a (subst (λ (xs : List (List ℤ)). Contains xs a) st.found k)) [
@@ -289,7 +289,7 @@ module _ (order : InsideOrder) (branches : BranchLaws) (fixed : FixedIsPoint) (s
         let l = top_lies order branches s p.phases (long_sub s p) p.in_range before st.rest st.top r st.takes.taken in
         let seen = cut_by Kind.Least goal st.best st.top in
         let i = cut_inside order branches s p.phases (long_sub s p) p.in_range Kind.Least st.best st.top in
-        let node : Node s.model s.kernels seen st.back st.recorded = subst (λ (k : Kind). Node s.model s.kernels (cut_by k goal st.best st.top) st.back st.recorded) least st.node in
+        let node : Node s.model s.kernels s.round_limit seen st.back st.recorded = subst (λ (k : Kind). Node s.model s.kernels s.round_limit (cut_by k goal st.best st.top) st.back st.recorded) least st.node in
         let all = recorded_solve st.top seen st.back st.recorded l i node in
         recorded_below st.top st.best a cost l (All-contains (Solves seen) st.recorded a all k) c
 
@@ -304,10 +304,10 @@ module _ (order : InsideOrder) (branches : BranchLaws) (fixed : FixedIsPoint) (s
         (All-append (Falls x) found recorded (λ i d l. h 0 (suc i) d (omega arith) (omega arith)) (λ i d l. both x (get_or recorded i d) (0, omega arith, refl) (Contains-get_or recorded i d l)))
         (pairs_append found recorded (λ i j d l w. h (suc i) (suc j) d (omega arith) (omega arith)) k (λ a b p q. both a b (let m = p in (suc m.0, omega (arith, m.1), m.2)) q))
 
-    one_falls : (seen : Bounds) (back : List Bounds) (recorded : List (List ℤ)) → Node s.model s.kernels seen back recorded → AllPairs Falls recorded
-    one_falls seen back recorded (is_dropped _ _ _ _ _ fails none nothing) = subst (AllPairs Falls) (sym nothing) (λ i j d l w. absurd (omega arith))
-    one_falls seen back recorded (is_solved _ _ _ _ _ g gr all none one) = subst (AllPairs Falls) (sym one) (λ i j d l w. absurd (omega arith))
-    one_falls seen back recorded (is_parted _ _ _ _ _ g left right gr br two nothing) = subst (AllPairs Falls) (sym nothing) (λ i j d l w. absurd (omega arith))
+    one_falls : (seen : Bounds) (back : List Bounds) (recorded : List (List ℤ)) → Node s.model s.kernels s.round_limit seen back recorded → AllPairs Falls recorded
+    one_falls seen back recorded (is_dropped _ _ _ _ _ _ fails none nothing) = subst (AllPairs Falls) (sym nothing) (λ i j d l w. absurd (omega arith))
+    one_falls seen back recorded (is_solved _ _ _ _ _ _ g gr _ all none one) = subst (AllPairs Falls) (sym one) (λ i j d l w. absurd (omega arith))
+    one_falls seen back recorded (is_parted _ _ _ _ _ _ g left right gr _ br two nothing) = subst (AllPairs Falls) (sym nothing) (λ i j d l w. absurd (omega arith))
 
     less_than : (best : Option ℤ) (c d : ℤ) → IsAtMost best c → IsBelow d best → d <ℤ c
     less_than None c d a b = absurd a
@@ -319,7 +319,7 @@ module _ (order : InsideOrder) (branches : BranchLaws) (fixed : FixedIsPoint) (s
         let l = top_lies order branches s p.phases (long_sub s p) p.in_range before st.rest st.top r st.takes.taken in
         let seen = cut_by Kind.Least goal st.best st.top in
         let i = cut_inside order branches s p.phases (long_sub s p) p.in_range Kind.Least st.best st.top in
-        let node : Node s.model s.kernels seen st.back st.recorded = subst (λ (k : Kind). Node s.model s.kernels (cut_by k goal st.best st.top) st.back st.recorded) least st.node in
+        let node : Node s.model s.kernels s.round_limit seen st.back st.recorded = subst (λ (k : Kind). Node s.model s.kernels s.round_limit (cut_by k goal st.best st.top) st.back st.recorded) least st.node in
         let all = recorded_solve st.top seen st.back st.recorded l i node in
         subst (AllPairs Falls) (sym st.found)
         (pairs_append before.found st.recorded (falls before r) (one_falls seen st.back st.recorded node)

@@ -282,7 +282,7 @@ module _ (order : InsideOrder) (branches : BranchLaws) (s : Search) (least : s.k
         abbrev after_node : List Bounds → List (List ℤ) → State
         after_node after recorded = record { stack = after; best = best_after Kind.Least s.model.goal lowest recorded; count = count + 1; found = found ++ recorded }
 
-        abbrev step : (after : List Bounds) (recorded : List (List ℤ)) → IsNode s.model s.kernels looked_at rest after [] recorded → Step s state (after_node after recorded)
+        abbrev step : (after : List Bounds) (recorded : List (List ℤ)) → IsNode s.model s.kernels s.round_limit looked_at rest after [] recorded → Step s state (after_node after recorded)
         step after recorded h =
             let same : recorded ≡ h.recorded = h.solutions in
             record {
@@ -292,20 +292,20 @@ module _ (order : InsideOrder) (branches : BranchLaws) (s : Search) (least : s.k
               back = h.back;
               recorded = recorded;
               takes = takes;
-              node = subst (λ (k : Kind). Node s.model s.kernels (cut_by k s.model.goal lowest top) h.back recorded) (sym least)
-                  (subst (λ (xs : List (List ℤ)). Node s.model s.kernels looked_at h.back xs) (sym same) h.node);
+              node = subst (λ (k : Kind). Node s.model s.kernels s.round_limit (cut_by k s.model.goal lowest top) h.back recorded) (sym least)
+                  (subst (λ (xs : List (List ℤ)). Node s.model s.kernels s.round_limit looked_at h.back xs) (sym same) h.node);
               stack = h.stack;
               falls = ap (λ (k : Kind). best_after k s.model.goal lowest recorded) (sym least);
               count = refl;
               found = refl;
             }
 
-        pub node_reached : (after : List Bounds) (recorded : List (List ℤ)) → IsNode s.model s.kernels looked_at rest after [] recorded →
+        pub node_reached : (after : List Bounds) (recorded : List (List ℤ)) → IsNode s.model s.kernels s.round_limit looked_at rest after [] recorded →
             Reached s (record { stack = after; best = best_after Kind.Least s.model.goal lowest recorded; count = count + 1; found = found ++ recorded })
         node_reached after recorded h = stepped s state (after_node after recorded) reached on (step after recorded h)
 
         -- what the node records costs less than the lowest cost
-        pub node_below : RecordsBelow → (after : List Bounds) (recorded : List (List ℤ)) → IsNode s.model s.kernels looked_at rest after [] recorded →
+        pub node_below : RecordsBelow → (after : List Bounds) (recorded : List (List ℤ)) → IsNode s.model s.kernels s.round_limit looked_at rest after [] recorded →
             (a : List ℤ) (cost : ℤ) → Contains recorded a → cost_of s.model.goal a ≡ Some cost → IsBelow cost lowest
         node_below law after recorded h = law s state (after_node after recorded) least p reached (step after recorded h)
 
@@ -328,13 +328,13 @@ module _ (order : InsideOrder) (branches : BranchLaws) (s : Search) (least : s.k
           is_found = refl;
         }
 
-        pub node_less : (after : List Bounds) (recorded : List (List ℤ)) → IsNode s.model s.kernels looked_at rest after [] recorded → sum_by weight after < sum_by weight stack
+        pub node_less : (after : List Bounds) (recorded : List (List ℤ)) → IsNode s.model s.kernels s.round_limit looked_at rest after [] recorded → sum_by weight after < sum_by weight stack
         node_less after recorded h =
             step_less order branches s p.phases (long_sub s p) p.in_range stack after rest h.back top looked_at h.recorded taken h.stack lies_here
             (cut_inside order branches s p.phases (long_sub s p) p.in_range Kind.Least lowest top) h.node
 
         -- what is recorded can be posted
-        pub recorded_solve : RecordsSolutions → (after : List Bounds) (recorded : List (List ℤ)) → IsNode s.model s.kernels looked_at rest after [] recorded → All (SolvesInside s.model s.sub) recorded
+        pub recorded_solve : RecordsSolutions → (after : List Bounds) (recorded : List (List ℤ)) → IsNode s.model s.kernels s.round_limit looked_at rest after [] recorded → All (SolvesInside s.model s.sub) recorded
         recorded_solve law after recorded h = last_all (SolvesInside s.model s.sub) found recorded (law s (record { stack = after; best = best_after Kind.Least s.model.goal lowest recorded; count = count + 1; found = found ++ recorded }) p (node_reached after recorded h))
           where
             last_all : (P : List ℤ → Type 0) (xs ys : List (List ℤ)) → All P (xs ++ ys) → All P ys
@@ -342,16 +342,16 @@ module _ (order : InsideOrder) (branches : BranchLaws) (s : Search) (least : s.k
             last_all P (x ∷ xs) ys q = last_all P xs ys (All-tail P x (xs ++ ys) q)
 
 -- at most one solution is recorded by a node
-pub at_most_one : (model : FznModel) (kernels : List Kernel) (b : Bounds) (before after : List Bounds) (recorded : List (List ℤ)) → IsNode model kernels b before after [] recorded → length recorded ≤ 1
-at_most_one model kernels b before after recorded h = subst (λ (xs : List (List ℤ)). length xs ≤ 1) (sym same) (one h.back h.recorded h.node)
+pub at_most_one : (model : FznModel) (kernels : List Kernel) (round_limit : ℕ) (b : Bounds) (before after : List Bounds) (recorded : List (List ℤ)) → IsNode model kernels round_limit b before after [] recorded → length recorded ≤ 1
+at_most_one model kernels round_limit b before after recorded h = subst (λ (xs : List (List ℤ)). length xs ≤ 1) (sym same) (one h.back h.recorded h.node)
   where
     same : recorded ≡ h.recorded
     same = h.solutions
 
-    one : (back : List Bounds) (xs : List (List ℤ)) → Node model kernels b back xs → length xs ≤ 1
-    one back xs (is_dropped _ _ _ _ _ _ _ nothing) = subst (λ (ys : List (List ℤ)). length ys ≤ 1) (sym nothing) (omega arith)
-    one back xs (is_solved _ _ _ _ _ g _ _ _ alone) = subst (λ (ys : List (List ℤ)). length ys ≤ 1) (sym alone) (omega arith)
-    one back xs (is_parted _ _ _ _ _ _ _ _ _ _ _ nothing) = subst (λ (ys : List (List ℤ)). length ys ≤ 1) (sym nothing) (omega arith)
+    one : (back : List Bounds) (xs : List (List ℤ)) → Node model kernels round_limit b back xs → length xs ≤ 1
+    one back xs (is_dropped _ _ _ _ _ _ _ _ nothing) = subst (λ (ys : List (List ℤ)). length ys ≤ 1) (sym nothing) (omega arith)
+    one back xs (is_solved _ _ _ _ _ _ g _ _ _ _ alone) = subst (λ (ys : List (List ℤ)). length ys ≤ 1) (sym alone) (omega arith)
+    one back xs (is_parted _ _ _ _ _ _ _ _ _ _ _ _ _ nothing) = subst (λ (ys : List (List ℤ)). length ys ≤ 1) (sym nothing) (omega arith)
 
 -- what is recorded can be posted: its objective is a term of it, and its cost is a number and that of a solution
 pub can_post : (model : FznModel) → IsWellFormed model → model.goal ≢ Goal.Satisfy → (sub : Bounds) (a : List ℤ) → SolvesInside model sub a → IsObjectiveIn (length a) model.goal

@@ -1,12 +1,14 @@
 -- How many nodes, and rounds, a search can have.
-use Rattle.std.proofs.Common.{◌≡◌, ◌≢◌, ℕ, zero, suc, ℤ, ◌+◌, ◌*◌, ◌≤◌, ◌<◌, List, [], ◌∷◌, refl, ap, arith}
+use Rattle.std.proofs.Common.{◌≡◌, ◌≢◌, ◌⊎◌, inl, inr, ℕ, zero, suc, ℤ, ◌+◌, ◌*◌, ◌≤◌, ◌<◌, List, [], ◌∷◌, refl, ap, arith}
 use Rattle.std.specs.List.{sum_by}
+use Rattle.std.proofs.lemmas.Int.{ints}
 use Rattle.std.proofs.lemmas.List.Sums.{sum_by-append}
-use Rattle.interval.specs.Boxes.{Bounds, IsInside, InsideOrder, width_sum_of}
+use Rattle.interval.specs.Boxes.{Bounds, IsInside, IsProper, IsCrossed, InsideOrder, width_sum_of}
+use Rattle.fixpoint_laws.specs.Fixpoints.{IsClosed, IsGreatest, Fails}
 use Rattle.fixpoint_laws.specs.OneRound.{RoundsLead}
 use Rattle.branching.specs.Points.{points_of, PointCounts}
 use Rattle.branching.specs.Tree.{BranchLaws}
-use Rattle.search.specs.Machine.{Search, State, Node, is_dropped, is_solved, is_parted, cut_by, Reached, begun, stepped, IsOutOfNodes, IsOutOfRounds}
+use Rattle.search.specs.Machine.{Search, State, IsWithinRounds, Node, is_dropped, is_solved, is_parted, cut_by, Reached, begun, stepped, IsOutOfNodes, IsOutOfRounds}
 use Rattle.search.specs.Laws.{IsInsideStart, LimitLaws}
 use Rattle.search.proofs.StackLaws.{Lies, cut_inside, greatest_lies, parts_of, top_lies}
 use Rattle.search.proofs.PremiseLaws.{long_sub}
@@ -50,11 +52,11 @@ module _ (order : InsideOrder) (branches : BranchLaws) (counts : PointCounts) (s
   abbrev Here : Bounds → Type 0
   Here b = Lies order branches s p.phases (long_sub s p) p.in_range b
 
-  back_nodes : (top seen : Bounds) (back : List Bounds) (recorded : List (List ℤ)) → Here top → IsInside seen top → Node s.model s.kernels seen back recorded →
+  back_nodes : (top seen : Bounds) (back : List Bounds) (recorded : List (List ℤ)) → Here top → IsInside seen top → Node s.model s.kernels s.round_limit seen back recorded →
       sum_by most_nodes back + 1 ≤ most_nodes top
-  back_nodes top seen back recorded l i (is_dropped _ _ _ _ _ fails none nothing) = omega (arith, none_sum back none, some_node (points_of top))
-  back_nodes top seen back recorded l i (is_solved _ _ _ _ _ g gr all none one) = omega (arith, none_sum back none, some_node (points_of top))
-  back_nodes top seen back recorded l i (is_parted _ _ _ _ _ g left right gr br two nothing) =
+  back_nodes top seen back recorded l i (is_dropped _ _ _ _ _ _ fails none nothing) = omega (arith, none_sum back none, some_node (points_of top))
+  back_nodes top seen back recorded l i (is_solved _ _ _ _ _ _ g gr _ all none one) = omega (arith, none_sum back none, some_node (points_of top))
+  back_nodes top seen back recorded l i (is_parted _ _ _ _ _ _ g left right gr _ br two nothing) =
       let k = greatest_lies order branches s p.phases (long_sub s p) p.in_range top seen g l i gr in
       let q = parts_of order branches s p.phases (long_sub s p) p.in_range g left right k gr.closed.proper br in
       let sum = counts.parts s.model g left right p.phases (let e = k.inside.same_length in let m = long_sub s p in omega arith) gr.closed.proper br in
@@ -97,8 +99,27 @@ module _ (order : InsideOrder) (branches : BranchLaws) (counts : PointCounts) (s
       let v : width_sum_of seen ≤ width_sum_of s.sub = order.not_wider seen s.sub (order.outer_is_proper up.into seen up.proper j) i in
       omega (arith, h, w, v)
 
+not_crossed : (b : Bounds) → IsProper b → IsCrossed b → ⊥
+not_crossed b h (v, l, k) = let e = h v l in omega (arith, ints, e, k)
+
+module _ (order : InsideOrder) (s : Search) (one : s.round_limit ≡ 1) where
+  one_of : (rounds : ℕ) → rounds ≤ s.round_limit → (rounds ≡ 0 → ⊥) → rounds ≡ 1
+  one_of zero h some = absurd (some refl)
+  one_of (suc rounds) h some = omega (arith, h, one)
+
+  closed_in_one : (b g : Bounds) → IsGreatest g b s.kernels → IsWithinRounds s.kernels s.round_limit b → IsClosed b s.kernels
+  closed_in_one b g gr within =
+      let proper = order.outer_is_proper g b gr.closed.proper gr.inside in
+      within.in_one.0 (one_of within.rounds (within.few.within (λ e. omega (arith, e, one))) (λ e. not_crossed b proper (within.few.at_once.0 e)))
+
+  of_node : (b : Bounds) (back : List Bounds) (recorded : List (List ℤ)) → Node s.model s.kernels s.round_limit b back recorded → Fails b s.kernels ⊎ IsClosed b s.kernels
+  of_node b back recorded (is_dropped _ _ _ _ _ _ fails _ _) = inl fails
+  of_node b back recorded (is_solved _ _ _ _ _ _ g gr within _ _ _) = inr (closed_in_one b g gr within)
+  of_node b back recorded (is_parted _ _ _ _ _ _ g _ _ gr within _ _ _) = inr (closed_in_one b g gr within)
+
 pub limit_laws : InsideOrder → BranchLaws → PointCounts → RoundsLead → LimitLaws
 limit_laws order branches counts lead = record {
   nodes = λ s state p r h out. never_out order branches counts s p state r h out;
   rounds = λ s state p h out. never_given_up order branches counts s p lead state h out;
+  one_round = λ s before after one step. of_node order s one (cut_by s.kind s.model.goal step.best step.top) step.back step.recorded step.node;
 }

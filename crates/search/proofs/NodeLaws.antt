@@ -5,35 +5,36 @@ use Rattle.guarded_tell.specs.declared.kernel.Kernel.{Kernel}
 use Rattle.fixpoint_laws.specs.Fixpoints.{IsGreatest, Fails}
 use Rattle.constraint_model.specs.declared.model.FznModel.{FznModel}
 use Rattle.branching.specs.Tree.{values_of}
-use Rattle.narrowing.specs.Narrowing.{MayGiveUp}
+use Rattle.narrowing.specs.declared.narrowed.Narrowed.{Narrowed}
+use Rattle.narrowing.specs.Narrowing.{IsNarrowed, MayGiveUp}
 use Rattle.search.specs.declared.kind.Kind.{Kind}
 use Rattle.search.specs.declared.node.Visit.{Visit}
-use Rattle.search.specs.Machine.{is_dropped, is_solved, is_parted, cut_by}
+use Rattle.search.specs.Machine.{IsWithinRounds, is_dropped, is_solved, is_parted, cut_by}
 use Rattle.search.specs.Nodes.{IsSettled, IsNode, IsTopVisit}
 
-module _ (model : FznModel) (kernels : List Kernel) (top : Bounds) (before : List Bounds) (found : List (List ℤ)) where
-  pub node_dropped : Fails top kernels → IsNode model kernels top before before found found
+module _ (model : FznModel) (kernels : List Kernel) (round_limit : ℕ) (top : Bounds) (before : List Bounds) (found : List (List ℤ)) where
+  pub node_dropped : Fails top kernels → IsNode model kernels round_limit top before before found found
   node_dropped fails = record {
     back = [];
     recorded = [];
-    node = is_dropped model kernels top [] [] fails refl refl;
+    node = is_dropped model kernels round_limit top [] [] fails refl refl;
     stack = sym (append-nil before);
     solutions = sym (append-nil found);
   }
 
-  pub node_settled : (g : Bounds) (after : List Bounds) (more : List (List ℤ)) → IsGreatest g top kernels → IsSettled model g before after found more →
-      IsNode model kernels top before after found more
-  node_settled g after more gr (inl (all, (e, k))) = record {
+  pub node_settled : (g : Bounds) (after : List Bounds) (more : List (List ℤ)) → IsGreatest g top kernels → IsWithinRounds kernels round_limit top → IsSettled model g before after found more →
+      IsNode model kernels round_limit top before after found more
+  node_settled g after more gr few (inl (all, (e, k))) = record {
     back = [];
     recorded = values_of model g ∷ [];
-    node = is_solved model kernels top [] (values_of model g ∷ []) g gr all (refl {a = []}) (refl {a = values_of model g ∷ []});
+    node = is_solved model kernels round_limit top [] (values_of model g ∷ []) g gr few all (refl {a = []}) (refl {a = values_of model g ∷ []});
     stack = e ∙ sym (append-nil before);
     solutions = k;
   }
-  node_settled g after more gr (inr (p, k)) = record {
+  node_settled g after more gr few (inr (p, k)) = record {
     back = p.right ∷ p.left ∷ [];
     recorded = [];
-    node = is_parted model kernels top (p.right ∷ p.left ∷ []) [] g p.left p.right gr p.branch (refl {a = p.right ∷ p.left ∷ []}) refl;
+    node = is_parted model kernels round_limit top (p.right ∷ p.left ∷ []) [] g p.left p.right gr few p.branch (refl {a = p.right ∷ p.left ∷ []}) refl;
     stack = p.stack;
     solutions = k ∙ sym (append-nil found);
   }
@@ -47,17 +48,17 @@ module _ (model : FznModel) (kernels : List Kernel) (round_limit : ℕ) (best : 
     rest = rest;
     top = top;
     taken = taken;
-    visit = subst (λ (b : Bounds). IsNode model kernels b rest after found more) is_cut
-        (subst (λ (bs : List Bounds). IsNode model kernels cut rest bs found more) (sym e)
-        (subst (λ (xs : List (List ℤ)). IsNode model kernels cut rest rest found xs) (sym f) (node_dropped model kernels cut rest found fails)));
+    visit = subst (λ (b : Bounds). IsNode model kernels round_limit b rest after found more) is_cut
+        (subst (λ (bs : List Bounds). IsNode model kernels round_limit cut rest bs found more) (sym e)
+        (subst (λ (xs : List (List ℤ)). IsNode model kernels round_limit cut rest rest found xs) (sym f) (node_dropped model kernels round_limit cut rest found fails)));
   }
 
-  pub top_settled : (g : Bounds) → IsGreatest g cut kernels → IsSettled model g rest after found more → IsTopVisit model kernels round_limit best before after found more Visit.Done
-  top_settled g gr h = record {
+  pub top_settled : (g : Bounds) → IsGreatest g cut kernels → IsWithinRounds kernels round_limit cut → IsSettled model g rest after found more → IsTopVisit model kernels round_limit best before after found more Visit.Done
+  top_settled g gr few h = record {
     rest = rest;
     top = top;
     taken = taken;
-    visit = subst (λ (b : Bounds). IsNode model kernels b rest after found more) is_cut (node_settled model kernels cut rest found g after more gr h);
+    visit = subst (λ (b : Bounds). IsNode model kernels round_limit b rest after found more) is_cut (node_settled model kernels round_limit cut rest found g after more gr few h);
   }
 
   pub top_given_up : MayGiveUp kernels round_limit cut → more ≡ found → IsTopVisit model kernels round_limit best before after found more Visit.GivenUp
@@ -67,3 +68,8 @@ module _ (model : FznModel) (kernels : List Kernel) (round_limit : ℕ) (best : 
     taken = taken;
     visit = (subst (MayGiveUp kernels round_limit) is_cut up, f);
   }
+
+-- what a box was narrowed by is within the limit on rounds
+pub within_rounds : (kernels : List Kernel) (round_limit : ℕ) (before after : Bounds) (rounds : ℕ) →
+    IsNarrowed kernels round_limit before after (Narrowed.Fixed rounds) → IsWithinRounds kernels round_limit before
+within_rounds kernels round_limit before after rounds h = record { rounds = rounds; in_one = h.1; few = h.2 }

@@ -49,13 +49,13 @@ module _ (model : FznModel) (kernels : List Kernel) where
           (xs, (ys ++ vs, (h, ((ys, (vs, (l, (s, refl)))), e ∙ ap (λ (ws : List (List ℤ)). ws ++ vs) f ∙ append_assoc xs ys vs))))
 
   -- what a node records, and the solutions in what it puts back, are those of its box
-  of_node : (top : Bounds) (back : List Bounds) (recorded xs : List (List ℤ)) → Node model kernels top back recorded → Lists back xs → SolutionsIn model kernels top (recorded ++ xs)
-  of_node top back recorded xs (is_dropped _ _ _ _ _ fails none nothing) h =
+  of_node : (round_limit : ℕ) (top : Bounds) (back : List Bounds) (recorded xs : List (List ℤ)) → Node model kernels round_limit top back recorded → Lists back xs → SolutionsIn model kernels top (recorded ++ xs)
+  of_node round_limit top back recorded xs (is_dropped _ _ _ _ _ _ fails none nothing) h =
       failed model kernels top (recorded ++ xs) fails (ap (λ (ys : List (List ℤ)). ys ++ xs) nothing ∙ none_left back xs none h)
-  of_node top back recorded xs (is_solved _ _ _ _ _ g gr all none one) h =
+  of_node round_limit top back recorded xs (is_solved _ _ _ _ _ _ g gr _ all none one) h =
       fixed model kernels top g (recorded ++ xs) gr all
       (ap (λ (ys : List (List ℤ)). recorded ++ ys) (none_left back xs none h) ∙ append-nil recorded ∙ one)
-  of_node top back recorded xs (is_parted _ _ _ _ _ g left right gr br two nothing) h = both (subst (λ (cs : List Bounds). Lists cs xs) two h)
+  of_node round_limit top back recorded xs (is_parted _ _ _ _ _ _ g left right gr _ br two nothing) h = both (subst (λ (cs : List Bounds). Lists cs xs) two h)
     where
       both : Lists (right ∷ left ∷ []) xs → SolutionsIn model kernels top (recorded ++ xs)
       both (us, (rs, ((ns, (ls, (n, (l, f)))), (r, e)))) =
@@ -84,12 +84,12 @@ module _ (s : Search) where
   of_reached other state (stepped _ before _ r on st) zs h =
       back (of_reached other before r) (split s.model s.kernels st.rest st.back zs (subst (λ (cs : List Bounds). On cs zs) st.stack h))
     where
-      node : Node s.model s.kernels st.top st.back st.recorded
-      node = subst (λ (b : Bounds). Node s.model s.kernels b st.back st.recorded) (no_cut s.kind s.model.goal st.best st.top other) st.node
+      node : Node s.model s.kernels s.round_limit st.top st.back st.recorded
+      node = subst (λ (b : Bounds). Node s.model s.kernels s.round_limit b st.back st.recorded) (no_cut s.kind s.model.goal st.best st.top other) st.node
 
       back : ((us : List (List ℤ)) → On before.stack us → Sols (before.found ++ us)) → Split s.model s.kernels st.rest st.back zs → Sols (state.found ++ zs)
       back known (xs, (ys, (k, (l, f)))) =
-          let one : On (st.top ∷ []) (st.recorded ++ xs) = ([], (st.recorded ++ xs, (refl, (of_node s.model s.kernels st.top st.back st.recorded xs node k, refl)))) in
+          let one : On (st.top ∷ []) (st.recorded ++ xs) = ([], (st.recorded ++ xs, (refl, (of_node s.model s.kernels s.round_limit st.top st.back st.recorded xs node k, refl)))) in
           let all = joined s.model s.kernels st.rest (st.top ∷ []) (st.recorded ++ xs) ys one l in
           let whole = known ((st.recorded ++ xs) ++ ys) (subst (λ (cs : List Bounds). On cs ((st.recorded ++ xs) ++ ys)) (sym st.takes.taken) all) in
           subst Sols (sym (ap (λ (us : List (List ℤ)). us ++ zs) st.found ∙ ap (λ (us : List (List ℤ)). (before.found ++ st.recorded) ++ us) f
@@ -130,10 +130,10 @@ module _ (s : Search) where
   one_at_most first state (stepped _ before _ r on st) =
       recorded st.back (cut_by s.kind s.model.goal st.best st.top) st.recorded st.node (st.found ∙ ap (λ (us : List (List ℤ)). us ++ st.recorded) (on.sought first))
     where
-      recorded : (back : List Bounds) (b : Bounds) (xs : List (List ℤ)) → Node s.model s.kernels b back xs → state.found ≡ xs → (state.found ≡ []) ⊎ ((x : List ℤ) × (state.found ≡ x ∷ []))
-      recorded back b xs (is_dropped _ _ _ _ _ fails none nothing) e = inl (e ∙ nothing)
-      recorded back b xs (is_solved _ _ _ _ _ g gr all none one) e = inr (values_of s.model g, e ∙ one)
-      recorded back b xs (is_parted _ _ _ _ _ g left right gr br two nothing) e = inl (e ∙ nothing)
+      recorded : (back : List Bounds) (b : Bounds) (xs : List (List ℤ)) → Node s.model s.kernels s.round_limit b back xs → state.found ≡ xs → (state.found ≡ []) ⊎ ((x : List ℤ) × (state.found ≡ x ∷ []))
+      recorded back b xs (is_dropped _ _ _ _ _ _ fails none nothing) e = inl (e ∙ nothing)
+      recorded back b xs (is_solved _ _ _ _ _ _ g gr _ all none one) e = inr (values_of s.model g, e ∙ one)
+      recorded back b xs (is_parted _ _ _ _ _ _ g left right gr _ br two nothing) e = inl (e ∙ nothing)
 
 head_is : (found zs : List (List ℤ)) → found ≢ [] → head_of found ≡ head_of (found ++ zs)
 head_is [] zs k = absurd (k refl)

@@ -83,7 +83,7 @@ module _ (s : Search) (other : s.kind ≢ Kind.Least) (stack : List Bounds) (cou
       abbrev on : GoesOn s state
       on = record { below = below_limit s.node_limit nodes count fits counted below; sought = sought }
 
-      pub node_reached : (after : List Bounds) (more : List (List ℤ)) → IsNode s.model s.kernels top rest after found more →
+      pub node_reached : (after : List Bounds) (more : List (List ℤ)) → IsNode s.model s.kernels s.round_limit top rest after found more →
           Reached s (record { stack = after; best = None; count = count + 1; found = more })
       node_reached after more h =
           stepped s state (record { stack = after; best = None; count = count + 1; found = more }) reached on
@@ -94,7 +94,7 @@ module _ (s : Search) (other : s.kind ≢ Kind.Least) (stack : List Bounds) (cou
             back = h.back;
             recorded = h.recorded;
             takes = takes;
-            node = subst (λ (b : Bounds). Node s.model s.kernels b h.back h.recorded) (sym (no_cut s.kind s.model.goal None top other)) h.node;
+            node = subst (λ (b : Bounds). Node s.model s.kernels s.round_limit b h.back h.recorded) (sym (no_cut s.kind s.model.goal None top other)) h.node;
             stack = h.stack;
             falls = sym (other_best s.kind s.model.goal None h.recorded other);
             count = refl;
@@ -128,7 +128,7 @@ module _ (s : Search) (other : s.kind ≢ Kind.Least) (stack : List Bounds) (cou
     pub top_length : length top ≡ length s.sub
     top_length = lies_here.inside.same_length
 
-    pub node_less : (after : List Bounds) (more : List (List ℤ)) → IsNode s.model s.kernels top rest after found more → sum_by weight after < sum_by weight stack
+    pub node_less : (after : List Bounds) (more : List (List ℤ)) → IsNode s.model s.kernels s.round_limit top rest after found more → sum_by weight after < sum_by weight stack
     node_less after more h = step_less order branches s rule long range stack after rest h.back top top h.recorded taken h.stack lies_here (order.itself top) h.node
 
     pub top_runs : All (IsKernel (length s.sub)) s.kernels → All (IsKernel (length top)) s.kernels
@@ -137,7 +137,7 @@ module _ (s : Search) (other : s.kind ≢ Kind.Least) (stack : List Bounds) (cou
 -- ---- how a box was visited
 
 module _ (model : FznModel) (kernels : List Kernel) (round_limit : ℕ) (b : Bounds) (before after : List Bounds) (found more : List (List ℤ)) (visit : Visit) where
-  pub of_done : visit ≡ Visit.Done → IsVisit model kernels round_limit b before after found more visit → IsNode model kernels b before after found more
+  pub of_done : visit ≡ Visit.Done → IsVisit model kernels round_limit b before after found more visit → IsNode model kernels round_limit b before after found more
   of_done e h = subst (IsVisit model kernels round_limit b before after found more) e h
 
   pub of_given_up : visit ≡ Visit.GivenUp → IsVisit model kernels round_limit b before after found more visit → MayGiveUp kernels round_limit b × (more ≡ found)

@@ -75,21 +75,21 @@ module _ (order : InsideOrder) (branches : BranchLaws) (s : Search) (rule : IsSe
   part_lies : (g part : Bounds) → Lies g → IsPart g part → Lies part
   part_lies g part l p = record { inside = order.through part g s.sub p.inside l.inside; in_range = p.in_range }
 
-  back_lies : (top seen : Bounds) (back : List Bounds) (recorded : List (List ℤ)) → Lies top → IsInside seen top → Node s.model s.kernels seen back recorded → All Lies back
-  back_lies top seen back recorded l i (is_dropped _ _ _ _ _ fails none nothing) = subst (All Lies) (sym none) (All-nil Lies)
-  back_lies top seen back recorded l i (is_solved _ _ _ _ _ g gr all none one) = subst (All Lies) (sym none) (All-nil Lies)
-  back_lies top seen back recorded l i (is_parted _ _ _ _ _ g left right gr br two nothing) =
+  back_lies : (top seen : Bounds) (back : List Bounds) (recorded : List (List ℤ)) → Lies top → IsInside seen top → Node s.model s.kernels s.round_limit seen back recorded → All Lies back
+  back_lies top seen back recorded l i (is_dropped _ _ _ _ _ _ fails none nothing) = subst (All Lies) (sym none) (All-nil Lies)
+  back_lies top seen back recorded l i (is_solved _ _ _ _ _ _ g gr _ all none one) = subst (All Lies) (sym none) (All-nil Lies)
+  back_lies top seen back recorded l i (is_parted _ _ _ _ _ _ g left right gr _ br two nothing) =
       let k = greatest_lies top seen g l i gr in
       let p = parts_of g left right k gr.closed.proper br in
       subst (All Lies) (sym two)
       (All-cons Lies right (left ∷ []) (part_lies g right k p.second_part)
       (All-cons Lies left [] (part_lies g left k p.first_part) (All-nil Lies)))
 
-  back_less : (top seen : Bounds) (back : List Bounds) (recorded : List (List ℤ)) → Lies top → IsInside seen top → Node s.model s.kernels seen back recorded →
+  back_less : (top seen : Bounds) (back : List Bounds) (recorded : List (List ℤ)) → Lies top → IsInside seen top → Node s.model s.kernels s.round_limit seen back recorded →
       sum_by weight back < weight top
-  back_less top seen back recorded l i (is_dropped _ _ _ _ _ fails none nothing) = omega (arith, ap (sum_by weight) none, power_more (width_sum_of top))
-  back_less top seen back recorded l i (is_solved _ _ _ _ _ g gr all none one) = omega (arith, ap (sum_by weight) none, power_more (width_sum_of top))
-  back_less top seen back recorded l i (is_parted _ _ _ _ _ g left right gr br two nothing) =
+  back_less top seen back recorded l i (is_dropped _ _ _ _ _ _ fails none nothing) = omega (arith, ap (sum_by weight) none, power_more (width_sum_of top))
+  back_less top seen back recorded l i (is_solved _ _ _ _ _ _ g gr _ all none one) = omega (arith, ap (sum_by weight) none, power_more (width_sum_of top))
+  back_less top seen back recorded l i (is_parted _ _ _ _ _ _ g left right gr _ br two nothing) =
       let k = greatest_lies top seen g l i gr in
       let p = parts_of g left right k gr.closed.proper br in
       let w : width_sum_of g ≤ width_sum_of top = order.not_wider g top gr.closed.proper (order.through g seen top gr.inside i) in
@@ -98,7 +98,7 @@ module _ (order : InsideOrder) (branches : BranchLaws) (s : Search) (rule : IsSe
       omega (arith, ap (sum_by weight) two, two_powers (width_sum_of right) (width_sum_of left) (width_sum_of top) (omega arith) (omega arith))
 
   pub step_less : (before after rest back : List Bounds) (top seen : Bounds) (recorded : List (List ℤ)) → before ≡ rest ++ top ∷ [] → after ≡ rest ++ back →
-      Lies top → IsInside seen top → Node s.model s.kernels seen back recorded → sum_by weight after < sum_by weight before
+      Lies top → IsInside seen top → Node s.model s.kernels s.round_limit seen back recorded → sum_by weight after < sum_by weight before
   step_less before after rest back top seen recorded e k l i node =
       omega (arith, ap (sum_by weight) e, ap (sum_by weight) k, sum_by-append weight rest (top ∷ []), sum_by-append weight rest back, back_less top seen back recorded l i node)
 

@@ -3,6 +3,7 @@ use Rattle.std.specs.Prelude.{◌≡◌, ◌≢◌, ◌⊎◌, ◌+◌, ◌*◌,
 use Rattle.interval.specs.Boxes.{Bounds, IsInRange, IsInside, width_sum_of}
 use Rattle.guarded_tell.specs.declared.kernel.Kernel.{Kernel}
 use Rattle.guarded_tell.specs.Kernels.{IsKernel}
+use Rattle.fixpoint_laws.specs.Fixpoints.{IsClosed, Fails}
 use Rattle.constraint_model.specs.declared.model.FznModel.{FznModel}
 use Rattle.constraint_model.specs.Relations.{cost_of}
 use Rattle.constraint_model.specs.Searches.{IsSearchOf}
@@ -14,7 +15,7 @@ use Rattle.branching.specs.Tree.{SolutionsIn}
 use Rattle.solution_lists.specs.Solutions.{LiesIn, SolvesInside}
 use Rattle.search.specs.declared.kind.Kind.{Kind}
 use Rattle.search.specs.Costs.{IsBelow, IsAtMost}
-use Rattle.search.specs.Machine.{Search, State, Step, Reached, IsDone, IsOutOfNodes, IsOutOfRounds}
+use Rattle.search.specs.Machine.{Search, State, cut_by, Step, Reached, IsDone, IsOutOfNodes, IsOutOfRounds}
 
 -- a search of a box inside the start of a model's program
 pub record IsInsideStart (s : Search) : Type 0 where
@@ -87,8 +88,10 @@ pub record EndLaws : Type 0 where
   pub not_both : (s : Search) (state : State) → IsDone s state → IsOutOfNodes s state → ⊥
 
 -- the limit on nodes stops no search of a box of q points where it is at least 2q - 1, nor that on rounds one of a box whose
--- widths are below it
+-- widths are below it; and under a limit of one round each box that has its node fails or is closed
 pub record LimitLaws : Type 0 where
   pub nodes : (s : Search) (state : State) → IsInsideStart s → Reached s state → 2 * points_of s.sub ≤ s.node_limit + 1 →
       IsOutOfNodes s state → ⊥
   pub rounds : (s : Search) (state : State) → IsInsideStart s → width_sum_of s.sub < s.round_limit → IsOutOfRounds s state → ⊥
+  pub one_round : (s : Search) (before after : State) → s.round_limit ≡ 1 → (step : Step s before after) →
+      Fails (cut_by s.kind s.model.goal step.best step.top) s.kernels ⊎ IsClosed (cut_by s.kind s.model.goal step.best step.top) s.kernels

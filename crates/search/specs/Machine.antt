@@ -2,15 +2,15 @@
 --
 -- Source: depth-first branch and bound by propagation and branching, as the FlatZinc chapter of the MiniZinc Handbook has
 -- it in its solve items and search annotations.
-use Rattle.std.specs.Prelude.{◌≡◌, ◌≢◌, ◌⊎◌, ℕ, ◌+◌, ◌<◌, ℤ, pos, ◌-ℤ◌, List, [], ◌∷◌, ◌++◌, Option, Some, None, Contains}
+use Rattle.std.specs.Prelude.{◌≡◌, ◌≢◌, ◌↔◌, ◌⊎◌, ℕ, ◌+◌, ◌<◌, ℤ, pos, ◌-ℤ◌, List, [], ◌∷◌, ◌++◌, Option, Some, None, Contains}
 use Rattle.interval.specs.Boxes.{Bounds}
 use Rattle.guarded_tell.specs.declared.kernel.Kernel.{Kernel}
-use Rattle.fixpoint_laws.specs.Fixpoints.{IsGreatest, Fails}
+use Rattle.fixpoint_laws.specs.Fixpoints.{IsClosed, IsGreatest, Fails}
 use Rattle.constraint_model.specs.declared.model.Goal.{Goal}
 use Rattle.constraint_model.specs.declared.model.FznModel.{FznModel}
 use Rattle.constraint_model.specs.Relations.{cost_of}
 use Rattle.branching.specs.Parts.{IsBranch}
-use Rattle.narrowing.specs.Narrowing.{MayGiveUp}
+use Rattle.narrowing.specs.Narrowing.{AreFew, MayGiveUp}
 use Rattle.branching.specs.Tree.{AreFixed, values_of}
 use Rattle.search.specs.declared.kind.Kind.{Kind}
 use Rattle.search.specs.Costs.{IsBelow, at_most}
@@ -51,16 +51,24 @@ best_after Kind.Least goal best (values ∷ others) = cost_of goal values
 best_after Kind.First goal best recorded = best
 best_after Kind.All goal best recorded = best
 
+-- a box was narrowed within the limit on rounds (0: none): by so many, one exactly where it was closed before
+pub record IsWithinRounds (kernels : List Kernel) (round_limit : ℕ) (b : Bounds) : Type 0 where
+  pub rounds : ℕ
+  pub in_one : (rounds ≡ 1) ↔ IsClosed b kernels
+  pub few : AreFew round_limit b rounds
+
 -- What a node makes of its box: the boxes that come back onto the stack, and what is recorded. A box that fails is dropped;
 -- one whose greatest closed box fixes each declared variable is recorded; another gives its right and its left part, so
--- that the left one is next.
-pub data Node : FznModel → List Kernel → Bounds → List Bounds → List (List ℤ) → Type 0 where
-  is_dropped : (model : FznModel) (kernels : List Kernel) (b : Bounds) (back : List Bounds) (recorded : List (List ℤ)) →
-      Fails b kernels → back ≡ [] → recorded ≡ [] → Node model kernels b back recorded
-  is_solved : (model : FznModel) (kernels : List Kernel) (b : Bounds) (back : List Bounds) (recorded : List (List ℤ)) (g : Bounds) →
-      IsGreatest g b kernels → AreFixed model g → back ≡ [] → recorded ≡ values_of model g ∷ [] → Node model kernels b back recorded
-  is_parted : (model : FznModel) (kernels : List Kernel) (b : Bounds) (back : List Bounds) (recorded : List (List ℤ)) (g left right : Bounds) →
-      IsGreatest g b kernels → IsBranch model g left right → back ≡ right ∷ left ∷ [] → recorded ≡ [] → Node model kernels b back recorded
+-- that the left one is next. That greatest closed box was found within the limit on rounds.
+pub data Node : FznModel → List Kernel → ℕ → Bounds → List Bounds → List (List ℤ) → Type 0 where
+  is_dropped : (model : FznModel) (kernels : List Kernel) (round_limit : ℕ) (b : Bounds) (back : List Bounds) (recorded : List (List ℤ)) →
+      Fails b kernels → back ≡ [] → recorded ≡ [] → Node model kernels round_limit b back recorded
+  is_solved : (model : FznModel) (kernels : List Kernel) (round_limit : ℕ) (b : Bounds) (back : List Bounds) (recorded : List (List ℤ)) (g : Bounds) →
+      IsGreatest g b kernels → IsWithinRounds kernels round_limit b → AreFixed model g → back ≡ [] → recorded ≡ values_of model g ∷ [] →
+      Node model kernels round_limit b back recorded
+  is_parted : (model : FznModel) (kernels : List Kernel) (round_limit : ℕ) (b : Bounds) (back : List Bounds) (recorded : List (List ℤ)) (g left right : Bounds) →
+      IsGreatest g b kernels → IsWithinRounds kernels round_limit b → IsBranch model g left right → back ≡ right ∷ left ∷ [] → recorded ≡ [] →
+      Node model kernels round_limit b back recorded
 
 -- the last box of the stack is taken, once the best cost has fallen or stayed
 pub record Takes (s : Search) (state : State) (best : Option ℤ) (rest : List Bounds) (top : Bounds) : Type 0 where
@@ -75,7 +83,7 @@ pub record Step (s : Search) (before after : State) : Type 0 where
   pub back : List Bounds
   pub recorded : List (List ℤ)
   pub takes : Takes s before best rest top
-  pub node : Node s.model s.kernels (cut_by s.kind s.model.goal best top) back recorded
+  pub node : Node s.model s.kernels s.round_limit (cut_by s.kind s.model.goal best top) back recorded
   pub stack : after.stack ≡ rest ++ back
   pub falls : after.best ≡ best_after s.kind s.model.goal best recorded
   pub count : after.count ≡ before.count + 1

@@ -23,16 +23,16 @@ IsSettled model b before after found more =
     (AreFixed model b × ((after ≡ before) × (more ≡ found ++ values_of model b ∷ []))) ⊎ (IsParted model b before after × (more ≡ found))
 
 -- the box's node puts its boxes behind the stack, and what it records behind the solutions
-pub record IsNode (model : FznModel) (kernels : List Kernel) (b : Bounds) (before after : List Bounds) (found more : List (List ℤ)) : Type 0 where
+pub record IsNode (model : FznModel) (kernels : List Kernel) (round_limit : ℕ) (b : Bounds) (before after : List Bounds) (found more : List (List ℤ)) : Type 0 where
   pub back : List Bounds
   pub recorded : List (List ℤ)
-  pub node : Node model kernels b back recorded
+  pub node : Node model kernels round_limit b back recorded
   pub stack : after ≡ before ++ back
   pub solutions : more ≡ found ++ recorded
 
 -- the box had its node, or was given up and nothing is put or recorded
 abbrev pub IsVisit : FznModel → List Kernel → ℕ → Bounds → List Bounds → List Bounds → List (List ℤ) → List (List ℤ) → Visit → Type 0
-IsVisit model kernels round_limit b before after found more Visit.Done = IsNode model kernels b before after found more
+IsVisit model kernels round_limit b before after found more Visit.Done = IsNode model kernels round_limit b before after found more
 IsVisit model kernels round_limit b before after found more Visit.GivenUp = MayGiveUp kernels round_limit b × (more ≡ found)
 
 -- the last box of a stack was taken, and what of it costs less than the best had its node

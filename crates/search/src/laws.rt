@@ -87,7 +87,7 @@ pub fn law_one_end()
     law_branches();
 }
 
-/// A limit that is great enough stops no search.
+/// A limit that is great enough stops no search, and one of a single round lets no box through that propagation narrows.
 pub fn law_limits()
     ensures { LimitLaws }
 {

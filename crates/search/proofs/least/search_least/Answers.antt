@@ -52,7 +52,7 @@ record_fresh-requires-clause-seat g c = c.seen-lowest.ensures.seat
 pub record_fresh-requires-clause-one : goal.record_fresh-requires-clause-one
 record_fresh-requires-clause-one g c =
     let t = c.in_ok-node.ensures.visit in
-    subst (λ (xs : List (List ℤ)). length xs ≤ 1) (sym c.into_vec.ensures) (at_most_one c.args.run.now.model.now c.args.run.now.program.now.kernels (cut_by Kind.Least c.args.run.now.model.now.goal c.seen-lowest.result t.top) t.rest (boxes_of c.node.new.self) c.node.new.found (of_done c.args.run.now.model.now c.args.run.now.program.now.kernels c.args.run.now.round_limit (cut_by Kind.Least c.args.run.now.model.now.goal c.seen-lowest.result t.top) t.rest (boxes_of c.node.new.self) [] c.node.new.found c.in_ok-node.field-0 c.in-Done.is (subst (λ (xs : List (List ℤ)). IsVisit c.args.run.now.model.now c.args.run.now.program.now.kernels c.args.run.now.round_limit (cut_by Kind.Least c.args.run.now.model.now.goal c.seen-lowest.result t.top) t.rest (boxes_of c.node.new.self) xs c.node.new.found c.in_ok-node.field-0) c.new-fresh.ensures t.visit)))
+    subst (λ (xs : List (List ℤ)). length xs ≤ 1) (sym c.into_vec.ensures) (at_most_one c.args.run.now.model.now c.args.run.now.program.now.kernels c.args.run.now.round_limit (cut_by Kind.Least c.args.run.now.model.now.goal c.seen-lowest.result t.top) t.rest (boxes_of c.node.new.self) c.node.new.found (of_done c.args.run.now.model.now c.args.run.now.program.now.kernels c.args.run.now.round_limit (cut_by Kind.Least c.args.run.now.model.now.goal c.seen-lowest.result t.top) t.rest (boxes_of c.node.new.self) [] c.node.new.found c.in_ok-node.field-0 c.in-Done.is (subst (λ (xs : List (List ℤ)). IsVisit c.args.run.now.model.now c.args.run.now.program.now.kernels c.args.run.now.round_limit (cut_by Kind.Least c.args.run.now.model.now.goal c.seen-lowest.result t.top) t.rest (boxes_of c.node.new.self) xs c.node.new.found c.in_ok-node.field-0) c.new-fresh.ensures t.visit)))
 
 pub record_fresh-requires-clause-objective : goal.record_fresh-requires-clause-objective
 record_fresh-requires-clause-objective g c k d l =

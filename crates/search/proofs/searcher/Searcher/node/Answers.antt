@@ -5,7 +5,7 @@ use Rattle.narrowing.specs.Narrowing.{IsNarrowed}
 use Rattle.search.specs.Nodes.{IsSettled}
 use Rattle.search.specs.Stacks.{boxes_of, IsFrontNear}
 use Rattle.search.proofs.SearcherLaws.{opened, when_open, near_inside}
-use Rattle.search.proofs.NodeLaws.{top_dropped, top_settled, top_given_up}
+use Rattle.search.proofs.NodeLaws.{top_dropped, top_settled, top_given_up, within_rounds}
 use Rattle.search.proofs.searcher.Searcher.node.Goals as goal
 
 pub cut-requires-clause-open : goal.cut-requires-clause-open
@@ -34,5 +34,7 @@ pub returns-in_ok-settle-in-Fixed-clause-visit : goal.returns-in_ok-settle-in-Fi
 returns-in_ok-settle-in-Fixed-clause-visit g c =
     top_settled c.args.run.now.model.now c.args.run.now.program.now.kernels c.args.run.now.round_limit c.args.best (boxes_of c.args.self.now) (left_boxes c.args.self.now.boxes.stack) (boxes_of c.settle.new.self) c.args.self.now.boxes.current c.cut.new.self.boxes.current c.args.found.now c.settle.new.found
     (when_open c.args.self.now.is_open _ (opened c.args.self.now.is_open _ c.requires.next)) c.in_ok-cut.ensures.current c.narrow.new.self.boxes.current (subst (IsNarrowed c.args.run.now.program.now.kernels c.args.run.now.round_limit c.cut.new.self.boxes.current c.narrow.new.self.boxes.current) c.in-Fixed.is c.in_ok-narrow.ensures.narrowed).0
+    (within_rounds c.args.run.now.program.now.kernels c.args.run.now.round_limit c.cut.new.self.boxes.current c.narrow.new.self.boxes.current c.in-Fixed.rounds
+    (subst (IsNarrowed c.args.run.now.program.now.kernels c.args.run.now.round_limit c.cut.new.self.boxes.current c.narrow.new.self.boxes.current) c.in-Fixed.is c.in_ok-narrow.ensures.narrowed))
     (subst (λ (ls : List Left). IsSettled c.args.run.now.model.now c.narrow.new.self.boxes.current (left_boxes ls) (boxes_of c.settle.new.self) c.args.found.now c.settle.new.found) (c.in_ok-narrow.ensures.stack ∙ c.in_ok-cut.ensures.stack)
     c.in_ok-settle-in-Fixed.ensures.settled)

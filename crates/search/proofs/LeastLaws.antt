@@ -389,11 +389,11 @@ module _ (order : InsideOrder) (branches : BranchLaws) (fixed : FixedIsPoint) (s
   unfolding InTurn
   back_none top = record { turn = tt; inside = All-nil (λ c. IsInside c top) }
 
-  back_in_turn : (top seen : Bounds) (back : List Bounds) (recorded : List (List ℤ)) → Here order branches fixed solve s p top → IsInside seen top → Node s.model s.kernels seen back recorded → BackInTurn top back
+  back_in_turn : (top seen : Bounds) (back : List Bounds) (recorded : List (List ℤ)) → Here order branches fixed solve s p top → IsInside seen top → Node s.model s.kernels s.round_limit seen back recorded → BackInTurn top back
   unfolding InTurn
-  back_in_turn top seen back recorded l i (is_dropped _ _ _ _ _ fails none nothing) = subst (BackInTurn top) (sym none) (back_none top)
-  back_in_turn top seen back recorded l i (is_solved _ _ _ _ _ g gr all none one) = subst (BackInTurn top) (sym none) (back_none top)
-  back_in_turn top seen back recorded l i (is_parted _ _ _ _ _ g left right gr br two nothing) =
+  back_in_turn top seen back recorded l i (is_dropped _ _ _ _ _ _ fails none nothing) = subst (BackInTurn top) (sym none) (back_none top)
+  back_in_turn top seen back recorded l i (is_solved _ _ _ _ _ _ g gr _ all none one) = subst (BackInTurn top) (sym none) (back_none top)
+  back_in_turn top seen back recorded l i (is_parted _ _ _ _ _ _ g left right gr _ br two nothing) =
       let k = greatest_lies order branches s p.phases (long_sub s p) p.in_range top seen g l i gr in
       let q = parts_of order branches s p.phases (long_sub s p) p.in_range g left right k gr.closed.proper br in
       let in_top = order.through g seen top gr.inside i in
@@ -417,10 +417,10 @@ module _ (order : InsideOrder) (branches : BranchLaws) (fixed : FixedIsPoint) (s
       subst InTurn (sym st.stack) (turn_append st.top st.rest st.back front.0 back.turn front.1 back.inside)
 
   -- where something is recorded nothing is put back
-  none_back : (seen : Bounds) (back : List Bounds) (recorded : List (List ℤ)) (a : List ℤ) → Node s.model s.kernels seen back recorded → recorded ≡ a ∷ [] → back ≡ []
-  none_back seen back recorded a (is_dropped _ _ _ _ _ fails none nothing) e = none
-  none_back seen back recorded a (is_solved _ _ _ _ _ g gr all none one) e = none
-  none_back seen back recorded a (is_parted _ _ _ _ _ g left right gr br two nothing) e = let q : [] ≡ a ∷ [] = sym nothing ∙ e in absurd cc
+  none_back : (seen : Bounds) (back : List Bounds) (recorded : List (List ℤ)) (a : List ℤ) → Node s.model s.kernels s.round_limit seen back recorded → recorded ≡ a ∷ [] → back ≡ []
+  none_back seen back recorded a (is_dropped _ _ _ _ _ _ fails none nothing) e = none
+  none_back seen back recorded a (is_solved _ _ _ _ _ _ g gr _ all none one) e = none
+  none_back seen back recorded a (is_parted _ _ _ _ _ _ g left right gr _ br two nothing) e = let q : [] ≡ a ∷ [] = sym nothing ∙ e in absurd cc
 
   pub finds_first_in : (state : State) → Reached s state → (a other : List ℤ) (cost more : ℤ) → Contains state.found a → SolvesInside s.model s.sub other → Precedes s.model other a →
       cost_of s.model.goal a ≡ Some cost → cost_of s.model.goal other ≡ Some more → cost <ℤ more
@@ -432,7 +432,7 @@ module _ (order : InsideOrder) (branches : BranchLaws) (fixed : FixedIsPoint) (s
       let l = top_lies order branches s p.phases (long_sub s p) p.in_range before st.rest st.top r st.takes.taken in
       let seen = cut_by Kind.Least s.model.goal st.best st.top in
       let i = cut_inside order branches s p.phases (long_sub s p) p.in_range Kind.Least st.best st.top in
-      let node : Node s.model s.kernels seen st.back st.recorded = subst (λ (k : Kind). Node s.model s.kernels (cut_by k s.model.goal st.best st.top) st.back st.recorded) least st.node in
+      let node : Node s.model s.kernels s.round_limit seen st.back st.recorded = subst (λ (k : Kind). Node s.model s.kernels s.round_limit (cut_by k s.model.goal st.best st.top) st.back st.recorded) least st.node in
       let all = recorded_solve order branches fixed solve s p st.top seen st.back st.recorded l i node in
       let front = turn_front st.rest st.top (subst InTurn st.takes.taken (in_turn before r)) in
       let len_other = fits order branches fixed solve s p s.sub other h in

@@ -48,6 +48,8 @@ fn long_list(kernel: &Kernel) -> Option<(usize, &SharedList<u32>)>
         Kernel::Max { xs, .. } | Kernel::Min { xs, .. } => Some((1, xs)),
         Kernel::Element { entries, .. } => Some((2, entries)),
         Kernel::Clause { lits } => long_list_of_clause(lits),
+        Kernel::AllDiff { xs } => Some((0, xs)),
+        Kernel::Cumulative { starts, .. } => Some((0, starts)),
         _ => None,
     }
 }

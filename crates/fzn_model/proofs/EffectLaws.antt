@@ -64,7 +64,7 @@ adds_constraint : (laws : SetLaws) (vars : List VarDecl) (text : List ℕ) (scop
 adds_constraint laws vars text scope h word args = by (named word)
   where
     by : (o : Option ConstraintName) → not (all_mean text scope args && if_some (λ known. is_some (row_for known (meanings_of text scope args))) o) ≡ false → list_any expr_is_long args ≡ false
-        → list_any has_long_row (elim o [ None ↦ no_effect | Some known ↦ constraint_alone (constraint_on known (meanings_of text scope args)) ]).constraints ≡ false
+        → list_any has_long_row (elim o as (λ _. Effect) [ None ↦ no_effect | Some known ↦ constraint_alone (constraint_on known (meanings_of text scope args)) ]).constraints ≡ false
         → Adds vars (elim o [ None ↦ no_effect | Some known ↦ constraint_alone (constraint_on known (meanings_of text scope args)) ])
     by None w l r = adds_nothing vars
     by (Some known) w l r =

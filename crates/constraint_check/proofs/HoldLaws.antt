@@ -9,14 +9,15 @@ use Rattle.constraint_model.specs.declared.model.Term.{Term}
 use Rattle.constraint_model.specs.declared.model.Operand.{Operand}
 use Rattle.constraint_model.specs.declared.table.ConstraintName.{ConstraintName}
 use Rattle.constraint_model.specs.Ranges.{IsIn}
-use Rattle.constraint_model.specs.Relations.{value, HoldsOn, One2, One3, OneRow, RowOne, Row2, Row2One, OneRowOne, OneSet, Reified, Linear, Differs, IsTrueNumber, IsQuotient, IsRemainder, IsEntry, IsMaximum, IsMinimum, IsConjunction, IsDisjunction, IsClause, dot, quotient}
+use Rattle.constraint_model.specs.Relations.{value, HoldsOn, One2, One3, OneRow, RowOne, Row2, Row2One, OneRowOne, OneSet, OneRowAlone, Row3One, Reified, Linear, Differs, IsTrueNumber, IsQuotient, IsRemainder, IsEntry, IsMaximum, IsMinimum, IsConjunction, IsDisjunction, IsClause, AreAllDifferent, IsCumulative, dot, quotient}
 use Rattle.constraint_check.specs.declared.comparing.Comparison.{Comparison}
 use Rattle.constraint_check.specs.declared.comparing.Operation.{Operation}
 use Rattle.constraint_check.specs.declared.comparing.Extreme.{Extreme}
 use Rattle.constraint_check.specs.declared.comparing.Junction.{Junction}
-use Rattle.constraint_check.specs.Tests.{is_true, same, compares, is_absolute, gives, joined, is_clause, is_extreme, is_entry, is_in, on_two, on_three, on_two_joined, on_row_joined, on_extreme, on_entry, on_set, on_clause, on_sum, on_differing, reified, says, plain_holds, unreified, holds_by, holds_on}
+use Rattle.constraint_check.specs.Tests.{is_true, same, compares, is_absolute, gives, joined, is_clause, is_extreme, is_entry, is_in, on_two, on_three, on_two_joined, on_row_joined, on_extreme, on_entry, on_set, on_clause, on_sum, on_differing, on_all_differ, on_tasks, reified, says, plain_holds, unreified, holds_by, holds_on}
 use Rattle.constraint_check.proofs.SumLaws.{rest_is}
-use Rattle.constraint_check.proofs.TestLaws.{never, untrue, same_decides, le_decides, less_decides, differs_decides, true_decides, any_decides, all_decides, contains_decides, in_decides, entry_decides}
+use Rattle.constraint_check.proofs.TestLaws.{never, untrue, same_decides, le_decides, less_decides, differs_decides, true_decides, any_decides, all_decides, contains_decides, in_decides, entry_decides, differ_decides}
+use Rattle.constraint_check.proofs.TaskLaws.{cumulative_decides}
 
 -- ---- relations of numbers
 
@@ -118,6 +119,14 @@ module _ (a : List ℤ) where
   differing_law (Operand.One x ∷ Operand.One y ∷ Operand.One r ∷ []) = same_decides (is_true (value a r)) _ (true_decides (value a r)) (differs_decides (value a x) (value a y))
   differing_law _ = never
 
+  all_differ_law : (os : List Operand) → Decides (on_all_differ a os) (OneRowAlone AreAllDifferent a os)
+  all_differ_law (Operand.Row xs ∷ []) = differ_decides a xs.terms
+  all_differ_law _ = never
+
+  tasks_law : (os : List Operand) → Decides (on_tasks a os) (Row3One IsCumulative a os)
+  tasks_law (Operand.Row ss ∷ Operand.Row ds ∷ Operand.Row rs ∷ Operand.One b ∷ []) = cumulative_decides (map (value a) ss.terms) (map (value a) ds.terms) (map (value a) rs.terms) (value a b)
+  tasks_law _ = never
+
   reified_law : (f : List Operand → Bool) (H : List Operand → Type 0) → ((os : List Operand) → Decides (f os) (H os)) → (os : List Operand) → Decides (reified f a os) (Reified H a os)
   reified_law f H h [] = never
   reified_law f H h (Operand.One r ∷ []) = same_decides (is_true (value a r)) (f []) (true_decides (value a r)) (h [])
@@ -163,6 +172,8 @@ holds_law ConstraintName.ArrayBoolOr a os = row_joined_law a Junction.Some os
 holds_law ConstraintName.BoolClause a os = clause_law a os
 holds_law ConstraintName.BoolLinLe a os = sum_law a Comparison.AtMost os
 holds_law ConstraintName.BoolLinEq a os = sum_law a Comparison.Equal os
+holds_law ConstraintName.PccpAllDifferent a os = all_differ_law a os
+holds_law ConstraintName.PccpCumulative a os = tasks_law a os
 holds_law ConstraintName.IntEqReif a os = reified_law a (plain_holds ConstraintName.IntEq a) (HoldsOn ConstraintName.IntEq a) (λ rest. two_law a (compares Comparison.Equal) (Compares Comparison.Equal) (compares_decides Comparison.Equal) rest) os
 holds_law ConstraintName.IntNeReif a os = reified_law a (plain_holds ConstraintName.IntNe a) (HoldsOn ConstraintName.IntNe a) (λ rest. two_law a (compares Comparison.Different) (Compares Comparison.Different) (compares_decides Comparison.Different) rest) os
 holds_law ConstraintName.IntLeReif a os = reified_law a (plain_holds ConstraintName.IntLe a) (HoldsOn ConstraintName.IntLe a) (λ rest. two_law a (compares Comparison.AtMost) (Compares Comparison.AtMost) (compares_decides Comparison.AtMost) rest) os

@@ -85,6 +85,11 @@ product_small x y h k = omega (arith, unsigned_abs-mul x y, mul-le-mul h k)
 pub coded_product_small : (x y : ℤ) → IsInProfile x → IsInProfile y → unsigned_abs (to_z w128 (of_z w128 (coded x *ℤ coded y))) ≤ product_limit
 coded_product_small x y h k = subst (λ (z : ℤ). unsigned_abs z ≤ product_limit) (sym (product_is x y (fits_64 x h) (fits_64 y k))) (product_small x y h k)
 
+-- and so is one number
+pub coded_small : (x : ℤ) → IsInProfile x → unsigned_abs (coded x) ≤ product_limit
+unfolding product_limit largest
+coded_small x h = subst (λ (z : ℤ). unsigned_abs z ≤ product_limit) (sym (coded_is x (fits_64 x h))) (omega (arith, h))
+
 -- a sum of so many products is small
 pub sum_small : (z : ℤ) (i n : ℕ) → unsigned_abs z ≤ i * product_limit → i ≤ n → n ≤ most_entries → unsigned_abs z ≤ most_entries * product_limit
 sum_small z i n h k m = let few : i ≤ most_entries = omega arith in omega (arith, mul-le-mul_right product_limit few)

@@ -1,16 +1,19 @@
 -- Tests and the facts that they decide.
-use Rattle.std.proofs.Common.{◌≡◌, ◌↔◌, ◌⊎◌, inl, inr, ℕ, zero, suc, ◌+◌, ◌-◌, ◌<◌, ◌≤◌, ℤ, pos, negsuc, Bool, true, false, not, ◌&&◌, ◌||◌, List, [], ◌∷◌, length, map, refl, sym, ap, subst, ◌∙◌, arith, Option, Some, None}
-use Rattle.std.specs.Prelude.{◌≤ℤ◌, ◌<ℤ◌, ◌≢◌, int_le, unsigned_abs, slice_get, slice_index_or, All, Any, Contains}
+use Rattle.std.proofs.Common.{◌≡◌, ◌↔◌, ◌⊎◌, inl, inr, ℕ, zero, suc, ◌+◌, ◌-◌, ◌<◌, ◌≤◌, ℤ, pos, negsuc, Bool, true, false, not, ◌&&◌, ◌||◌, List, [], ◌∷◌, length, map, drop, get_or, refl, sym, ap, subst, ◌∙◌, arith, Option, Some, None}
+use Rattle.std.specs.Prelude.{◌≤ℤ◌, ◌<ℤ◌, ◌≢◌, int_le, unsigned_abs, slice_get, slice_index_or, All, Any, AllPairs, Contains}
 use Rattle.std.specs.Bool.{Decides}
 use Rattle.std.specs.Option.{option_map_or}
 use Rattle.std.specs.List.{list_any, list_all}
 use Rattle.std.specs.Ordering.{int_eq}
 use Rattle.std.proofs.lemmas.Int.{ints}
 use Rattle.std.proofs.lemmas.Bool.Decides.{Decides-int_eq, Decides-and, Decides-or, Decides-not, Decides-like, Decides-by_and}
+use Rattle.std.proofs.lemmas.List.{drop_more, drop_all, get_or_default}
+use Rattle.std.proofs.lemmas.List.Kept.{AllPairs-cons}
 use Rattle.std.proofs.lemmas.List.Folds.{Any-from_list_any, list_any-from_Any, list_all-map}
 use Rattle.constraint_model.specs.Ranges.{Range, IsIn}
-use Rattle.constraint_model.specs.Relations.{IsTrueNumber, IsEntry, IsMaximum, IsMinimum, IsConjunction, IsDisjunction, IsClause}
-use Rattle.constraint_check.specs.Tests.{is_true, same, is_in}
+use Rattle.constraint_model.specs.declared.model.Term.{Term}
+use Rattle.constraint_model.specs.Relations.{value, IsTrueNumber, IsEntry, IsMaximum, IsMinimum, IsConjunction, IsDisjunction, IsClause}
+use Rattle.constraint_check.specs.Tests.{is_true, same, is_in, all_differ}
 
 pub untrue : {A : Type 0} → false ≡ true → A
 untrue h = cc
@@ -106,3 +109,44 @@ pub entry_decides : {X : Type 0} (v : X → ℤ) (x : ℤ) (xs : List X) (c : �
 entry_decides v x xs c =
     Decides-like _ (to_entry v xs x c) (from_entry v xs x c)
     (Decides-and (int_le (pos 1) x) _ (le_decides (pos 1) x) (at_decides v c xs (unsigned_abs x - 1)))
+
+-- ---- different numbers
+
+-- no later number is the same as the first, and those differ
+abbrev Apart : ℤ → List ℤ → Type 0
+Apart x xs = (Contains xs x → ⊥) × AllPairs (λ y z. y ≢ z) xs
+
+to_pairs : (x : ℤ) (xs : List ℤ) → Apart x xs → AllPairs (λ y z. y ≢ z) (x ∷ xs)
+to_pairs x xs h = AllPairs-cons (λ y z. y ≢ z) x xs (λ i d inside e. h.0 (i, inside, get_or_default xs i x d inside ∙ sym e)) h.1
+
+from_pairs : (x : ℤ) (xs : List ℤ) → AllPairs (λ y z. y ≢ z) (x ∷ xs) → Apart x xs
+from_pairs x xs h = (
+  λ c. h 0 (suc c.0) x (omega arith) (let inside = c.1 in omega arith) (sym c.2),
+  λ i j d less inside. h (suc i) (suc j) d (omega arith) (omega arith),
+)
+
+pub differ_decides : (a : List ℤ) (ts : List Term) → Decides (all_differ a ts) (AllPairs (λ x y. x ≢ y) (map (value a) ts))
+differ_decides a [] = (λ e i j d less inside. absurd (omega arith), λ h. refl)
+differ_decides a (t ∷ ts) =
+    let x : ℤ = value a t in
+    Decides-like _ (to_pairs x (map (value a) ts)) (from_pairs x (map (value a) ts))
+    (Decides-and (not (list_any (λ u. int_eq (value a u) x) ts)) (all_differ a ts) (Decides-not (list_any (λ u. int_eq (value a u) x) ts) (contains_decides (value a) x ts)) (differ_decides a ts))
+
+-- ---- the terms that are left
+
+abbrev later_same : List ℤ → List Term → ℕ → Term → Bool
+later_same a ts i d = list_any (λ u. int_eq (value a u) (value a (get_or ts i d))) (drop (i + 1) ts)
+
+differ_step : (a : List ℤ) (ts : List Term) (i : ℕ) (d : Term) → i < length ts → all_differ a (drop i ts) ≡ (not (later_same a ts i d) && all_differ a (drop (i + 1) ts))
+differ_step a ts i d inside = ap (all_differ a) (drop_more ts i d inside)
+
+pub differ_on : (a : List ℤ) (ts : List Term) (i : ℕ) (d : Term) → i < length ts → later_same a ts i d ≡ false → all_differ a (drop i ts) ≡ all_differ a (drop (i + 1) ts)
+differ_on a ts i d inside e = differ_step a ts i d inside ∙ ap (λ b. not b && all_differ a (drop (i + 1) ts)) e
+
+pub differ_off : (a : List ℤ) (ts : List Term) (i : ℕ) (d : Term) → i < length ts → later_same a ts i d ≡ true → all_differ a (drop i ts) ≡ false
+differ_off a ts i d inside e = differ_step a ts i d inside ∙ ap (λ b. not b && all_differ a (drop (i + 1) ts)) e
+
+pub differ_end : (a : List ℤ) (ts : List Term) (i : ℕ) → length ts ≤ i → all_differ a (drop i ts) ≡ true
+differ_end a ts i h = ap (all_differ a) (drop_all i ts h)
+
+pub ruleset differ_laws = (differ_on, differ_off, differ_end)

@@ -8,11 +8,12 @@ use Rattle.constraint_model.specs.declared.model.Term.{Term}
 use Rattle.constraint_model.specs.declared.model.Operand.{Operand}
 use Rattle.constraint_model.specs.declared.table.ConstraintName.{ConstraintName}
 use Rattle.constraint_model.specs.Ranges.{Range}
-use Rattle.constraint_model.specs.Relations.{value, dot, quotient}
+use Rattle.constraint_model.specs.Relations.{value, dot, quotient, used_at}
 use Rattle.constraint_check.specs.declared.comparing.Comparison.{Comparison}
 use Rattle.constraint_check.specs.declared.comparing.Operation.{Operation}
 use Rattle.constraint_check.specs.declared.comparing.Extreme.{Extreme}
 use Rattle.constraint_check.specs.declared.comparing.Junction.{Junction}
+use Rattle.constraint_check.specs.declared.tasks.Tasks.{Tasks}
 
 -- a boolean is true
 abbrev pub is_true : ℤ → Bool
@@ -73,6 +74,25 @@ is_entry a x terms c = int_le (pos 1) x && option_map_or (λ t. int_eq (value a 
 abbrev pub is_in : ℤ → List Range → Bool
 is_in x ranges = list_any (λ r. int_le r.0 x && int_le x r.1) ranges
 
+-- no two of the terms have the same number
+abbrev pub all_differ : List ℤ → List Term → Bool
+all_differ a [] = true
+all_differ a (t ∷ ts) = not (list_any (λ u. int_eq (value a u) (value a t)) ts) && all_differ a ts
+
+-- what tasks use at a time
+abbrev pub used_by : Tasks → List ℤ → ℤ → ℤ
+used_by tasks a t = used_at (map (value a) tasks.starts.now) (map (value a) tasks.durations.now) (map (value a) tasks.usages.now) t
+
+-- the times at which tasks with these starts and durations begin and end
+abbrev pub changes : List ℤ → List ℤ → List ℤ
+changes (s ∷ ss) (d ∷ ds) = s ∷ (s +ℤ d) ∷ changes ss ds
+changes _ _ = []
+
+-- what they use is within the limit wherever it changes, and where they use nothing
+abbrev pub is_cumulative : List ℤ → List ℤ → List ℤ → ℤ → Bool
+is_cumulative starts durations usages limit =
+    int_le (pos 0) limit && list_all (λ t. int_le (used_at starts durations usages t) limit) (changes starts durations)
+
 -- ---- the shapes of arguments
 
 abbrev pub on_two : (ℤ → ℤ → Bool) → List ℤ → List Operand → Bool
@@ -107,6 +127,15 @@ on_set a _ = false
 abbrev pub on_clause : List ℤ → List Operand → Bool
 on_clause a (Operand.Row ps ∷ Operand.Row ns ∷ []) = is_clause a ps.terms ns.terms
 on_clause a _ = false
+
+abbrev pub on_all_differ : List ℤ → List Operand → Bool
+on_all_differ a (Operand.Row xs ∷ []) = all_differ a xs.terms
+on_all_differ a _ = false
+
+abbrev pub on_tasks : List ℤ → List Operand → Bool
+on_tasks a (Operand.Row ss ∷ Operand.Row ds ∷ Operand.Row rs ∷ Operand.One limit ∷ []) =
+    is_cumulative (map (value a) ss.terms) (map (value a) ds.terms) (map (value a) rs.terms) (value a limit)
+on_tasks a _ = false
 
 -- the sum of the products of coefficients and numbers compares so with a third argument
 abbrev pub sum_compares : Comparison → List ℤ → List Term → List Term → Term → Bool
@@ -171,6 +200,8 @@ plain_holds ConstraintName.ArrayBoolOr a operands = on_row_joined Junction.Some 
 plain_holds ConstraintName.BoolClause a operands = on_clause a operands
 plain_holds ConstraintName.BoolLinLe a operands = on_sum Comparison.AtMost a operands
 plain_holds ConstraintName.BoolLinEq a operands = on_sum Comparison.Equal a operands
+plain_holds ConstraintName.PccpAllDifferent a operands = on_all_differ a operands
+plain_holds ConstraintName.PccpCumulative a operands = on_tasks a operands
 plain_holds _ a operands = false
 
 -- the constraint that is reified

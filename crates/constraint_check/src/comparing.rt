@@ -99,7 +99,7 @@ pub(crate) fn is_absolute(x: i64, y: i64) -> bool
 }
 
 /// The sum of two numbers.
-fn sum_of_two(x: i64, y: i64) -> i128
+pub(crate) fn sum_of_two(x: i64, y: i64) -> i128
     ensures { result ≡ x +ℤ y }
 {
     x as i128 + y as i128

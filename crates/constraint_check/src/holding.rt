@@ -9,8 +9,8 @@ ghost use Rattle.constraint_check.specs.Tests.{holds_on, plain_holds, reified, u
 
 use crate::comparing::{Comparison, Extreme, Junction, Operation};
 use crate::shapes::{
-    absolute, clause, differing, entry, extreme, member, row_joined, says, sum, three, two,
-    two_joined,
+    absolute, clause, differ, differing, entry, extreme, member, resource, row_joined, says, sum,
+    three, two, two_joined,
 };
 use constraint_model::{Constraint, ConstraintName as Name, FznModel, Operand};
 
@@ -49,6 +49,8 @@ fn plain_passes(name: Name, operands: &[Operand], solution: &[i64]) -> bool
         Name::ArrayBoolAnd => row_joined(Junction::All, operands, solution),
         Name::ArrayBoolOr => row_joined(Junction::Some, operands, solution),
         Name::BoolClause => clause(operands, solution),
+        Name::PccpAllDifferent => differ(operands, solution),
+        Name::PccpCumulative => resource(operands, solution),
         _ => false,
     }
 }

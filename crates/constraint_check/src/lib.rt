@@ -5,6 +5,7 @@ mod comparing;
 mod holding;
 mod rows;
 mod shapes;
+mod tasks;
 mod values;
 
 pub use holding::{holds, holds_now};

@@ -4,7 +4,7 @@ ghost use Rattle.std.specs.Prelude.{◌≡◌, not, int_le};
 ghost use Rattle.std.specs.List.{list_all, list_any};
 ghost use Rattle.std.specs.Ordering.{int_eq};
 ghost use Rattle.constraint_model.specs.Relations.{value};
-ghost use Rattle.constraint_check.specs.Tests.{all_true, is_clause, is_entry, is_extreme, is_in, is_true, joined, some_true};
+ghost use Rattle.constraint_check.specs.Tests.{all_differ, all_true, is_clause, is_entry, is_extreme, is_in, is_true, joined, some_true};
 
 use crate::comparing::{Extreme, Junction, is_true};
 use crate::values::value_of;
@@ -59,6 +59,20 @@ fn has_number(terms: &[Term], number: i64, solution: &[i64]) -> bool
     ensures { result ≡ list_any (λ t. int_eq (value solution.now t) number) terms.now }
 {
     terms.iter().any(|term| value_of(*term, solution) == number)
+}
+
+/// Whether no two of the terms have the same number.
+#[tactic(auto, using(crate::proofs::TestLaws::differ_laws))]
+pub(crate) fn all_differ(terms: &[Term], solution: &[i64]) -> bool
+    ensures { result ≡ all_differ solution.now terms.now }
+{
+    for (place, term) in terms.iter().enumerate() {
+        let (_, later) = terms.split_at(place + 1);
+        if has_number(later, value_of(*term, solution), solution) {
+            return false;
+        }
+    }
+    true
 }
 
 /// Whether none of the terms is greater than this number.

@@ -4,13 +4,14 @@ ghost use Rattle.std.specs.Prelude.{◌≡◌, All};
 ghost use Rattle.constraint_model.specs.Numbers.{IsInProfile};
 ghost use Rattle.constraint_model.specs.Relations.{value};
 ghost use Rattle.constraint_check.specs.Asked.{IsSmall, IsSmallRow};
-ghost use Rattle.constraint_check.specs.Tests.{compares, gives, is_absolute, is_true, on_clause, on_differing, on_entry, on_extreme, on_row_joined, on_set, on_sum, on_three, on_two, on_two_joined, says, sum_compares};
+ghost use Rattle.constraint_check.specs.Tests.{compares, gives, is_absolute, is_true, on_all_differ, on_clause, on_differing, on_entry, on_extreme, on_row_joined, on_set, on_sum, on_tasks, on_three, on_two, on_two_joined, says, sum_compares};
 
 use crate::comparing::{
     Comparison, Extreme, Junction, Operation, compares, compares_sum, gives, is_absolute, is_true,
     same,
 };
-use crate::rows::{are_joined, is_clause, is_entry, is_extreme, is_in};
+use crate::rows::{all_differ, are_joined, is_clause, is_entry, is_extreme, is_in};
+use crate::tasks::{Tasks, is_cumulative};
 use crate::values::{sum_of, value_of};
 use constraint_model::{Operand, Term};
 
@@ -123,6 +124,41 @@ pub(crate) fn member(operands: &[Operand], solution: &[i64]) -> bool
     match operands {
         [Operand::One(x), Operand::Set(ranges)] => {
             is_in(value_of(*x, solution), ranges.as_slice())
+        }
+        _ => false,
+    }
+}
+
+/// No two numbers of an array are the same.
+pub(crate) fn differ(operands: &[Operand], solution: &[i64]) -> bool
+    ensures { result ≡ on_all_differ solution.now operands.now }
+{
+    match operands {
+        [Operand::Row(row)] => all_differ(row.terms.as_slice(), solution),
+        _ => false,
+    }
+}
+
+/// Tasks use no more than a limit at any time.
+pub(crate) fn resource(operands: &[Operand], solution: &[i64]) -> bool
+    requires numbers { All IsInProfile solution.now }
+    requires small { All IsSmall operands.now }
+    ensures { result ≡ on_tasks solution.now operands.now }
+{
+    match operands {
+        [
+            Operand::Row(starts),
+            Operand::Row(durations),
+            Operand::Row(usages),
+            Operand::One(limit),
+        ] => {
+            let tasks = Tasks {
+                starts: starts.terms.as_slice(),
+                durations: durations.terms.as_slice(),
+                usages: usages.terms.as_slice(),
+                limit: value_of(*limit, solution),
+            };
+            is_cumulative(&tasks, solution)
         }
         _ => false,
     }

@@ -31,7 +31,7 @@ fn product_of(coefficient: Term, term: Term, solution: &[i64]) -> i128
 
 /// The sum with one more product.
 #[tactic(auto, unfolding(crate::specs::Asked::product_limit))]
-fn sum_with(sum: i128, product: i128) -> i128
+pub(crate) fn sum_with(sum: i128, product: i128) -> i128
     requires sum { unsigned_abs sum ≤ most_entries * product_limit }
     requires product { unsigned_abs product ≤ product_limit }
     ensures { result ≡ sum +ℤ product }

@@ -52,3 +52,5 @@ names_found ConstraintName.BoolClause = refl
 names_found ConstraintName.BoolClauseReif = refl
 names_found ConstraintName.BoolLinLe = refl
 names_found ConstraintName.BoolLinEq = refl
+names_found ConstraintName.PccpAllDifferent = refl
+names_found ConstraintName.PccpCumulative = refl

@@ -1,5 +1,5 @@
 -- Which arguments a constraint takes, and what stands at them.
-use Rattle.std.specs.Prelude.{◌≡◌, ℕ, ◌+◌, ℤ, pos, List, [], ◌∷◌, ◌++◌, length, take, map, Bool, true, false, ◌&&◌, cond, nat_eq, flat_map, find, Option, Some, unwrap_or, if◌then◌else◌, bytes_eq}
+use Rattle.std.specs.Prelude.{◌≡◌, ℕ, ◌+◌, ℤ, pos, List, [], ◌∷◌, ◌++◌, length, take, map, Bool, true, false, ◌&&◌, cond, nat_eq, nat_lt, flat_map, find, Option, Some, unwrap_or, if◌then◌else◌, bytes_eq}
 use Rattle.std.specs.List.{list_all, list_any}
 use Rattle.std.specs.Ordering.{int_eq}
 use Rattle.constraint_model.specs.declared.model.Term.{Term}
@@ -9,8 +9,9 @@ use Rattle.constraint_model.specs.declared.model.Goal.{Goal}
 use Rattle.constraint_model.specs.declared.meanings.Meaning.{Meaning}
 use Rattle.constraint_model.specs.declared.table.ConstraintName.{ConstraintName}
 use Rattle.constraint_model.specs.declared.table.Letter.{Letter}
+use Rattle.constraint_model.specs.Limits.{most_places}
 use Rattle.constraint_model.specs.Table.{names, spelled, signatures}
-pub use Rattle.constraint_model.specs.Kinds.{is_constant, is_integer, is_boolean}
+pub use Rattle.constraint_model.specs.Kinds.{is_constant, is_integer, is_boolean, is_amount}
 
 -- the constraint of this name, where it is known
 unfoldable pub named : List ℕ → Option ConstraintName
@@ -27,6 +28,8 @@ fits Letter.Booleans (Meaning.Row array) = list_all is_boolean array.entries
 fits Letter.Coefficients (Meaning.Row array) = list_all is_integer array.entries && list_all is_constant array.entries
 fits Letter.Numbers (Meaning.Row array) = list_all is_integer array.entries && list_all is_constant array.entries
 fits Letter.Truths (Meaning.Row array) = list_all is_boolean array.entries && list_all is_constant array.entries
+fits Letter.Amount (Meaning.One s) = is_amount s
+fits Letter.Amounts (Meaning.Row array) = list_all is_amount array.entries
 fits _ _ = false
 
 -- each argument fits its letter, and there is one for each
@@ -35,9 +38,11 @@ all_fit [] [] = true
 all_fit (l ∷ ls) (m ∷ ms) = fits l m && all_fit ls ms
 all_fit _ _ = false
 
--- a linear constraint has as many coefficients as variables
+-- a linear constraint has as many coefficients as variables, and tasks have a duration and a usage for each start
 abbrev pub has_equal_lengths : List Letter → List Meaning → Bool
 has_equal_lengths (Letter.Coefficients ∷ ls) (Meaning.Row coefficients ∷ Meaning.Row variables ∷ ms) = nat_eq (length coefficients.entries) (length variables.entries)
+has_equal_lengths (Letter.Integers ∷ Letter.Amounts ∷ Letter.Amounts ∷ ls) (Meaning.Row starts ∷ Meaning.Row durations ∷ Meaning.Row usages ∷ ms) =
+    nat_eq (length starts.entries) (length durations.entries) && nat_eq (length starts.entries) (length usages.entries)
 has_equal_lengths _ _ = true
 
 abbrev pub fits_row : List Meaning → List Letter → Bool
@@ -61,6 +66,8 @@ abbrev pub takes_variables : Letter → Bool
 takes_variables Letter.Constant = false
 takes_variables Letter.Set = false
 takes_variables Letter.Coefficients = false
+takes_variables Letter.Amount = false
+takes_variables Letter.Amounts = false
 takes_variables _ = true
 
 -- the number of a term, where it is one other than 1; the constant 1 needs no place of its own
@@ -110,6 +117,15 @@ kernels_of c = count c.name c.operands
     count ConstraintName.ArrayBoolOr (Operand.Row row ∷ _) = length row.terms + 1
     count ConstraintName.BoolClauseReif (Operand.Row positive ∷ Operand.Row negative ∷ _) = length positive.terms + length negative.terms + 1
     count _ _ = 1
+
+-- a list that may have few places only has too many: that of the variables that have to differ, or of the starts of tasks
+abbrev pub has_long_row : Constraint → Bool
+has_long_row c = is_long c.name c.operands
+  where
+    is_long : ConstraintName → List Operand → Bool
+    is_long ConstraintName.PccpAllDifferent (Operand.Row row ∷ _) = nat_lt most_places (length row.terms)
+    is_long ConstraintName.PccpCumulative (Operand.Row row ∷ _) = nat_lt most_places (length row.terms)
+    is_long _ _ = false
 
 -- each name is found by its spelling
 abbrev pub NamesAreFound : Type 0

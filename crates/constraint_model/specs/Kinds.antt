@@ -1,5 +1,5 @@
 -- What the entries of an array are alike in.
-use Rattle.std.specs.Prelude.{List, Bool, true, false, not}
+use Rattle.std.specs.Prelude.{pos, List, Bool, true, false, not, ◌&&◌, int_le}
 use Rattle.std.specs.List.{list_all}
 use Rattle.constraint_model.specs.declared.model.Term.{Term}
 use Rattle.constraint_model.specs.declared.meanings.Scalar.{Scalar}
@@ -18,6 +18,14 @@ is_integer s = not s.is_bool
 abbrev pub is_boolean : Scalar → Bool
 is_boolean s = s.is_bool
 
+-- an integer constant that isn't negative
+abbrev pub is_amount : Scalar → Bool
+is_amount s = is_integer s && is_natural s.term
+  where
+    is_natural : Term → Bool
+    is_natural (Term.Number n) = int_le (pos 0) n
+    is_natural (Term.Var v) = false
+
 -- what each of these entries is
 abbrev pub kinds_of : List Scalar → Kinds
 kinds_of entries =
@@ -25,4 +33,5 @@ kinds_of entries =
       all_integers = list_all is_integer entries;
       all_booleans = list_all is_boolean entries;
       all_constants = list_all is_constant entries;
+      all_amounts = list_all is_amount entries;
     }

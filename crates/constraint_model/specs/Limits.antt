@@ -20,3 +20,7 @@ most_kernels = 1048576
 -- the most distinct numbers other than 1 that stand where variables may
 abbrev pub most_constants : ℕ
 most_constants = 131072
+
+-- the most variables that are told apart at once, and the most tasks of a resource
+abbrev pub most_places : ℕ
+most_places = 256

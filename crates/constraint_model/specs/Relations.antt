@@ -1,6 +1,6 @@
 -- What the constraints hold of an assignment, and which assignments are solutions.
 -- (MiniZinc Handbook: FlatZinc builtins.) One line for each constraint.
-use Rattle.std.specs.Prelude.{◌≡◌, ◌≢◌, ◌⊎◌, ◌↔◌, ℕ, ◌+◌, ◌<◌, ℤ, pos, neg_ℤ, unsigned_abs, int_div, ◌+ℤ◌, ◌-ℤ◌, ◌*ℤ◌, ◌≤ℤ◌, ◌<ℤ◌, List, [], ◌∷◌, length, map, All, Any, Contains, slice_index_or, Option, Some, None}
+use Rattle.std.specs.Prelude.{◌≡◌, ◌≢◌, ◌⊎◌, ◌↔◌, ℕ, ◌+◌, ◌<◌, ℤ, pos, neg_ℤ, unsigned_abs, int_div, ◌+ℤ◌, ◌-ℤ◌, ◌*ℤ◌, ◌≤ℤ◌, ◌<ℤ◌, List, [], ◌∷◌, length, map, All, Any, AllPairs, Contains, slice_index_or, Option, Some, None, Bool, ◌&&◌, cond, int_le, int_lt}
 use Rattle.std.specs.Int.{int_min, int_max}
 use Rattle.constraint_model.specs.declared.model.Term.{Term}
 use Rattle.constraint_model.specs.declared.model.Operand.{Operand}
@@ -53,6 +53,15 @@ OneRowOne R a _ = ⊥
 abbrev pub OneSet : (ℤ → List Range → Type 0) → List ℤ → List Operand → Type 0
 OneSet R a (Operand.One x ∷ Operand.Set s ∷ []) = R (value a x) s
 OneSet R a _ = ⊥
+
+abbrev pub OneRowAlone : (List ℤ → Type 0) → List ℤ → List Operand → Type 0
+OneRowAlone R a (Operand.Row xs ∷ []) = R (map (value a) xs.terms)
+OneRowAlone R a _ = ⊥
+
+abbrev pub Row3One : (List ℤ → List ℤ → List ℤ → ℤ → Type 0) → List ℤ → List Operand → Type 0
+Row3One R a (Operand.Row xs ∷ Operand.Row ys ∷ Operand.Row zs ∷ Operand.One c ∷ []) =
+    R (map (value a) xs.terms) (map (value a) ys.terms) (map (value a) zs.terms) (value a c)
+Row3One R a _ = ⊥
 
 -- behind the arguments of a constraint stands a boolean, which is true exactly where the constraint holds
 abbrev pub Reified : (List Operand → Type 0) → List ℤ → List Operand → Type 0
@@ -112,6 +121,23 @@ Differs a (Operand.One x ∷ Operand.One y ∷ []) = value a x ≢ value a y
 Differs a (Operand.One x ∷ Operand.One y ∷ Operand.One r ∷ []) = IsTrueNumber (value a r) ↔ (value a x ≢ value a y)
 Differs a _ = ⊥
 
+-- no two places have the same number
+abbrev pub AreAllDifferent : List ℤ → Type 0
+AreAllDifferent xs = AllPairs (λ x y. x ≢ y) xs
+
+-- a task with this start and this duration is under way at a time
+abbrev pub is_under_way : ℤ → ℤ → ℤ → Bool
+is_under_way start duration t = int_le start t && int_lt t (start +ℤ duration)
+
+-- what the tasks with these starts, durations and usages use at a time
+abbrev pub used_at : List ℤ → List ℤ → List ℤ → ℤ → ℤ
+used_at (s ∷ ss) (d ∷ ds) (r ∷ rs) t = cond (is_under_way s d t) r (pos 0) +ℤ used_at ss ds rs t
+used_at _ _ _ t = pos 0
+
+-- at no whole time they use more than the limit
+abbrev pub IsCumulative : List ℤ → List ℤ → List ℤ → ℤ → Type 0
+IsCumulative starts durations usages limit = (t : ℤ) → used_at starts durations usages t ≤ℤ limit
+
 -- the constraint of this name holds of its arguments under an assignment
 unfoldable pub HoldsOn : ConstraintName → List ℤ → List Operand → Type 0
 HoldsOn ConstraintName.IntEq a = One2 (λ x y. x ≡ y) a
@@ -160,6 +186,8 @@ HoldsOn ConstraintName.BoolClause a = Row2 IsClause a
 HoldsOn ConstraintName.BoolClauseReif a = Reified (Row2 IsClause a) a
 HoldsOn ConstraintName.BoolLinLe a = Linear (λ s c. s ≤ℤ c) a
 HoldsOn ConstraintName.BoolLinEq a = Linear (λ s c. s ≡ c) a
+HoldsOn ConstraintName.PccpAllDifferent a = OneRowAlone AreAllDifferent a
+HoldsOn ConstraintName.PccpCumulative a = Row3One IsCumulative a
 
 abbrev pub Holds : Constraint → List ℤ → Type 0
 Holds c a = HoldsOn c.name a c.operands

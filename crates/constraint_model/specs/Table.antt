@@ -18,7 +18,7 @@ names =
     ∷ ConstraintName.BoolEq ∷ ConstraintName.BoolLe ∷ ConstraintName.BoolLt ∷ ConstraintName.BoolEqReif
     ∷ ConstraintName.BoolLeReif ∷ ConstraintName.BoolLtReif ∷ ConstraintName.BoolNot ∷ ConstraintName.BoolXor
     ∷ ConstraintName.BoolAnd ∷ ConstraintName.BoolOr ∷ ConstraintName.ArrayBoolAnd ∷ ConstraintName.ArrayBoolOr
-    ∷ ConstraintName.BoolClause ∷ ConstraintName.BoolClauseReif ∷ ConstraintName.BoolLinLe ∷ ConstraintName.BoolLinEq ∷ []
+    ∷ ConstraintName.BoolClause ∷ ConstraintName.BoolClauseReif ∷ ConstraintName.BoolLinLe ∷ ConstraintName.BoolLinEq ∷ ConstraintName.PccpAllDifferent ∷ ConstraintName.PccpCumulative ∷ []
 
 -- how a name is spelled
 abbrev pub spelled : ConstraintName → List ℕ
@@ -68,6 +68,8 @@ spelled ConstraintName.BoolClause = codes "bool_clause"
 spelled ConstraintName.BoolClauseReif = codes "bool_clause_reif"
 spelled ConstraintName.BoolLinLe = codes "bool_lin_le"
 spelled ConstraintName.BoolLinEq = codes "bool_lin_eq"
+spelled ConstraintName.PccpAllDifferent = codes "pccp_all_different"
+spelled ConstraintName.PccpCumulative = codes "pccp_cumulative"
 
 -- what the arguments have to be. A name that may be called in two ways has two lists
 abbrev pub signatures : ConstraintName → List (List Letter)
@@ -117,3 +119,5 @@ signatures ConstraintName.BoolClause = (Letter.Booleans ∷ Letter.Booleans ∷ 
 signatures ConstraintName.BoolClauseReif = (Letter.Booleans ∷ Letter.Booleans ∷ Letter.Boolean ∷ []) ∷ []
 signatures ConstraintName.BoolLinLe = (Letter.Coefficients ∷ Letter.Booleans ∷ Letter.Constant ∷ []) ∷ []
 signatures ConstraintName.BoolLinEq = (Letter.Coefficients ∷ Letter.Booleans ∷ Letter.Integer ∷ []) ∷ []
+signatures ConstraintName.PccpAllDifferent = (Letter.Integers ∷ []) ∷ []
+signatures ConstraintName.PccpCumulative = (Letter.Integers ∷ Letter.Amounts ∷ Letter.Amounts ∷ Letter.Amount ∷ []) ∷ []

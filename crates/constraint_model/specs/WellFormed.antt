@@ -13,7 +13,7 @@ use Rattle.constraint_model.specs.declared.meanings.Meaning.{Meaning}
 use Rattle.constraint_model.specs.Numbers.{IsInProfile}
 use Rattle.constraint_model.specs.Arrays.{HaveNumbers}
 use Rattle.constraint_model.specs.Ranges.{Range, AreApart}
-use Rattle.constraint_model.specs.Fits.{row_for, constraint_on, constants_in, goal_constants, add_once, kernels_of}
+use Rattle.constraint_model.specs.Fits.{row_for, constraint_on, constants_in, goal_constants, add_once, kernels_of, has_long_row}
 use Rattle.constraint_model.specs.Searches.{IsSearchOf}
 use Rattle.constraint_model.specs.Limits.{most_vars, most_entries, most_index_sets, most_kernels, most_constants}
 
@@ -43,12 +43,13 @@ IsMeaningOf vars (Meaning.Row array) = (length array.entries ≤ most_entries) �
 IsMeaningOf vars (Meaning.Set ranges) =
     (length ranges ≤ most_entries) × AreApart ranges × All (λ (r : Range). IsInProfile r.0 × IsInProfile r.1) ranges
 
--- a constraint on arguments that fit a way in which it may be called
+-- a constraint on arguments that fit a way in which it may be called; its lists aren't too long
 pub record IsConstraintOf (vars : List VarDecl) (c : Constraint) : Type 0 where
   pub meanings : List Meaning
   pub is_on : c ≡ constraint_on c.name meanings
   pub fits : IsSome (row_for c.name meanings)
   pub each : All (IsMeaningOf vars) meanings
+  pub short : has_long_row c ≡ false
 
 -- an objective is an integer
 abbrev pub IsGoalOf : List VarDecl → Goal → Type 0

@@ -3,7 +3,7 @@
 ghost use Rattle.std.specs.Prelude.{◌≡◌, length, map, IfOk};
 ghost use Rattle.std.specs.List.{list_all};
 ghost use Rattle.constraint_model.specs.Entries.{variables_in};
-ghost use Rattle.constraint_model.specs.Kinds.{is_constant, is_integer, is_boolean};
+ghost use Rattle.constraint_model.specs.Kinds.{is_amount, is_constant, is_integer, is_boolean};
 
 use crate::kinds::Kinds;
 use crate::meanings::Scalar;
@@ -114,6 +114,13 @@ impl Entries {
         ensures { result ≡ list_all is_constant self.now }
     {
         self.kinds.all_constants
+    }
+
+    /// Whether each is an integer constant that isn't negative.
+    pub(crate) fn are_amounts(&self) -> bool
+        ensures { result ≡ list_all is_amount self.now }
+    {
+        self.kinds.all_amounts
     }
 
     /// Their terms for another owner. Of a long array none is copied.

@@ -1,14 +1,18 @@
-//! What a constraint counts for: its propagators, and the constants that it needs places for.
+//! What a constraint counts for: its propagators, and the constants that it needs places for; and whether its lists are too
+//! long.
 
 ghost use Rattle.std.specs.Prelude.{◌≡◌, ◌≤◌, length, OnOk, OnErr, fold, flat_map, cond, []};
 ghost use Rattle.std.specs.List.{All};
 ghost use Rattle.constraint_model.specs.Arrays.{IsNumbered, HasNumber};
-ghost use Rattle.constraint_model.specs.Fits.{IsFront, add_once, constants_in, constant_of, constants_of_operand, takes_variables, letters_of, constants_at, kernels_of};
+ghost use Rattle.constraint_model.specs.Fits.{IsFront, add_once, constants_in, constant_of, constants_of_operand, takes_variables, letters_of, constants_at, kernels_of, has_long_row};
 
 use crate::constant_set::Constants;
 use crate::model::{ArrayTerms, Constraint, Operand, Term};
 use crate::table::{ConstraintName, Letter};
 use std::alloc::AllocError;
+
+/// The most variables that are told apart at once, and the most tasks of a resource.
+const MOST_PLACES: usize = 256;
 
 /// How many propagators a constraint is run as.
 #[tactic(auto, unfolding(crate::specs::Fits::kernels_of))]
@@ -33,13 +37,29 @@ pub fn kernel_count(constraint: &Constraint) -> u64
     }
 }
 
+/// Whether a list that may have few places only has too many: that of the variables that have to differ, or of the starts of
+/// tasks.
+pub fn has_long_row(constraint: &Constraint) -> bool
+    ensures { result ≡ has_long_row constraint.now }
+{
+    match constraint.name {
+        ConstraintName::PccpAllDifferent | ConstraintName::PccpCumulative => {
+            match constraint.operands.as_slice() {
+                [Operand::Row(row), ..] => row.terms.as_slice().len() > MOST_PLACES,
+                _ => false,
+            }
+        }
+        _ => false,
+    }
+}
+
 /// Whether a variable may stand at such an argument, or at each entry of it.
 fn takes_variables(letter: Letter) -> bool
     ensures { result ≡ takes_variables letter }
 {
     !matches!(
         letter,
-        Letter::Constant | Letter::Set | Letter::Coefficients
+        Letter::Constant | Letter::Set | Letter::Coefficients | Letter::Amount | Letter::Amounts
     )
 }
 

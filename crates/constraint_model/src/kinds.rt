@@ -2,7 +2,7 @@
 
 ghost use Rattle.std.specs.Prelude.{◌≡◌};
 ghost use Rattle.std.specs.List.{list_all};
-ghost use Rattle.constraint_model.specs.Kinds.{is_constant, is_integer, is_boolean, kinds_of};
+ghost use Rattle.constraint_model.specs.Kinds.{is_amount, is_constant, is_integer, is_boolean, kinds_of};
 
 use crate::meanings::Scalar;
 use crate::model::Term;
@@ -16,6 +16,8 @@ pub(crate) struct Kinds {
     pub(crate) all_booleans: bool,
     /// Whether each is a constant.
     pub(crate) all_constants: bool,
+    /// Whether each is an integer constant that isn't negative.
+    pub(crate) all_amounts: bool,
 }
 
 /// Whether it is a constant.
@@ -23,6 +25,16 @@ pub(crate) fn is_constant(scalar: Scalar) -> bool
     ensures { result ≡ is_constant scalar }
 {
     matches!(scalar.term, Term::Number(_))
+}
+
+/// Whether it is an integer constant that isn't negative.
+pub(crate) fn is_amount(scalar: Scalar) -> bool
+    ensures { result ≡ is_amount scalar }
+{
+    match scalar.term {
+        Term::Number(number) => !scalar.is_bool && number >= 0,
+        Term::Var(_) => false,
+    }
 }
 
 fn are_integers(entries: &[Scalar]) -> bool
@@ -43,6 +55,12 @@ fn are_constants(entries: &[Scalar]) -> bool
     entries.iter().all(|entry| is_constant(*entry))
 }
 
+fn are_amounts(entries: &[Scalar]) -> bool
+    ensures { result ≡ list_all is_amount entries.now }
+{
+    entries.iter().all(|entry| is_amount(*entry))
+}
+
 impl Kinds {
     /// What each of these entries is.
     pub(crate) fn of(entries: &[Scalar]) -> Kinds
@@ -52,6 +70,7 @@ impl Kinds {
             all_integers: are_integers(entries),
             all_booleans: are_booleans(entries),
             all_constants: are_constants(entries),
+            all_amounts: are_amounts(entries),
         }
     }
 }

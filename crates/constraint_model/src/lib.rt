@@ -14,7 +14,7 @@ pub mod table;
 
 pub use constant_set::Constants;
 pub use entries::Entries;
-pub use kernels::{add_constant, add_constants, kernel_count};
+pub use kernels::{add_constant, add_constants, has_long_row, kernel_count};
 pub use meanings::{Array, Meaning, Scalar};
 pub use model::{
     ArrayTerms, Constraint, FznModel, Goal, Operand, Output, Phase, Term, ValSel, VarDecl, VarSel,

@@ -1,10 +1,10 @@
 //! The constraints that are known, by name.
 
-ghost use Rattle.std.specs.Prelude.{◌≡◌, map, find, bytes_eq, MatchOption, None, Some, is_some};
+ghost use Rattle.std.specs.Prelude.{◌≡◌, ◌&&◌, map, find, bytes_eq, nat_eq, length, MatchOption, None, Some, is_some};
 ghost use Rattle.constraint_model.specs.Table.{spelled, signatures};
 ghost use Rattle.constraint_model.specs.Fits.{named, fits, all_fit, has_equal_lengths, fits_row, row_for, NamesAreFound, LettersAreThose};
 
-use crate::kinds::is_constant;
+use crate::kinds::{is_amount, is_constant};
 use crate::meanings::{Array, Meaning, Scalar};
 
 /// The name of a constraint of FlatZinc.
@@ -102,6 +102,10 @@ pub enum ConstraintName {
     BoolLinLe,
     /// `bool_lin_eq`
     BoolLinEq,
+    /// `pccp_all_different`
+    PccpAllDifferent,
+    /// `pccp_cumulative`
+    PccpCumulative,
 }
 
 /// What an argument of a constraint has to be.
@@ -125,10 +129,14 @@ pub enum Letter {
     Numbers,
     /// An array of boolean constants, each of which stands where a variable may.
     Truths,
+    /// An integer constant that isn't negative.
+    Amount,
+    /// An array of integer constants none of which is negative.
+    Amounts,
 }
 
 /// Every name, in the order of the table.
-pub(crate) const NAMES: [ConstraintName; 46] = [
+pub(crate) const NAMES: [ConstraintName; 48] = [
     ConstraintName::IntEq,
     ConstraintName::IntNe,
     ConstraintName::IntLe,
@@ -175,6 +183,8 @@ pub(crate) const NAMES: [ConstraintName; 46] = [
     ConstraintName::BoolClauseReif,
     ConstraintName::BoolLinLe,
     ConstraintName::BoolLinEq,
+    ConstraintName::PccpAllDifferent,
+    ConstraintName::PccpCumulative,
 ];
 
 /// The first of these names that is spelled so.
@@ -242,6 +252,8 @@ impl ConstraintName {
             Self::BoolClauseReif => "bool_clause_reif",
             Self::BoolLinLe => "bool_lin_le",
             Self::BoolLinEq => "bool_lin_eq",
+            Self::PccpAllDifferent => "pccp_all_different",
+            Self::PccpCumulative => "pccp_cumulative",
         }
     }
 
@@ -310,6 +322,13 @@ impl ConstraintName {
             Self::BoolClauseReif => &[&[Letter::Booleans, Letter::Booleans, Letter::Boolean]],
             Self::BoolLinLe => &[&[Letter::Coefficients, Letter::Booleans, Letter::Constant]],
             Self::BoolLinEq => &[&[Letter::Coefficients, Letter::Booleans, Letter::Integer]],
+            Self::PccpAllDifferent => &[&[Letter::Integers]],
+            Self::PccpCumulative => &[&[
+                Letter::Integers,
+                Letter::Amounts,
+                Letter::Amounts,
+                Letter::Amount,
+            ]],
         }
     }
 }
@@ -322,6 +341,7 @@ fn scalar_fits(letter: Letter, scalar: Scalar) -> bool
         Letter::Integer => !scalar.is_bool,
         Letter::Boolean => scalar.is_bool,
         Letter::Constant => !scalar.is_bool && is_constant(scalar),
+        Letter::Amount => is_amount(scalar),
         _ => false,
     }
 }
@@ -336,6 +356,7 @@ fn row_fits(letter: Letter, array: &Array) -> bool
         Letter::Booleans => entries.are_booleans(),
         Letter::Coefficients | Letter::Numbers => entries.are_integers() && entries.are_constants(),
         Letter::Truths => entries.are_booleans() && entries.are_constants(),
+        Letter::Amounts => entries.are_amounts(),
         _ => false,
     }
 }
@@ -367,7 +388,14 @@ fn all_fit(letters: &[Letter], meanings: &[Meaning]) -> bool
     true
 }
 
-/// Whether a linear constraint has as many coefficients as variables.
+/// Whether three rows have one length.
+fn are_alike(first: &Array, second: &Array, third: &Array) -> bool
+    ensures { result ≡ (nat_eq (length first.now.entries) (length second.now.entries) && nat_eq (length first.now.entries) (length third.now.entries)) }
+{
+    first.entries.len() == second.entries.len() && first.entries.len() == third.entries.len()
+}
+
+/// Whether a linear constraint has as many coefficients as variables, and tasks have a duration and a usage for each start.
 fn has_equal_lengths(letters: &[Letter], meanings: &[Meaning]) -> bool
     ensures { result ≡ has_equal_lengths letters.now meanings.now }
 {
@@ -376,6 +404,15 @@ fn has_equal_lengths(letters: &[Letter], meanings: &[Meaning]) -> bool
             [Meaning::Row(coefficients), Meaning::Row(variables), ..] => {
                 coefficients.entries.len() == variables.entries.len()
             }
+            _ => true,
+        },
+        [Letter::Integers, Letter::Amounts, Letter::Amounts, ..] => match meanings {
+            [
+                Meaning::Row(starts),
+                Meaning::Row(durations),
+                Meaning::Row(usages),
+                ..
+            ] => are_alike(starts, durations, usages),
             _ => true,
         },
         _ => true,

@@ -4,6 +4,7 @@ pub mod ClauseRows
 pub mod ConstantLaws
 pub mod ElementRows
 pub mod ExtremeRows
+pub mod GlobalRows
 pub mod KernelLaws
 pub mod Means
 pub mod OneKernel

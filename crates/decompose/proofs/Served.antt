@@ -1,6 +1,7 @@
 -- The arguments of a constraint that fit its letters, one by one, and what is known of each.
-use Rattle.std.proofs.Common.{◌≡◌, ◌≤◌, ℤ, pos, Bool, true, false, cond, not, List, [], ◌∷◌, length, map, flat_map, refl, ap, subst, ◌∙◌, Some, None}
-use Rattle.std.specs.Prelude.{IsSome, find}
+use Rattle.std.proofs.Common.{◌≡◌, ◌≤◌, ℤ, pos, Bool, true, false, cond, not, List, [], ◌∷◌, length, map, flat_map, refl, ap, subst, ◌∙◌, Some, None, arith}
+use Rattle.std.specs.Prelude.{IsSome, find, int_le, ◌≤ℤ◌}
+use Rattle.std.proofs.lemmas.Int.{ints}
 use Rattle.std.specs.List.{All, AllPass, list_all}
 use Rattle.std.specs.Ordering.{int_eq}
 use Rattle.std.proofs.lemmas.Bool.{and_parts}
@@ -16,7 +17,7 @@ use Rattle.constraint_model.specs.declared.table.ConstraintName.{ConstraintName}
 use Rattle.constraint_model.specs.Numbers.{IsInProfile}
 use Rattle.constraint_model.specs.Ranges.{Range}
 use Rattle.constraint_model.specs.Table.{signatures}
-use Rattle.constraint_model.specs.Fits.{fits, is_constant, is_integer, all_fit, has_equal_lengths, fits_row, row_for, operand_of, constraint_on, constant_of, constants_of_operand, constants_at, constants_in, takes_variables, LettersAreThose}
+use Rattle.constraint_model.specs.Fits.{fits, is_amount, is_constant, is_integer, all_fit, has_equal_lengths, fits_row, row_for, operand_of, constraint_on, constant_of, constants_of_operand, constants_at, constants_in, takes_variables, has_long_row, LettersAreThose}
 use Rattle.constraint_model.specs.Limits.{most_entries}
 use Rattle.constraint_model.specs.WellFormed.{IsTermOf, IsScalarOf, IsMeaningOf}
 use Rattle.decompose.proofs.Means.{IsAmong, HasVariable, HasConstants, RowMeans}
@@ -26,6 +27,11 @@ use Rattle.decompose.proofs.ConstantLaws.{among_more, among_after, constant_here
 abbrev pub IsConstant : Term → Type 0
 IsConstant (Term.Number n) = IsInProfile n
 IsConstant (Term.Var v) = ⊥
+
+-- a number of the profile that isn't negative
+abbrev pub IsWhole : Term → Type 0
+IsWhole (Term.Number n) = IsInProfile n × (pos 0 ≤ℤ n)
+IsWhole (Term.Var v) = ⊥
 
 -- the terms of an array's entries
 abbrev pub terms_of : List Scalar → List Term
@@ -68,6 +74,17 @@ module _ (vars : List VarDecl) (constants : List ℤ) where
       All-cons IsConstant e.term (terms_of es)
       (constant_is e.is_bool e.term (All-head (λ s. is_constant s ≡ true) e es p) (All-head (IsScalarOf vars) e es h))
       (constants_are es (All-tail (λ s. is_constant s ≡ true) e es p) (All-tail (IsScalarOf vars) e es h))
+
+  amount_is : (b : Bool) (t : Term) → is_amount (record { is_bool = b; term = t }) ≡ true → IsTermOf vars b t → IsWhole t
+  amount_is b (Term.Number n) e h = (h.0, (let k = (and_parts (not b) (int_le (pos 0) n) e).1 in grind (arith, ints)))
+  amount_is b (Term.Var v) e h = untrue (and_parts (not b) false e).1
+
+  amounts_are : (es : List Scalar) → AllPass is_amount es → All (IsScalarOf vars) es → All IsWhole (terms_of es)
+  amounts_are [] p h = All-nil IsWhole
+  amounts_are (e ∷ es) p h =
+      All-cons IsWhole e.term (terms_of es)
+      (amount_is e.is_bool e.term (All-head (λ s. is_amount s ≡ true) e es p) (All-head (IsScalarOf vars) e es h))
+      (amounts_are es (All-tail (λ s. is_amount s ≡ true) e es p) (All-tail (IsScalarOf vars) e es h))
 
   -- an argument that fits its letter, and whose constants are there
   pub record IsServed (l : Letter) (m : Meaning) : Type 0 where
@@ -135,6 +152,16 @@ module _ (vars : List VarDecl) (constants : List ℤ) where
       f array (record { short = h.meaning.0; are = constants_are array.entries (AllPass-from_list_all is_constant array.entries (and_parts (list_all is_integer array.entries) (list_all is_constant array.entries) h.fit).1) h.meaning.1 })
   at_coefficients P f (Meaning.One s) h = untrue h.fit
   at_coefficients P f (Meaning.Set rs) h = untrue h.fit
+
+  pub at_amount : (P : Meaning → Type 0) → ((s : Scalar) → IsWhole s.term → P (Meaning.One s)) → (m : Meaning) → IsServed Letter.Amount m → P m
+  at_amount P f (Meaning.One s) h = f s (amount_is s.is_bool s.term h.fit h.meaning)
+  at_amount P f (Meaning.Row array) h = untrue h.fit
+  at_amount P f (Meaning.Set rs) h = untrue h.fit
+
+  pub at_amounts : (P : Meaning → Type 0) → ((array : Array) → All IsWhole (terms_of array.entries) → P (Meaning.Row array)) → (m : Meaning) → IsServed Letter.Amounts m → P m
+  at_amounts P f (Meaning.Row array) h = f array (amounts_are array.entries (AllPass-from_list_all is_amount array.entries h.fit) h.meaning.1)
+  at_amounts P f (Meaning.One s) h = untrue h.fit
+  at_amounts P f (Meaning.Set rs) h = untrue h.fit
 
   -- arrays of integers, of booleans, of numbers and of truth values
   abbrev pub IsRowLetter : Letter → Type 0
@@ -220,3 +247,8 @@ module _ (vars : List VarDecl) (constants : List ℤ) where
 abbrev pub Law : List VarDecl → List ℤ → ConstraintName → List Letter → Type 0
 Law vars constants name letters =
     (ms : List Meaning) → AreServed vars constants letters ms → has_equal_lengths letters ms ≡ true → RowMeans vars constants name ms
+
+-- the same, where its list isn't too long
+abbrev pub ShortLaw : List VarDecl → List ℤ → ConstraintName → List Letter → Type 0
+ShortLaw vars constants name letters =
+    (ms : List Meaning) → AreServed vars constants letters ms → has_equal_lengths letters ms ≡ true → has_long_row (constraint_on name ms) ≡ false → RowMeans vars constants name ms

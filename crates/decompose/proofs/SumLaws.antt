@@ -173,11 +173,11 @@ sum_differs x y hx hy = (λ h e. omega (arith, ints, hx.0, hx.1, hy.0, hy.1), by
 -- ---- constants
 
 -- a constant has the same value under each assignment
-constant_value : (a : List ℤ) (t : Term) → IsConstant t → value a t ≡ number_of t
+pub constant_value : (a : List ℤ) (t : Term) → IsConstant t → value a t ≡ number_of t
 constant_value a (Term.Number n) h = refl
 constant_value a (Term.Var v) h = absurd h
 
-constant_values : (a : List ℤ) (ts : List Term) → All IsConstant ts → map (value a) ts ≡ map number_of ts
+pub constant_values : (a : List ℤ) (ts : List Term) → All IsConstant ts → map (value a) ts ≡ map number_of ts
 constant_values a [] h = refl
 constant_values a (t ∷ ts) h =
     let one = constant_value a t (All-head IsConstant t ts h) in

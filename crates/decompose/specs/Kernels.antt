@@ -132,6 +132,15 @@ abbrev pub on_reified_rows : (List Term → List Term → Term → List Kernel) 
 on_reified_rows row (Row first ∷ Row second ∷ One r ∷ []) = row first.terms second.terms r
 on_reified_rows row _ = []
 
+abbrev pub on_row_alone : (List Term → List Kernel) → List Operand → List Kernel
+on_row_alone row (Row array ∷ []) = row array.terms
+on_row_alone row _ = []
+
+-- the starts, the durations and the usages of tasks, and a limit
+abbrev pub on_tasks : (List Term → List ℤ → List ℤ → ℤ → List Kernel) → List Operand → List Kernel
+on_tasks row (Row starts ∷ Row durations ∷ Row usages ∷ One limit ∷ []) = row starts.terms (map number_of durations.terms) (map number_of usages.terms) (number_of limit)
+on_tasks row _ = []
+
 -- two terms, or two and a boolean
 abbrev pub on_two_or_three : (Term → Term → List Kernel) → (Term → Term → Term → List Kernel) → List Operand → List Kernel
 on_two_or_three two three (One x ∷ One y ∷ []) = two x y
@@ -189,6 +198,8 @@ row_of n ConstraintName.BoolClause = on_rows (λ xs ys. Kernel.Clause (clause_li
 row_of n ConstraintName.BoolClauseReif = on_reified_rows (λ xs ys r. some_of (literal_of n r) (clause_literals n xs ys))
 row_of n ConstraintName.BoolLinLe = on_sum (λ cs xs c. inequality n always cs xs c)
 row_of n ConstraintName.BoolLinEq = on_equal_sum (λ cs xs c. equation n always (cs ++ negsuc 0 ∷ []) (xs ++ c ∷ []) (pos 0))
+row_of n ConstraintName.PccpAllDifferent = on_row_alone (λ xs. Kernel.AllDiff (variables_of n xs) ∷ [])
+row_of n ConstraintName.PccpCumulative = on_tasks (λ xs ds us limit. Kernel.Cumulative (variables_of n xs) ds us limit ∷ [])
 
 -- the kernels of a constraint
 abbrev pub kernels_on : Numbering → Constraint → List Kernel

@@ -7,6 +7,7 @@ ghost use Rattle.decompose.specs.Places.{HasDeclared};
 
 use crate::booleans::{clause, clause_reified, joined_row, joined_two};
 use crate::comparisons::{AT_MOST, EQUAL, LESS, OPPOSITE, compare, compare_reified, exclusive_or};
+use crate::globals::{all_different, cumulative};
 use crate::places::{ALWAYS, NEVER, Places};
 use crate::sums::{Relation, plus, sum, sum_equal, sum_reified};
 use crate::terms::{
@@ -86,6 +87,8 @@ fn add_kernels(
         Name::ArrayBoolOr => joined_row(alloc, places, true, operands, kernels),
         Name::BoolClause => clause(alloc, places, operands, kernels),
         Name::BoolClauseReif => clause_reified(alloc, places, operands, kernels),
+        Name::PccpAllDifferent => all_different(alloc, places, operands, kernels),
+        Name::PccpCumulative => cumulative(alloc, places, operands, kernels),
     }
 }
 

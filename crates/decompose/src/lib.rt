@@ -5,6 +5,7 @@ mod booleans;
 mod coefficients;
 mod comparisons;
 mod constants;
+mod globals;
 mod kernels;
 mod mapped_lists;
 mod places;

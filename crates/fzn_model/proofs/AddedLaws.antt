@@ -49,16 +49,16 @@ in_set : (laws : SetLaws) (vars : List VarDecl) (text : List ℕ) (s : SetLit) (
 unfolding row_for
 in_set laws vars text s t l h =
     let both : List Meaning = one false t ∷ Meaning.Set (set_at text s) ∷ [] in
-    record { meanings = both; is_on = refl; fits = refl; each = All-from_recursion (IsMeaningOf vars) both (h, (set_meaning laws vars text s l, tt)) }
+    record { meanings = both; is_on = refl; fits = refl; each = All-from_recursion (IsMeaningOf vars) both (h, (set_meaning laws vars text s l, tt)); short = refl }
 
 equal : (vars : List VarDecl) (is_bool : Bool) (x t : Term) → IsTermOf vars is_bool x → IsTermOf vars is_bool t → IsConstraintOf vars (equality is_bool x t)
 unfolding row_for
 equal vars true x t h k =
     let both : List Meaning = one true x ∷ one true t ∷ [] in
-    record { meanings = both; is_on = refl; fits = refl; each = All-from_recursion (IsMeaningOf vars) both (h, (k, tt)) }
+    record { meanings = both; is_on = refl; fits = refl; each = All-from_recursion (IsMeaningOf vars) both (h, (k, tt)); short = refl }
 equal vars false x t h k =
     let both : List Meaning = one false x ∷ one false t ∷ [] in
-    record { meanings = both; is_on = refl; fits = refl; each = All-from_recursion (IsMeaningOf vars) both (h, (k, tt)) }
+    record { meanings = both; is_on = refl; fits = refl; each = All-from_recursion (IsMeaningOf vars) both (h, (k, tt)); short = refl }
 
 pub domain_fits : (laws : SetLaws) (vars : List VarDecl) (text : List ℕ) (shape : Shape) (x : Term) → shape_is_long shape ≡ false → IsTermOf vars (is_bool_shape shape) x → Each (IsConstraintOf vars) (domain_constraints text shape x)
 domain_fits laws vars text (Shape.VarIn (SetLit.Braces values)) x l h = (in_set laws vars text (SetLit.Braces values) x l h, tt)

@@ -1,5 +1,5 @@
 -- What an item without a fault adds is well-formed.
-use Rattle.std.proofs.Common.{◌≡◌, ℕ, List, [], ◌∷◌, ◌++◌, length, Bool, true, false, cond, ◌&&◌, not, is_some, Option, Some, None, refl, ap, sym, subst, arith}
+use Rattle.std.proofs.Common.{◌≡◌, ℕ, List, [], ◌∷◌, ◌++◌, length, Bool, true, false, cond, ◌&&◌, ◌||◌, not, is_some, Option, Some, None, refl, ap, sym, subst, arith}
 use Rattle.std.specs.Prelude.{option_map, option_to_list, unwrap_or, pos}
 use Rattle.std.specs.List.{AllByRecursion as Each, list_any, cons_option}
 use Rattle.std.specs.Option.{IfSome}
@@ -24,7 +24,7 @@ use Rattle.fzn_model.specs.declared.effect.Effect.{Effect}
 use Rattle.constraint_model.specs.Searches.{last_phase}
 use Rattle.fzn_model.specs.Searches.{phases_of}
 use Rattle.fzn_model.specs.Scopes.{Scope, expr_meaning}
-use Rattle.constraint_model.specs.Fits.{named, fits, row_for, constraint_on}
+use Rattle.constraint_model.specs.Fits.{named, fits, row_for, constraint_on, has_long_row}
 use Rattle.fzn_model.specs.Effects.{Reading, joined, effect_of, no_effect, variable, variable_effect, parameter_effect, scalar_effect, array_effect, constraint_alone, constraint_effect, solve_effect, meanings_of, term_in, objective, goal_of, value_of, declares_variable, is_bool_shape, domain_constraints, value_constraints}
 use Rattle.fzn_model.specs.Faults.{if_some, all_mean, arguments_fit, fits_scalar_type, fits_array_type, value_fits, has_index_set, is_wrong_value, is_wrong_row, has_wrong_argument, is_unsupported, aim_fits, aim_expressions, expr_is_long, shape_is_long, type_is_long, has_long_list, expressions, is_too_large, passes_limit, first_kind, own_tests, place_tests, fault_of}
 use Rattle.constraint_model.specs.WellFormed.{IsDeclaration, IsVariable, IsTermOf, IsMeaningOf, IsConstraintOf, IsGoalOf, IsOutputOf}
@@ -59,19 +59,22 @@ meanings_each laws vars text scope h (e ∷ es) l = by (expr_meaning text scope 
     by None k rest = rest
     by (Some m) k rest = (k, rest)
 
-adds_constraint : (laws : SetLaws) (vars : List VarDecl) (text : List ℕ) (scope : Scope) → AreNames vars scope → (word : List ℕ) (args : List Expr) → not (arguments_fit text scope word args) ≡ false → list_any expr_is_long args ≡ false → Adds vars (constraint_effect text scope word args)
+adds_constraint : (laws : SetLaws) (vars : List VarDecl) (text : List ℕ) (scope : Scope) → AreNames vars scope → (word : List ℕ) (args : List Expr) → not (arguments_fit text scope word args) ≡ false → list_any expr_is_long args ≡ false
+    → list_any has_long_row (constraint_effect text scope word args).constraints ≡ false → Adds vars (constraint_effect text scope word args)
 adds_constraint laws vars text scope h word args = by (named word)
   where
     by : (o : Option ConstraintName) → not (all_mean text scope args && if_some (λ known. is_some (row_for known (meanings_of text scope args))) o) ≡ false → list_any expr_is_long args ≡ false
+        → list_any has_long_row (elim o as (λ _. Effect) [ None ↦ no_effect | Some known ↦ constraint_alone (constraint_on known (meanings_of text scope args)) ]).constraints ≡ false
         → Adds vars (elim o [ None ↦ no_effect | Some known ↦ constraint_alone (constraint_on known (meanings_of text scope args)) ])
-    by None w l = adds_nothing vars
-    by (Some known) w l =
+    by None w l r = adds_nothing vars
+    by (Some known) w l r =
         let fit = not-false (all_mean text scope args && is_some (row_for known (meanings_of text scope args))) w in
         let c : IsConstraintOf vars (constraint_on known (meanings_of text scope args)) = record {
           meanings = meanings_of text scope args;
           is_on = refl;
           fits = (and_parts (all_mean text scope args) (is_some (row_for known (meanings_of text scope args))) fit).1;
           each = All-from_recursion (IsMeaningOf vars) (meanings_of text scope args) (meanings_each laws vars text scope h args (each_false expr_is_long args l));
+          short = (or_parts (has_long_row (constraint_on known (meanings_of text scope args))) false r).0;
         } in
         record { declared = tt; var = tt; constraints = (constraint_stays vars [] (constraint_on known (meanings_of text scope args)) c, tt); output = tt; solved = tt; search = tt }
 
@@ -215,14 +218,21 @@ supported false w e t = e
 -- what an item without a fault adds
 pub adds : (laws : SetLaws) (text : List ℕ) (before : Reading) (what : WhatTree) → AreNames before.vars before.scope → Passes text before what → Adds before.vars (effect_of text before.scope (length before.vars) what)
 unfolding effect_of
-adds laws text before what h p = by what (supported (is_unsupported what) (has_wrong_argument text before.scope what) p.typed p.taken) p.taken short.0 short.1
+adds laws text before what h p = by what (supported (is_unsupported what) (has_wrong_argument text before.scope what) p.typed p.taken) p.taken short.0 short.1 lists.1
   where
-    short : (type_is_long what ≡ false) × (list_any expr_is_long (expressions what) ≡ false)
-    short = or_parts (type_is_long what) (list_any expr_is_long (expressions what)) (or_parts (has_long_list what) (is_too_large (joined before (effect_of text before.scope (length before.vars) what))) p.limit).0
+    lists : (has_long_list what ≡ false) × (list_any has_long_row (effect_of text before.scope (length before.vars) what).constraints ≡ false)
+    lists =
+        let more : Effect = effect_of text before.scope (length before.vars) what in
+        or_parts (has_long_list what) (list_any has_long_row more.constraints)
+        (or_parts (has_long_list what || list_any has_long_row more.constraints) (is_too_large (joined before more)) p.limit).0
 
-    by : (w : WhatTree) → has_wrong_argument text before.scope w ≡ false → is_unsupported w ≡ false → type_is_long w ≡ false → list_any expr_is_long (expressions w) ≡ false → Adds before.vars (effect_of text before.scope (length before.vars) w)
-    by (predicate_item tokens) w t s l = adds_nothing before.vars
-    by (scalar_item shape name notes value) w t s l = adds_scalar laws before.vars text before.scope h shape (spelling text name) notes value w s l
-    by (array_item low high shape name notes value) w t s l = adds_array laws before.vars text before.scope h shape (spelling text name) notes value (row_typed text before.scope low high shape value w) s l
-    by (constraint_item name args notes) w t s l = adds_constraint laws before.vars text before.scope h (spelling text name) args w l
-    by (solve_item notes aim) w t s l = adds_goal laws before.vars text before.scope h notes aim w l
+    short : (type_is_long what ≡ false) × (list_any expr_is_long (expressions what) ≡ false)
+    short = or_parts (type_is_long what) (list_any expr_is_long (expressions what)) lists.0
+
+    by : (w : WhatTree) → has_wrong_argument text before.scope w ≡ false → is_unsupported w ≡ false → type_is_long w ≡ false → list_any expr_is_long (expressions w) ≡ false
+        → list_any has_long_row (effect_of text before.scope (length before.vars) w).constraints ≡ false → Adds before.vars (effect_of text before.scope (length before.vars) w)
+    by (predicate_item tokens) w t s l r = adds_nothing before.vars
+    by (scalar_item shape name notes value) w t s l r = adds_scalar laws before.vars text before.scope h shape (spelling text name) notes value w s l
+    by (array_item low high shape name notes value) w t s l r = adds_array laws before.vars text before.scope h shape (spelling text name) notes value (row_typed text before.scope low high shape value w) s l
+    by (constraint_item name args notes) w t s l r = adds_constraint laws before.vars text before.scope h (spelling text name) args w l r
+    by (solve_item notes aim) w t s l r = adds_goal laws before.vars text before.scope h notes aim w l

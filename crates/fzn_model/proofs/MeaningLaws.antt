@@ -78,6 +78,7 @@ constraint_stays vars more c h = record {
   is_on = h.is_on;
   fits = h.fits;
   each = All-weaker (IsMeaningOf vars) (IsMeaningOf (vars ++ more)) (meaning_stays vars more) h.meanings h.each;
+  short = h.short;
 }
 
 pub output_stays : (vars more : List VarDecl) (o : Output) → IsOutputOf vars o → IsOutputOf (vars ++ more) o

@@ -1,7 +1,7 @@
 -- The model of every text is well-formed: each item without a fault keeps what stands before it so.
 use Rattle.std.proofs.Common.{◌≡◌, ℕ, zero, suc, ◌≤◌, ◌<◌, List, [], ◌∷◌, ◌++◌, length, take, get_or, Bool, false, ◌||◌, nat_lt, is_some, Option, Some, None, refl, sym, ap, subst, ◌∙◌, arith, ℤ}
 use Rattle.std.specs.Prelude.{fold, flat_map, sum_by, map, option_to_list}
-use Rattle.std.specs.List.{AllByRecursion as Each}
+use Rattle.std.specs.List.{AllByRecursion as Each, list_any}
 use Rattle.std.specs.Option.{IfSome, option_or}
 use Rattle.std.proofs.Math.Seq.{take-suc}
 use Rattle.std.proofs.lemmas.Bool.{or_parts, ltb-false, true≢false}
@@ -18,7 +18,7 @@ use Rattle.constraint_model.specs.declared.model.Phase.{Phase}
 use Rattle.constraint_model.specs.declared.model.FznModel.{FznModel}
 use Rattle.constraint_model.specs.declared.meanings.Meaning.{Meaning}
 use Rattle.fzn_model.specs.declared.effect.Effect.{Effect}
-use Rattle.constraint_model.specs.Fits.{constants_in, goal_constants, add_once, kernels_of}
+use Rattle.constraint_model.specs.Fits.{constants_in, goal_constants, add_once, kernels_of, has_long_row}
 use Rattle.fzn_model.specs.Effects.{Reading, nothing, numbered, with_number, joined, effect_of, with_item, reading_of, solved_constants}
 use Rattle.fzn_model.specs.Faults.{fault_of, has_long_list, is_too_large}
 use Rattle.constraint_model.specs.Limits.{most_vars, most_kernels, most_constants}
@@ -99,7 +99,7 @@ keeps_item : (laws : SetLaws) (text : List ℕ) (r : Reading) (item : ItemTree) 
 keeps_item laws text r item h e =
     let more : Effect = effect_of text r.scope (length r.vars) item.what in
     let p = passes text r item.what e in
-    keeps_more r more h p.open_yet (or_parts (has_long_list item.what) (is_too_large (joined r more)) p.limit).1 (adds laws text r item.what h.scope p)
+    keeps_more r more h p.open_yet (or_parts (has_long_list item.what || list_any has_long_row more.constraints) (is_too_large (joined r more)) p.limit).1 (adds laws text r item.what h.scope p)
 
 -- ---- all items
 

@@ -19,7 +19,7 @@ use Rattle.fzn_model.specs.declared.effect.Effect.{Effect}
 use Rattle.fzn_model.specs.Literals.{number_of}
 use Rattle.fzn_model.specs.Scopes.{Scope, meaning_of, expr_meaning}
 use Rattle.constraint_model.specs.Limits.{most_vars, most_entries, most_kernels, most_constants}
-use Rattle.constraint_model.specs.Fits.{named, fits, row_for, is_constant}
+use Rattle.constraint_model.specs.Fits.{named, fits, row_for, is_constant, has_long_row}
 use Rattle.fzn_model.specs.Effects.{Reading, joined, effect_of, meanings_of}
 
 -- ---- the parts of an item
@@ -227,7 +227,7 @@ is_too_large r = nat_lt most_vars (length r.vars) || nat_lt most_kernels r.kerne
 
 -- with this item a limit is passed
 abbrev pub passes_limit : Reading → WhatTree → Effect → Bool
-passes_limit before what more = has_long_list what || is_too_large (joined before more)
+passes_limit before what more = has_long_list what || list_any has_long_row more.constraints || is_too_large (joined before more)
 
 -- ---- the fault
 

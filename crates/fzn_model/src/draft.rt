@@ -14,7 +14,7 @@ ghost use Rattle.fzn_model.specs.Faults as faults;
 
 use crate::effect::Effect;
 use crate::fault_kinds::FaultKind;
-use crate::limits::{MOST_CONSTANTS, MOST_KERNELS, MOST_VARS, has_long_list};
+use crate::limits::{MOST_CONSTANTS, MOST_KERNELS, MOST_VARS, has_long_list, has_long_rows};
 use crate::name_hash::NameHash;
 use crate::reads::read_item;
 use crate::scope::Scope;
@@ -236,6 +236,9 @@ impl Draft {
         ensures fault { IfErr result (λ s. faults.Refuses (faults.first_kind (faults.place_tests (seen self.old) (what_tree what.now) effect.now)) s) }
     {
         if has_long_list(what) {
+            return Err(Stop::Fault(FaultKind::TooMany));
+        }
+        if has_long_rows(effect.constraints.as_slice()) {
             return Err(Stop::Fault(FaultKind::TooMany));
         }
         match self.count(effect) {

@@ -3,8 +3,10 @@
 ghost use Rattle.std.specs.Prelude.{◌≡◌};
 ghost use Rattle.std.specs.List.{list_any};
 ghost use Rattle.fzn_parser.specs.Items.{what_tree};
+ghost use Rattle.constraint_model.specs.Fits.{has_long_row};
 ghost use Rattle.fzn_model.specs.Faults as faults;
 
+use constraint_model::{Constraint, has_long_row};
 use fzn_parser::tree::{Aim, Elem, Expr, SetLit, Shape, What};
 
 /// The most declared variables.
@@ -56,6 +58,15 @@ fn any_expr_is_long(exprs: &[Expr]) -> bool
     ensures { result ≡ list_any faults.expr_is_long exprs.now }
 {
     exprs.iter().any(|expr| expr_is_long(expr))
+}
+
+/// Whether a constraint has a longer list than it may.
+pub(crate) fn has_long_rows(constraints: &[Constraint]) -> bool
+    ensures { result ≡ list_any has_long_row constraints.now }
+{
+    constraints
+        .iter()
+        .any(|constraint| has_long_row(constraint))
 }
 
 fn shape_is_long(shape: &Shape) -> bool

@@ -1,7 +1,7 @@
 -- What stands after each line of a made text.
 use Rattle.std.proofs.Common.{◌≡◌, ◌<◌, ◌≤◌, ◌+◌, ◌-◌, ℕ, true, false, List, [], ◌∷◌, ◌++◌, length, refl, sym, ◌∙◌, ap, subst, arith}
 use Rattle.std.specs.Prelude.{codes, map, pos, negsuc, neg_ℤ, ℤ, Option, Some, None, option_map, option_and_then, unwrap_or, is_some, is_none, ◌||◌, ◌&&◌, not, nat_lt, fold}
-use Rattle.std.specs.List.{range_with_len, cons_option}
+use Rattle.std.specs.List.{list_any, range_with_len, cons_option}
 use Rattle.std.proofs.lemmas.List.{append-nil}
 use Rattle.std.proofs.lemmas.Bool.Decides.{nat_tests}
 use Rattle.std.proofs.lemmas.List.FromFn.{map-range_with_len_more, length-map-range_with_len}
@@ -22,7 +22,7 @@ use Rattle.constraint_model.specs.declared.model.Goal.{Goal}
 use Rattle.constraint_model.specs.declared.meanings.Meaning.{Meaning}
 use Rattle.constraint_model.specs.declared.table.ConstraintName.{ConstraintName}
 use Rattle.constraint_model.specs.declared.table.Letter.{Letter}
-use Rattle.constraint_model.specs.Fits.{named, fits, add_once, row_for, constants_in, kernels_of, constraint_on}
+use Rattle.constraint_model.specs.Fits.{named, fits, add_once, row_for, constants_in, kernels_of, has_long_row, constraint_on}
 use Rattle.constraint_model.specs.Searches.{last_phase}
 use Rattle.fzn_model.specs.declared.effect.Effect.{Effect}
 use Rattle.fzn_model.specs.Literals.{number_of}
@@ -64,6 +64,13 @@ small_reading r vars kernels constants =
     limits : (a b c : ℕ) → a ≤ 65536 → b ≤ 1048576 → c ≤ 131072 → (nat_lt 65536 a || nat_lt 1048576 b || nat_lt 131072 c) ≡ false
     limits a b c x y z = grind (arith, nat_tests)
 
+-- an effect whose constraints aren't too long passes no limit where what it leaves is small
+few_of : (r s : Reading) (e f : Effect) → e ≡ f → list_any has_long_row f.constraints ≡ false → joined r e ≡ s → is_too_large s ≡ false
+    → (list_any has_long_row e.constraints || is_too_large (joined r e)) ≡ false
+few_of r s e f same short leaves small =
+    ap (λ (x : Effect). list_any has_long_row x.constraints || is_too_large (joined r e)) same
+    ∙ (ap (λ b. b || is_too_large (joined r e)) short ∙ (ap is_too_large leaves ∙ small))
+
 -- ---- a declaration
 
 variable_adds : ℕ → List ℕ → ℤ → ℤ → Effect
@@ -82,6 +89,10 @@ variable_effect_is text scope place low high t = refl
 
 pub number_is : (text : List ℕ) (t : Token) (s : List ℕ) (z : ℤ) → spelling text t ≡ s → number_of s ≡ Some z → number_of (spelling text t) ≡ Some z
 number_is text t s z spelled is = ap number_of spelled ∙ is
+
+variable_short : (place : ℕ) (s : List ℕ) (low high : ℤ) → list_any has_long_row (variable_adds place s low high).constraints ≡ false
+unfolding variable_adds
+variable_short place s low high = refl
 
 variable_joins : (u n : ℕ) → joined (reading u n [] 0 None) (variable_adds n (name (n + 1)) (pos 0) (pos u)) ≡ reading u (n + 1) [] 0 None
 unfolding variable_adds
@@ -119,7 +130,8 @@ variable_clean text u n low high t few w =
       fits = refl;
       supported = refl;
       narrow = ap (λ o. (is_none o || is_none (number_of (spelling text high))) || false) w.low_is ∙ ap (λ o. is_none o || false) w.high_is;
-      few = ap is_too_large leaves ∙ small_reading (reading u (n + 1) [] 0 None) (omega arith) (omega arith) refl;
+      few = few_of (reading u n [] 0 None) (reading u (n + 1) [] 0 None) _ _ (variable_effect_is text (scope_of n) (length (vars_of u n)) low high t) (variable_short (length (vars_of u n)) (spelling text t) (number_at text low) (number_at text high)) leaves
+          (small_reading (reading u (n + 1) [] 0 None) (omega arith) (omega arith) refl);
       unsolved = refl;
     }
 
@@ -264,7 +276,9 @@ order_clean text u n k i j gap cs t one minus a b d few less w =
       narrow = ap (λ o. (is_none o || (is_none (number_of (spelling text minus)) || false)) || ((is_none (number_of (spelling text d)) || false) || false)) w.one_is
           ∙ (ap (λ o. (is_none o || false) || ((is_none (number_of (spelling text d)) || false) || false)) w.minus_is
           ∙ ap (λ o. (is_none o || false) || false) w.gap_is);
-      few = ap is_too_large leaves ∙ small_reading (reading u n (cs ++ order_constraint i j gap ∷ []) (k + 1) None) (omega arith) (omega arith) refl;
+      few = few_of (reading u n cs k None) (reading u n (cs ++ order_constraint i j gap ∷ []) (k + 1) None) _ (constraint_alone (order_constraint i j gap))
+          (order_effect_is text n (length (vars_of u n)) i j gap t one minus a b d w) refl leaves
+          (small_reading (reading u n (cs ++ order_constraint i j gap ∷ []) (k + 1) None) (omega arith) (omega arith) refl);
       unsolved = refl;
     }
 
@@ -284,6 +298,10 @@ goal_means text n t is = is
 
 goal_adds : List Phase × Goal → Effect
 goal_adds s = record { declared = None; var = None; constraints = []; output = None; solved = Some s }
+
+goal_short : (s : List Phase × Goal) → list_any has_long_row (goal_adds s).constraints ≡ false
+unfolding goal_adds
+goal_short s = refl
 
 goal_effect_is : (text : List ℕ) (n count : ℕ) (t : Token) → meaning_of (scope_of n) (spelling text t) ≡ Some (Meaning.One (integer_at (n - 1))) → count ≡ n
     → effect_of text (scope_of n) count (goal_what t) ≡ goal_adds (asked n)
@@ -321,6 +339,7 @@ goal_clean text u n k cs t few less is =
       fits = ap (λ o. not (if_some (fits Letter.Integer) o)) (goal_means text n t is);
       supported = refl;
       narrow = refl;
-      few = ap is_too_large leaves ∙ small_reading (reading u n cs k (Some (asked n))) (omega arith) (omega arith) refl;
+      few = few_of (reading u n cs k None) (reading u n cs k (Some (asked n))) _ (goal_adds (asked n)) (goal_effect_is text n (length (vars_of u n)) t is count) (goal_short (asked n)) leaves
+          (small_reading (reading u n cs k (Some (asked n))) (omega arith) (omega arith) refl);
       unsolved = refl;
     }

@@ -337,3 +337,56 @@ const PLACES: &[(&str, &str)] = &[
 fn elements_and_sets(rt: HostRuntime) -> Result<(), Fail> {
     assert_answers(&rt, rt.alloc(), PLACES)
 }
+
+/// Variables that differ, and tasks that share a resource: a text with its least solution, then one with none.
+const DIFFERENT_AND_TASKS: &[(&str, &str)] = &[
+    (
+        "var 1..2: x :: output_var; var 1..2: y :: output_var; var 1..4: z :: output_var; \
+         constraint pccp_all_different([x, y, z]); solve minimize z;",
+        "x = 1;\ny = 2;\nz = 3;\n----------\n==========\n",
+    ),
+    (
+        "var 1..2: x; var 1..2: y; var 1..2: z; constraint pccp_all_different([x, y, z]); solve satisfy;",
+        "=====UNSATISFIABLE=====\n",
+    ),
+    (
+        "var 0..5: t :: output_var; constraint pccp_cumulative([0, t], [3, 2], [2, 2], 3); solve minimize t;",
+        "t = 3;\n----------\n==========\n",
+    ),
+    (
+        "var 0..2: t; constraint pccp_cumulative([0, t], [3, 2], [2, 2], 3); solve satisfy;",
+        "=====UNSATISFIABLE=====\n",
+    ),
+    // a variable that stands twice never differs, and a task may run beside itself where both fit
+    (
+        "var 1..9: x; constraint pccp_all_different([x, x]); solve satisfy;",
+        "=====UNSATISFIABLE=====\n",
+    ),
+    (
+        "var 4..9: x :: output_var; constraint pccp_cumulative([x, x], [1, 1], [1, 2], 3); solve satisfy;",
+        "x = 4;\n----------\n",
+    ),
+    (
+        "var 4..9: x; constraint pccp_cumulative([x, x], [1, 1], [1, 2], 2); solve satisfy;",
+        "=====UNSATISFIABLE=====\n",
+    ),
+    // a task without a duration or a usage uses nothing
+    (
+        "var 4..9: x :: output_var; constraint pccp_cumulative([x, x, x], [2, 0, 3], [2, 9, 0], 2); solve satisfy;",
+        "x = 4;\n----------\n",
+    ),
+    (
+        "var 0..1: x :: output_var; constraint pccp_all_different([]); \
+         constraint pccp_cumulative([], [], [], 0); solve satisfy;",
+        "x = 0;\n----------\n",
+    ),
+    (
+        "constraint pccp_all_different([3, -1, 3]); solve satisfy;",
+        "=====UNSATISFIABLE=====\n",
+    ),
+];
+
+#[test]
+fn different_numbers_and_tasks(rt: HostRuntime) -> Result<(), Fail> {
+    assert_answers(&rt, rt.alloc(), DIFFERENT_AND_TASKS)
+}

@@ -184,3 +184,31 @@ const WORDS: &[Repeated] = &[
 fn names_and_numbers_have_no_limit_of_length(rt: HostRuntime) -> Result<(), Fail> {
     assert_repeated(&rt, rt.alloc(), WORDS)
 }
+
+const TOO_MANY: Ended<'static> = (
+    Status::Refused { kind: 9, line: 2 },
+    "",
+    "refused 9 TooMany line 2\n",
+);
+
+const TASKS: &[Repeated] = &[
+    (
+        "array [1..256] of int: a = [1",
+        ",1",
+        255,
+        "];\nconstraint pccp_cumulative(a, a, a, 256); solve satisfy;",
+        SOLVED,
+    ),
+    (
+        "array [1..257] of int: a = [1",
+        ",1",
+        256,
+        "];\nconstraint pccp_cumulative(a, a, a, 257); solve satisfy;",
+        TOO_MANY,
+    ),
+];
+
+#[test]
+fn tasks_are_256_at_most(rt: HostRuntime) -> Result<(), Fail> {
+    assert_repeated(&rt, rt.alloc(), TASKS)
+}

@@ -23,6 +23,8 @@ pub(crate) enum Shape {
     Clause(&'static [Lit]),
     Element(u32, &'static [u32], u32),
     InSet(Lit, u32, &'static [(i64, i64)]),
+    AllDiff(&'static [u32]),
+    Cumulative(&'static [u32], &'static [i64], &'static [i64], i64),
 }
 
 /// Whether an equation's coefficients are these.
@@ -120,9 +122,34 @@ fn is_choice(kernel: &Kernel, shape: &Shape) -> bool {
     }
 }
 
+/// Whether the kernel says that these differ, or that these tasks share a resource.
+fn is_global(kernel: &Kernel, shape: &Shape) -> bool {
+    match (kernel, *shape) {
+        (Kernel::AllDiff { xs }, Shape::AllDiff(places)) => xs.as_slice() == places,
+        (
+            Kernel::Cumulative {
+                starts,
+                durations,
+                usages,
+                limit,
+            },
+            Shape::Cumulative(places, times, uses, most),
+        ) => {
+            starts.as_slice() == places
+                && durations.as_slice() == times
+                && usages.as_slice() == uses
+                && *limit == most
+        }
+        _ => false,
+    }
+}
+
 /// Whether the kernel is this one.
 fn is_kernel(kernel: &Kernel, shape: &Shape) -> bool {
-    is_sum(kernel, shape) || is_operation(kernel, shape) || is_choice(kernel, shape)
+    is_sum(kernel, shape)
+        || is_operation(kernel, shape)
+        || is_choice(kernel, shape)
+        || is_global(kernel, shape)
 }
 
 /// Whether the kernels are these, in this order.
@@ -398,9 +425,21 @@ const BOOLEANS: &[(&str, &[Shape])] = &[
     ),
 ];
 
+/// Variables that differ, and tasks.
+const DIFFERENT_AND_TASKS: &[(&str, &[Shape])] = &[
+    (
+        "pccp_all_different([z, x, 4, z])",
+        &[Shape::AllDiff(&[3, 1, 7, 3])],
+    ),
+    (
+        "pccp_cumulative([y, 2, x], [3, 0, 1], [4, 1, 5], 6)",
+        &[Shape::Cumulative(&[2, 7, 1], &[3, 0, 1], &[4, 1, 5], 6)],
+    ),
+];
+
 #[test]
 fn arithmetic_places_and_booleans(rt: HostRuntime) -> Result<(), Fail> {
-    for table in [ARITHMETIC, PLACES, BOOLEANS] {
+    for table in [ARITHMETIC, PLACES, BOOLEANS, DIFFERENT_AND_TASKS] {
         assert_kernels(&rt, rt.alloc(), table)?;
     }
     Ok(())

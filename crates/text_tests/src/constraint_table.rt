@@ -66,6 +66,8 @@ const NAMES: &[(Option<ConstraintName>, &str)] = &[
     (Some(ConstraintName::BoolClauseReif), "bool_clause_reif"),
     (Some(ConstraintName::BoolLinLe), "bool_lin_le"),
     (Some(ConstraintName::BoolLinEq), "bool_lin_eq"),
+    (Some(ConstraintName::PccpAllDifferent), "pccp_all_different"),
+    (Some(ConstraintName::PccpCumulative), "pccp_cumulative"),
     (None, "int_negate"),
     (None, "int_e"),
     (None, ""),

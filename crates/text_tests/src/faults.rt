@@ -164,6 +164,44 @@ const LEAST_OF_TWO_GREATER: &[Case] = &[
     (11, "solve satisfy; ", "var {1}: x = 2;"),
 ];
 
+/// Faults of variables that differ and of tasks.
+const DIFFERENT_AND_TASKS: &[Case] = &[
+    (6, "", "constraint pccp_all_different(1); solve satisfy;"),
+    (6, "", "constraint pccp_all_different([1, true]);"),
+    (6, "", "constraint pccp_all_different([1], [2]);"),
+    (6, "", "constraint pccp_cumulative([1], [1], [1]);"),
+    (6, "", "constraint pccp_cumulative([1], [1], [1, 1], 1);"),
+    (6, "", "constraint pccp_cumulative([1], [1, 1], [1], 1);"),
+    (6, "", "constraint pccp_cumulative([1, 1], [1], [1], 1);"),
+    (6, "", "constraint pccp_cumulative([true], [1], [1], 1);"),
+    (
+        6,
+        "",
+        "constraint pccp_cumulative([1, 1], [1, -1], [1, 1], 1);",
+    ),
+    (
+        6,
+        "",
+        "constraint pccp_cumulative([1, 1], [1, 1], [-1, 1], 1);",
+    ),
+    (6, "", "constraint pccp_cumulative([1], [1], [1], -1);"),
+    (
+        6,
+        "var 1..2: x; ",
+        "constraint pccp_cumulative([1], [x], [1], 1);",
+    ),
+    (
+        6,
+        "var 1..2: x; ",
+        "constraint pccp_cumulative([1], [1], [x], 1);",
+    ),
+    (
+        6,
+        "var 1..2: x; ",
+        "constraint pccp_cumulative([1], [1], [1], x);",
+    ),
+];
+
 /// All tables.
 const TABLES: &[&[Case]] = &[
     NAMES_AND_CONSTRAINTS,
@@ -171,6 +209,7 @@ const TABLES: &[&[Case]] = &[
     NUMBERS_AND_ENDS,
     LEAST_OF_TWO,
     LEAST_OF_TWO_GREATER,
+    DIFFERENT_AND_TASKS,
 ];
 
 #[test]
@@ -198,6 +237,8 @@ const LAWFUL: &[&str] = &[
     "int: c = 1; array [1..1] of var 1..2: a = [c]; solve satisfy;",
     "var bool: x; var bool: y = x; var {4, 2}: z; var int: v = 1; solve satisfy;",
     "constraint int_eq(1, 2); constraint set_in(3, {}); solve satisfy;",
+    "constraint pccp_all_different([]); constraint pccp_cumulative([], [], [], 0); solve satisfy;",
+    "var -3..3: x; constraint pccp_all_different([x, x]); constraint pccp_cumulative([x, -1], [0, 2], [2, 0], 1); solve satisfy;",
     "constraint bool_xor(true, true); constraint bool_xor(true, false, true); solve satisfy;",
     "var 1..2: x :: note(140737488355328, q, 1.5); solve :: q satisfy;",
     "set of int: s = {3, 1}; set of int: t = s; set of int: u = 2..1; solve satisfy;",

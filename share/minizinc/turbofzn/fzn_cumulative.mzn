@@ -1,9 +1,14 @@
-% Gives one sum for each time while tasks * times is at most 4,000, else one for each task's start: the standard library goes
+% Gives the solver's own constraint where durations, needs and limit are fixed and at most 256 tasks last and need something.
+% Else one sum for each time while tasks * times is at most 4,000, else one for each task's start: the standard library goes
 % by times up to 5,000 of them, and has four propagators for each task and time. Two tasks that together pass the limit never
 % run at once; this is said of itself, since bounds see it early.
+include "pccp.mzn";
 predicate fzn_cumulative(array[int] of var int: s, array[int] of var int: d, array[int] of var int: r, var int: b) =
   let { set of int: tasks = { i | i in index_set(s) where ub(r[i]) > 0 /\ ub(d[i]) > 0 } } in
   if card(tasks) = 0 then card(index_set(s)) = 0 \/ b >= 0
+  elseif is_fixed(b) /\ card(tasks) <= 256 /\ forall(i in tasks)(is_fixed(d[i]) /\ is_fixed(r[i])) then
+    if fix(b) < 0 then false
+    else pccp_cumulative([ s[i] | i in tasks ], [ fix(d[i]) | i in tasks ], [ fix(r[i]) | i in tasks ], fix(b)) endif
   elseif not forall(i in tasks)(has_bounds(s[i]) /\ has_bounds(d[i]) /\ has_bounds(r[i])) then
     forall(j in tasks)(b >= sum(i in tasks)((s[i] <= s[j] /\ s[j] < s[i] + d[i]) * r[i]))
   else

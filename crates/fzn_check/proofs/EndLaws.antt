@@ -24,7 +24,7 @@ Judged model answer status line =
     ⊎ ((status ≡ WrongSolution) × SaysWrong model answer line)
 
 judged_is : (model : FznModel) (answer : Answer) (status : Status) (line : List ℕ) → EndsJudged model answer status line → Judged model answer status line
-judged_is model answer Right line h = inl (refl, h)
+judged_is model answer Right line h = inl (refl, h.0, h.1)
 judged_is model answer Usage line h = absurd h
 judged_is model answer (Refused kind number) line h = absurd h
 judged_is model answer ReadFault line h = absurd h
@@ -73,7 +73,7 @@ late_is model bytes ReadFault line h = inr h
 late_is model bytes WriteFault line h = inr h
 late_is model bytes NoMemory line h = inr h
 late_is model bytes WrongSolution line h = inr h
-late_is model bytes BadText line h = inl (refl, h)
+late_is model bytes BadText line h = inl (refl, h.0, h.1)
 late_is model bytes Hidden line h = inr h
 
 pub read_late : (model : FznModel) (bytes : List ℕ) (status : Status) (line : List ℕ) → IsVerdict status → EndsRead model bytes status line → EndsLate model bytes status line
@@ -130,7 +130,7 @@ Early text status line =
 early_is : (text : List ℕ) (status : Status) (line : List ℕ) → EndsEarly text status line → Early text status line
 early_is text Right line h = absurd h
 early_is text Usage line h = absurd h
-early_is text (Refused kind number) line h = inl (kind, (number, (refl, h)))
+early_is text (Refused kind number) line h = inl (kind, (number, (refl, h.0, h.1)))
 early_is text ReadFault line h = absurd h
 early_is text WriteFault line h = absurd h
 early_is text NoMemory line h = absurd h

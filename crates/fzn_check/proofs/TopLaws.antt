@@ -1,7 +1,7 @@
 -- What is written of an end, and the status that is answered.
 use Rattle.std.proofs.Common.{◌≡◌, ◌⊎◌, inl, inr, ℕ, List, [], Option, Some, None, refl, sym, subst, ◌∙◌}
 use Rattle.fzn_io.specs.Faults.{CountRose}
-use Rattle.fzn_io.specs.Streams.{Adds, AddsFront}
+use Rattle.fzn_io.specs.Streams.{Adds, AddsFront, IsHeld}
 use Rattle.fzn_check.specs.Outcome.{Asked, EndsFor, IsEnd, IsErrorLine, IsKnown, IsStop, IsVerdict, IsVerdictLine, NamesFiles, Told, WereAskedFor, Wrote, WroteFront, plain_line}
 use Rattle.fzn_check.specs.Steps.{IsWordsCause}
 use Rattle.fzn_check.specs.declared.status.Status.{Status}
@@ -9,15 +9,15 @@ use Rattle.fzn_check.specs.declared.status.Status.TheVariants.{Right, Usage, Ref
 
 -- the error line of a status that no text gives, and of one that a text gives
 plain_error : (held : Told) (asked : Asked) (status : Status) (line : List ℕ) → (IsStop status → ⊥) → line ≡ plain_line status → IsErrorLine held asked status line
-plain_error held asked Right line no is = is
-plain_error held asked Usage line no is = is
-plain_error held asked (Refused kind number) line no is = absurd (no tt)
-plain_error held asked ReadFault line no is = is
-plain_error held asked WriteFault line no is = is
-plain_error held asked NoMemory line no is = is
-plain_error held asked WrongSolution line no is = is
-plain_error held asked BadText line no is = absurd (no tt)
-plain_error held asked Hidden line no is = absurd (no tt)
+plain_error held asked Right line never is = is
+plain_error held asked Usage line never is = is
+plain_error held asked (Refused kind number) line never is = absurd (never tt)
+plain_error held asked ReadFault line never is = is
+plain_error held asked WriteFault line never is = is
+plain_error held asked NoMemory line never is = is
+plain_error held asked WrongSolution line never is = is
+plain_error held asked BadText line never is = absurd (never tt)
+plain_error held asked Hidden line never is = absurd (never tt)
 
 stop_error : (held : Told) (asked : Asked) (status : Status) (line : List ℕ) → IsStop status → IsEnd held asked status line → IsErrorLine held asked status line
 stop_error held asked Right line stop is = absurd stop
@@ -53,10 +53,10 @@ module _ (held : Told) (asked : Asked) (status result : Status) (line : List ℕ
   result_is = elim ends [ inl same ↦ inl (subst IsVerdict (sym same) verdict) | inr fault ↦ inr fault ]
 
   pub verdict_never : (other : Status) → (IsVerdict other → ⊥) → (other ≡ WriteFault → ⊥) → result ≡ other → ⊥
-  verdict_never other no fault is = elim result_is [ inl v ↦ no (subst IsVerdict is v) | inr w ↦ fault (sym is ∙ w) ]
+  verdict_never other never fault is = elim result_is [ inl v ↦ never (subst IsVerdict is v) | inr w ↦ fault (sym is ∙ w) ]
 
   pub verdict_asked : asked ≡ None → ⊥
-  verdict_asked none = asked_some _ held asked status line none is_end.ends
+  verdict_asked none = asked_some IsHeld held asked status line none is_end.ends
 
   pub verdict_complete : (out_before out_after : ℕ) (other : Status) (text : List ℕ) → (result ≡ WriteFault → CountRose out_before out_after) → EndsFor IsKnown held asked other text
       → (IsVerdict other → CountRose out_before out_after → ⊥) → (result ≡ other) ⊎ (result ≡ NoMemory)
@@ -74,7 +74,7 @@ module _ (held : Told) (asked : Asked) (status result : Status) (line : List ℕ
   verdict_front before after added = record { line = line; is_line = record { status = status; verdict = verdict; is_end = is_end }; added = added }
 
   pub verdict_loud : (IsVerdict result → ⊥) → (result ≡ WriteFault → ⊥) → ⊥
-  verdict_loud no fault = elim result_is [ inl v ↦ no v | inr w ↦ fault w ]
+  verdict_loud never fault = elim result_is [ inl v ↦ never v | inr w ↦ fault w ]
 
   no_stop : IsStop result → ⊥
   no_stop stop = elim result_is [ inl v ↦ verdict_no_stop result v stop | inr w ↦ subst IsStop w stop ]
@@ -89,10 +89,10 @@ module _ (held : Told) (asked : Asked) (status result : Status) (line : List ℕ
 
 module _ (held : Told) (asked : Asked) (status : Status) (line : List ℕ) (stop : IsStop status) (is_end : IsEnd held asked status line) where
   pub stop_never : (other : Status) → (IsStop other → ⊥) → status ≡ other → ⊥
-  stop_never other no is = no (subst IsStop is stop)
+  stop_never other never is = never (subst IsStop is stop)
 
   pub stop_asked : asked ≡ None → ⊥
-  stop_asked none = asked_some _ held asked status line none is_end.ends
+  stop_asked none = asked_some IsHeld held asked status line none is_end.ends
 
   pub stop_complete : (other : Status) (text : List ℕ) → EndsFor IsKnown held asked other text → (status ≡ other) ⊎ (status ≡ NoMemory)
   stop_complete other text known = inl (sym (is_end.alone other text known).0)
@@ -121,7 +121,7 @@ module _ (asked : Asked) (before after : ℕ) where
   plain_is Hidden cause = absurd cause
 
   pub plain_never : (status other : Status) → (IsWordsCause asked before after other → ⊥) → IsWordsCause asked before after status → status ≡ other → ⊥
-  plain_never status other no cause is = no (subst (IsWordsCause asked before after) is cause)
+  plain_never status other never cause is = never (subst (IsWordsCause asked before after) is cause)
 
   pub plain_usage : (status : Status) → IsWordsCause asked before after status → status ≡ Usage → asked ≡ None
   plain_usage status cause is = subst (IsWordsCause asked before after) is cause
@@ -141,7 +141,7 @@ module _ (asked : Asked) (before after : ℕ) where
   pub plain_complete : (held : Told) (status other : Status) (text : List ℕ) → IsWordsCause asked before after status → EndsFor IsKnown held asked other text → (CountRose before after → ⊥)
       → (status ≡ other) ⊎ (status ≡ NoMemory)
   plain_complete held status other text cause known none = elim (plain_is status cause) [
-    | inl usage ↦ absurd (asked_some _ held asked other text usage.1 known)
+    | inl usage ↦ absurd (asked_some IsKnown held asked other text usage.1 known)
     | inr rest ↦ elim rest [ inl read ↦ absurd (none read.1.1) | inr memory ↦ inr memory ]
   ]
 

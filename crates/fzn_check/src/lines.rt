@@ -20,10 +20,9 @@ fn variable_name(model: &FznModel, variable: usize) -> &[u8]
 
 /// What the constraint of this number, counted from 1, is called.
 fn constraint_name(model: &FznModel, number: usize) -> &'static str
-    requires { 0 < number }
     ensures { result.now ≡ constraint_name model.now number }
 {
-    match model.constraints.as_slice().get(number - 1) {
+    match model.constraints.as_slice().get(number.saturating_sub(1)) {
         Some(constraint) => constraint.name.text(),
         None => "",
     }

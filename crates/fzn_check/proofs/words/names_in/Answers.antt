@@ -12,6 +12,6 @@ returns-in_err-solutions c =
     ap (option_map names_meant) c.from_residual-in_err-solutions.ensures
     ∙ names_are (found_of c.args.matches.now) (Some c.in_ok-model.model.now) None c.in_ok-model.ensures c.in_err-solutions.ensures
 
-pub returns-in_ok-solutions : goal.returns-in_ok-solutions
-returns-in_ok-solutions c =
+pub returns : goal.returns
+returns c =
     names_are (found_of c.args.matches.now) (Some c.in_ok-model.model.now) (Some c.in_ok-solutions.solutions.now) c.in_ok-model.ensures c.in_ok-solutions.ensures

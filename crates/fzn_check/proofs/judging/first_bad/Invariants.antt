@@ -5,4 +5,4 @@ use Rattle.fzn_check.proofs.judging.first_bad.Given as goal
 
 -- each solution so far is one
 abbrev pub invariant-loop-place : goal.invariant-loop-place
-invariant-loop-place l = (k : ℕ) → k < l.place → IsSolution l.model (slice_index_or l.solutions k [])
+invariant-loop-place g l = (k : ℕ) → k < l.place → IsSolution l.model (slice_index_or l.solutions k [])

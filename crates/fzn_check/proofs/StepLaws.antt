@@ -5,6 +5,7 @@ use Rattle.std.proofs.lemmas.Bool.{cases_order}
 use Rattle.std.proofs.lemmas.List.Elements.{All-cons}
 use Rattle.fzn_io.specs.Faults.{CountRose, last_count}
 use Rattle.fzn_io.specs.Streams.{Adds, AddsFront, IsHeld, IsLonger, IsNextName, IsPartRead, later_names}
+use Rattle.fzn_io.specs.declared.whole.ReadError.{ReadError}
 use Rattle.clap.specs.Walk.{Text}
 use Rattle.constraint_model.specs.declared.model.FznModel.{FznModel}
 use Rattle.fzn_print.specs.declared.answers.Answer.{Answer}
@@ -127,6 +128,13 @@ long_stop model held before after (Ending.Stopped s l) longer made =
     let ends = bad_end model some.0 s l.items (inl some.1.1) made.0 made.1 in
     (ends.0, record { bytes = some.0; told = some.1.0; is_end = ends.1 })
 long_stop model held before after (Ending.Plain s) longer made = subst (IsReadCause before after) (sym made) tt
+
+-- a text of solutions that isn't read whole
+pub unread_held : (model : FznModel) (held : Option (Option (List ℕ))) (before after : ℕ) (error : ReadError) (e : Ending) → (error ≡ ReadError.ReadFault → CountRose before after)
+    → (error ≡ ReadError.TooLong → IsLonger held most_bytes) → IsUnread error e → IsHeldEnding model held before after e
+unread_held model held before after ReadError.ReadFault e fault long is = subst (IsHeldEnding model held before after) (sym is) (fault refl)
+unread_held model held before after ReadError.TooLong e fault long is = long_stop model held before after e (long refl) is
+unread_held model held before after ReadError.NoMemory e fault long is = subst (IsHeldEnding model held before after) (sym is) tt
 
 pub late_held : (model : FznModel) (held : Option (Option (List ℕ))) (bytes : List ℕ) (before after : ℕ) (e : Ending) → IsHeld held bytes → IsLateEnding model bytes e → IsHeldEnding model held before after e
 late_held model held bytes before after (Ending.Judged s l) told ends = (ends.0, record { bytes = bytes; told = told; is_end = ends.1 })

@@ -3,5 +3,6 @@ pub mod WithinLaws
 pub mod WrongLaws
 pub mod EndLaws
 pub mod StepLaws
+pub mod BadLaws
 pub mod TopLaws
 pub mod WordLaws

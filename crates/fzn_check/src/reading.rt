@@ -111,6 +111,7 @@ fn check_solutions<R: Threads + Sync, S: Source>(
     requires open { IsNextName (S.names files.old) name.now }
     ensures ends { IsHeldEnding model.now (S.held files.old name.now) (S.faults files.old) (S.faults files.new) result }
     ensures late { MayEndLate (status_in result) }
+    ensures never_falls { S.faults files.old ≤ S.faults files.new }
     ensures held_kept { S.held files.new ≡ S.held files.old }
     ensures asked { WasAsked (S.held files.old name.now) (S.names files.old) (S.names files.new) (S.left files.new) (S.is_open files.new) (status_in result ≡ Status.ReadFault) }
 {

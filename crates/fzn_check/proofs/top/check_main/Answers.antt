@@ -1,4 +1,5 @@
 use Rattle.std.proofs.Common.{◌≡◌, ◌∙◌, sym, subst, inl, inr}
+use Rattle.fzn_check.specs.Words.{names_of}
 use Rattle.fzn_check.specs.Outcome.{WereAskedFor}
 use Rattle.fzn_check.specs.Steps.{IsEnding, status_in}
 use Rattle.fzn_check.specs.declared.ending.Ending.{Ending}
@@ -25,12 +26,12 @@ returns-in-Judged-clause-complete g c =
 pub returns-in-Judged-clause-verdict : goal.returns-in-Judged-clause-verdict
 returns-in-Judged-clause-verdict g c =
     let e = subst (IsEnding _ _ _ _) c.in-Judged.is c.check_words.ensures.ends in
-    λ is. verdict_wrote _ _ _ _ _ e.0 e.1 c.tell_verdict.ensures.ends _ _ c.tell_verdict.ensures.verdict is
+    λ is. verdict_wrote _ _ _ _ _ e.0 e.1 c.tell_verdict.ensures.ends _ _ (λ same. rw c.deref.ensures.value at c.tell_verdict.ensures.verdict same) is
 
 pub returns-in-Judged-clause-front : goal.returns-in-Judged-clause-front
 returns-in-Judged-clause-front g c =
     let e = subst (IsEnding _ _ _ _) c.in-Judged.is c.check_words.ensures.ends in
-    λ is. verdict_front _ _ _ _ _ e.0 e.1 c.tell_verdict.ensures.ends _ _ c.tell_verdict.ensures.front
+    λ is. verdict_front _ _ _ _ _ e.0 e.1 c.tell_verdict.ensures.ends _ _ (rw c.deref.ensures.value at c.tell_verdict.ensures.front)
 
 pub returns-in-Judged-clause-silent : goal.returns-in-Judged-clause-silent
 returns-in-Judged-clause-silent g c =
@@ -45,7 +46,13 @@ returns-in-Judged-clause-read_fault g c =
 pub returns-in-Judged-clause-asked : goal.returns-in-Judged-clause-asked
 returns-in-Judged-clause-asked g c =
     let e = subst (IsEnding _ _ _ _) c.in-Judged.is c.check_words.ensures.ends in
-    λ names. elim (c.check_words.ensures.asked names) [ inl early ↦ (let bad : Ending.Judged _ _ ≡ Ending.Plain NoMemory = sym c.in-Judged.is ∙ early.1 in cc) | inr were ↦ inr (written_asked _ _ _ _ _ _ _ _ e.0 c.tell_verdict.ensures.ends (subst (λ x. WereAskedFor _ _ _ _ _ _ (status_in x)) c.in-Judged.is were)) ]
+    λ names. elim (c.check_words.ensures.asked names) [
+      | inl early ↦ (let bad : Ending.Judged c.in-Judged.status c.in-Judged.line ≡ Ending.Plain NoMemory = sym c.in-Judged.is ∙ early.1 in cc)
+      | inr were ↦ inr (written_asked (g.S.Source.held c.args.files.now) (names_of c.args.words.now) (g.S.Source.names c.args.files.now) (g.S.Source.names c.check_words.new.files) (g.S.Source.left c.check_words.new.files)
+          (g.S.Source.is_open c.check_words.new.files) _ _ e.0 c.tell_verdict.ensures.ends
+          (subst (λ x. WereAskedFor (g.S.Source.held c.args.files.now) (names_of c.args.words.now) (g.S.Source.names c.args.files.now) (g.S.Source.names c.check_words.new.files) (g.S.Source.left c.check_words.new.files)
+            (g.S.Source.is_open c.check_words.new.files) (status_in x)) c.in-Judged.is were))
+    ]
 
 pub returns-in-Judged-clause-err_line : goal.returns-in-Judged-clause-err_line
 returns-in-Judged-clause-err_line g c =
@@ -95,12 +102,12 @@ returns-in-Stopped-clause-write_fault g c =
 pub returns-in-Stopped-clause-err_line : goal.returns-in-Stopped-clause-err_line
 returns-in-Stopped-clause-err_line g c =
     let e = subst (IsEnding _ _ _ _) c.in-Stopped.is c.check_words.ensures.ends in
-    λ sound. stop_wrote _ _ _ _ e.0 e.1 _ _ (c.tell_error.ensures.line sound)
+    λ sound. stop_wrote _ _ _ _ e.0 e.1 _ _ (rw c.deref-in-Stopped.ensures.value at c.tell_error.ensures.line sound)
 
 pub returns-in-Stopped-clause-err_front : goal.returns-in-Stopped-clause-err_front
 returns-in-Stopped-clause-err_front g c =
     let e = subst (IsEnding _ _ _ _) c.in-Stopped.is c.check_words.ensures.ends in
-    stop_front _ _ _ _ e.0 e.1 _ _ c.tell_error.ensures.front
+    stop_front _ _ _ _ e.0 e.1 _ _ (rw c.deref-in-Stopped.ensures.value at c.tell_error.ensures.front)
 
 pub returns-in-Plain-clause-usage : goal.returns-in-Plain-clause-usage
 returns-in-Plain-clause-usage g c =
@@ -140,9 +147,9 @@ returns-in-Plain-clause-write_fault g c =
 pub returns-in-Plain-clause-err_line : goal.returns-in-Plain-clause-err_line
 returns-in-Plain-clause-err_line g c =
     let e = subst (IsEnding _ _ _ _) c.in-Plain.is c.check_words.ensures.ends in
-    λ sound. plain_wrote _ _ _ _ _ _ _ e (c.tell_error.ensures.line sound)
+    λ sound. plain_wrote _ _ _ _ _ _ _ e (rw c.plain_line.ensures at c.tell_error-in-Plain.ensures.line sound)
 
 pub returns-in-Plain-clause-err_front : goal.returns-in-Plain-clause-err_front
 returns-in-Plain-clause-err_front g c =
     let e = subst (IsEnding _ _ _ _) c.in-Plain.is c.check_words.ensures.ends in
-    plain_front _ _ _ _ _ _ _ e c.tell_error.ensures.front
+    plain_front _ _ _ _ _ _ _ e (rw c.plain_line.ensures at c.tell_error-in-Plain.ensures.front)

@@ -86,8 +86,16 @@ pub(crate) fn assert_ended(
     let (status, out, err) = *ended;
     let (model, solutions) = texts;
     assert_eq!(rt; outcome.status, status, "at {model} and {solutions}");
-    assert_eq!(rt; outcome.out.bytes(), out.as_bytes(), "at {model} and {solutions}");
-    assert_eq!(rt; outcome.err.bytes(), err.as_bytes(), "at {model} and {solutions}");
+    assert_eq!(rt;
+        outcome.out.bytes(),
+        out.as_bytes(),
+        "at {model} and {solutions}"
+    );
+    assert_eq!(rt;
+        outcome.err.bytes(),
+        err.as_bytes(),
+        "at {model} and {solutions}"
+    );
 }
 
 /// The checker ends so on these texts, over streams of which no call fails.

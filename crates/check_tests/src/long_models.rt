@@ -20,11 +20,23 @@ const VIOLATED: &str = "constraint int_lt(x,5);\n";
 /// Parts of the constraints, each with how often it stands, and the line that is told.
 const MODELS: &[(&[(&str, usize)], &str)] = &[
     // The last of 3,000.
-    (&[(SHORT, 2_999), (VIOLATED, 1)], "solution 1 violates 3000 int_lt\n"),
-    (&[(VIOLATED, 1), (SHORT, 2_999)], "solution 1 violates 1 int_lt\n"),
+    (
+        &[(SHORT, 2_999), (VIOLATED, 1)],
+        "solution 1 violates 3000 int_lt\n",
+    ),
+    (
+        &[(VIOLATED, 1), (SHORT, 2_999)],
+        "solution 1 violates 1 int_lt\n",
+    ),
     // Two of which the later one is found first.
     (
-        &[(LONG, 63), (VIOLATED, 1), (SHORT, 2_000), (VIOLATED, 1), (SHORT, 900)],
+        &[
+            (LONG, 63),
+            (VIOLATED, 1),
+            (SHORT, 2_000),
+            (VIOLATED, 1),
+            (SHORT, 900),
+        ],
         "solution 1 violates 64 int_lt\n",
     ),
 ];

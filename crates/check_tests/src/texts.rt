@@ -27,7 +27,11 @@ const RIGHT: &[(&str, &str, &str)] = &[
         "x = -3;\ny = 2;\n----------\nx = -2;\ny = 3;\n----------\nx = 2;\ny = -3;\n----------\nx = 3;\ny = -2;\n----------\n==========\n",
         "ok 4\n",
     ),
-    (FACTORS, "x = 3;\ny = -2;\n----------\nx = 3;\ny = -2;\n----------\n", "ok 2\n"),
+    (
+        FACTORS,
+        "x = 3;\ny = -2;\n----------\nx = 3;\ny = -2;\n----------\n",
+        "ok 2\n",
+    ),
     // Whether what the mark says is true isn't judged.
     (FACTORS, "", "ok 0\n"),
     (FACTORS, "==========\n", "ok 0\n"),
@@ -38,7 +42,11 @@ const RIGHT: &[(&str, &str, &str)] = &[
         "x = 1;\na = array1d(1..3, [1, 5, 1]);\ne = array1d(1..0, []);\n----------\n",
         "ok 1\n",
     ),
-    (REIFIED, "x = 3;\nb = true;\n----------\nx = 2;\nb = false;\n----------\n", "ok 2\n"),
+    (
+        REIFIED,
+        "x = 3;\nb = true;\n----------\nx = 2;\nb = false;\n----------\n",
+        "ok 2\n",
+    ),
     (CHAIN, "x = 4;\ny = 9;\n----------\n", "ok 1\n"),
     (EMPTY, "----------\n----------\n==========\n", "ok 2\n"),
 ];
@@ -70,17 +78,53 @@ const WRONG: &[(&str, &str, &str)] = &[
         "solution 2 violates 1 int_times\n",
     ),
     // Both variables are outside, and the product is no -6.
-    (FACTORS, "x = -4;\ny = 9;\n----------\n", "solution 1 outside x\n"),
-    (FACTORS, "x = 3;\ny = 4;\n----------\n", "solution 1 outside y\n"),
+    (
+        FACTORS,
+        "x = -4;\ny = 9;\n----------\n",
+        "solution 1 outside x\n",
+    ),
+    (
+        FACTORS,
+        "x = 3;\ny = 4;\n----------\n",
+        "solution 1 outside y\n",
+    ),
     // The greatest number of the profile.
-    (FACTORS, "x = 140737488355327;\ny = 1;\n----------\n", "solution 1 outside x\n"),
-    (REIFIED, "x = 3;\nb = false;\n----------\n", "solution 1 violates 1 int_eq_reif\n"),
-    (REIFIED, "x = 2;\nb = true;\n----------\n", "solution 1 violates 1 int_eq_reif\n"),
+    (
+        FACTORS,
+        "x = 140737488355327;\ny = 1;\n----------\n",
+        "solution 1 outside x\n",
+    ),
+    (
+        REIFIED,
+        "x = 3;\nb = false;\n----------\n",
+        "solution 1 violates 1 int_eq_reif\n",
+    ),
+    (
+        REIFIED,
+        "x = 2;\nb = true;\n----------\n",
+        "solution 1 violates 1 int_eq_reif\n",
+    ),
     // A hole of the declared set is no bound.
-    (CHAIN, "x = 5;\ny = 9;\n----------\n", "solution 1 violates 1 set_in\n"),
-    (CHAIN, "x = 0;\ny = 9;\n----------\n", "solution 1 outside x\n"),
-    (CHAIN, "x = 9;\ny = 8;\n----------\n", "solution 1 violates 2 int_le\n"),
-    (CHAIN, "x = 9;\ny = 9;\n----------\n", "solution 1 violates 3 int_ne\n"),
+    (
+        CHAIN,
+        "x = 5;\ny = 9;\n----------\n",
+        "solution 1 violates 1 set_in\n",
+    ),
+    (
+        CHAIN,
+        "x = 0;\ny = 9;\n----------\n",
+        "solution 1 outside x\n",
+    ),
+    (
+        CHAIN,
+        "x = 9;\ny = 8;\n----------\n",
+        "solution 1 violates 2 int_le\n",
+    ),
+    (
+        CHAIN,
+        "x = 9;\ny = 9;\n----------\n",
+        "solution 1 violates 3 int_ne\n",
+    ),
 ];
 
 #[test]
@@ -112,12 +156,27 @@ const BAD: &[(&str, &str)] = &[
     (FACTORS, "x = ;\ny = -3;\n----------\n"),
     // One past the profile.
     (FACTORS, "x = 140737488355328;\ny = 1;\n----------\n"),
-    (FACTORS, "x = 99999999999999999999999999;\ny = 1;\n----------\n"),
+    (
+        FACTORS,
+        "x = 99999999999999999999999999;\ny = 1;\n----------\n",
+    ),
     // Two numbers for one variable, and another number for a constant.
-    (TWICE, "x = 1;\na = array1d(1..3, [1, 5, 2]);\ne = array1d(1..0, []);\n----------\n"),
-    (TWICE, "x = 1;\na = array1d(1..3, [2, 5, 2]);\ne = array1d(1..0, []);\n----------\n"),
-    (TWICE, "x = 1;\na = array1d(1..3, [1, 6, 1]);\ne = array1d(1..0, []);\n----------\n"),
-    (TWICE, "x = 1;\na = array1d(1..3, [1, 5]);\ne = array1d(1..0, []);\n----------\n"),
+    (
+        TWICE,
+        "x = 1;\na = array1d(1..3, [1, 5, 2]);\ne = array1d(1..0, []);\n----------\n",
+    ),
+    (
+        TWICE,
+        "x = 1;\na = array1d(1..3, [2, 5, 2]);\ne = array1d(1..0, []);\n----------\n",
+    ),
+    (
+        TWICE,
+        "x = 1;\na = array1d(1..3, [1, 6, 1]);\ne = array1d(1..0, []);\n----------\n",
+    ),
+    (
+        TWICE,
+        "x = 1;\na = array1d(1..3, [1, 5]);\ne = array1d(1..0, []);\n----------\n",
+    ),
     (REIFIED, "x = 3;\nb = 1;\n----------\n"),
     (EMPTY, "---------\n"),
 ];

@@ -63,15 +63,18 @@ in_profile vars a values = profile_by vars a values.same_length values.each
 -- an end of this status and line, by what the model's text says
 pub early_stop : (text : List ℕ) (status : Status) (line : List ℕ) (e : Ending) → StopsWith status line e → IsStop status → MayEndEarly status → EndsEarly text status line → IsEarlyText text e
 early_stop text status line (Ending.Judged s l) made stop early ends = absurd made
-early_stop text status line (Ending.Stopped s l) made stop early ends =
-    (subst IsStop (sym made.0) stop, subst MayEndEarly (sym made.0) early,
-    subst (λ (q : Status). EndsEarly text q l.items) (sym made.0) (subst (λ (x : List ℕ). EndsEarly text status x) (sym made.1) ends))
+early_stop text status line (Ending.Stopped s l) made stop early ends = (
+  subst IsStop (sym made.0) stop,
+  subst MayEndEarly (sym made.0) early,
+  subst (λ (q : Status). EndsEarly text q l.items) (sym made.0) (subst (λ (x : List ℕ). EndsEarly text status x) (sym made.1) ends),
+)
 early_stop text status line (Ending.Plain s) made stop early ends = made
 
 pub judgement : (model : FznModel) (answer : Answer) (status : Status) (line : List ℕ) (e : Ending) → JudgesWith status line e → EndsJudged model answer status line → IsJudgement model answer e
-judgement model answer status line (Ending.Judged s l) made judged =
-    (subst IsVerdict (sym made.0) (judged_verdict model answer status line judged),
-    subst (λ (q : Status). EndsJudged model answer q l.items) (sym made.0) (subst (λ (x : List ℕ). EndsJudged model answer status x) (sym made.1) judged))
+judgement model answer status line (Ending.Judged s l) made judged = (
+  subst IsVerdict (sym made.0) (judged_verdict model answer status line judged),
+  subst (λ (q : Status). EndsJudged model answer q l.items) (sym made.0) (subst (λ (x : List ℕ). EndsJudged model answer status x) (sym made.1) judged),
+)
 judgement model answer status line (Ending.Stopped s l) made judged = absurd made
 judgement model answer status line (Ending.Plain s) made judged = made
 
@@ -174,11 +177,13 @@ module _ (one_model : (text : List ℕ) (m n : FznModel) → IsTextOf text m →
     (never_both : (text : List ℕ) (m : FznModel) (k at : ℕ) → IsTextOf text m → IsFaultOf text k at → ⊥) where
   pub early_whole : (held : Told) (names : Text × Text) (before after : ℕ) (e : Ending) → before ≤ after → IsEarlyEnding (held names.0) before after e → IsEnding held (Some names) before after e
   early_whole held names before after (Ending.Judged s l) low ends = absurd ends
-  early_whole held names before after (Ending.Stopped s l) low h =
-      (h.stops, record {
-        ends = inl (record { text = h.text; held = h.told; ends = h.ends });
-        alone = λ other text g. early_only one_model one_fault never_both (held names.0) (held names.1) h.text s other l.items text h.told h.ends g;
-      })
+  early_whole held names before after (Ending.Stopped s l) low h = (
+    h.stops,
+    record {
+      ends = inl (record { text = h.text; held = h.told; ends = h.ends });
+      alone = λ other text g. early_only one_model one_fault never_both (held names.0) (held names.1) h.text s other l.items text h.told h.ends g;
+    },
+  )
   early_whole held names before after (Ending.Plain s) low cause = words_cause names before before after s (omega arith) low cause
 
   late_whole_end : (held : Told) (names : Text × Text) (text : List ℕ) (model : FznModel) (s : Status) (line : List ℕ) → IsHeld (held names.0) text → IsTextOf text model → AllPrinted model

@@ -84,12 +84,7 @@ fn first_bad(
 }
 
 /// The end of a check of an answer.
-fn judge(
-    rt: &(impl Threads + Sync),
-    alloc: Global,
-    model: &FznModel,
-    answer: &Answer,
-) -> Ending
+fn judge(rt: &(impl Threads + Sync), alloc: Global, model: &FznModel, answer: &Answer) -> Ending
     requires model { IsWellFormed model.now }
     requires values { All (AreValues model.now.vars) answer.now.solutions }
     ensures { IsJudgement model.now answer.now result }

@@ -67,11 +67,7 @@ fn check_files<R: Threads + Sync, S: Source>(
 }
 
 /// The text of the model's file.
-fn read_model_file<S: Source>(
-    alloc: Global,
-    name: &str,
-    files: &mut S,
-) -> Result<Vec<u8>, Ending>
+fn read_model_file<S: Source>(alloc: Global, name: &str, files: &mut S) -> Result<Vec<u8>, Ending>
     requires { IsNextName (S.names files.old) name.now }
     ensures ok { IfOk result (λ text. IsHeld (S.held files.old name.now) text.items) }
     ensures ends { IfErr result (IsEarlyEnding (S.held files.old name.now) (S.faults files.old) (S.faults files.new)) }

@@ -54,10 +54,7 @@ pub(crate) fn plain_line(status: Status) -> &'static [u8]
         Status::ReadFault => b"read fault\n",
         Status::WriteFault => b"write fault\n",
         Status::NoMemory => b"out of memory\n",
-        Status::Right
-        | Status::Refused { .. }
-        | Status::Wrong
-        | Status::BadText
-        | Status::Hidden => b"",
+        Status::Right | Status::Refused { .. } | Status::Wrong | Status::BadText | Status::Hidden =>
+            b"",
     }
 }

@@ -60,12 +60,7 @@ pub fn check_main<R: Threads + Sync, S: Source, K: Sink, E: Sink>(
 }
 
 /// Writes the line of a verdict.
-fn tell_verdict<K: Sink, E: Sink>(
-    out: &mut K,
-    err: &mut E,
-    status: Status,
-    line: &[u8],
-) -> Status
+fn tell_verdict<K: Sink, E: Sink>(out: &mut K, err: &mut E, status: Status, line: &[u8]) -> Status
     requires { IsVerdict status }
     ensures ends { (result ≡ status) ⊎ (result ≡ Status.WriteFault) }
     ensures verdict { result ≡ status → Adds (K.written out.old) (K.written out.new) line.now }

@@ -51,7 +51,7 @@ returns-in-Judged-clause-asked g c =
       | inr were ↦ inr (written_asked (g.S.Source.held c.args.files.now) (names_of c.args.words.now) (g.S.Source.names c.args.files.now) (g.S.Source.names c.check_words.new.files) (g.S.Source.left c.check_words.new.files)
           (g.S.Source.is_open c.check_words.new.files) _ _ e.0 c.tell_verdict.ensures.ends
           (subst (λ x. WereAskedFor (g.S.Source.held c.args.files.now) (names_of c.args.words.now) (g.S.Source.names c.args.files.now) (g.S.Source.names c.check_words.new.files) (g.S.Source.left c.check_words.new.files)
-            (g.S.Source.is_open c.check_words.new.files) (status_in x)) c.in-Judged.is were))
+          (g.S.Source.is_open c.check_words.new.files) (status_in x)) c.in-Judged.is were))
     ]
 
 pub returns-in-Judged-clause-err_line : goal.returns-in-Judged-clause-err_line

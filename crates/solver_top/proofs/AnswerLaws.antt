@@ -8,7 +8,7 @@ use Rattle.answer.specs.Finished.{IsFinished}
 use Rattle.answer.specs.Laws.{OneFinished, UnfinishedMarks}
 use Rattle.fzn_print.specs.AnswerText.{answer_text}
 use Rattle.made_model.specs.Made.{summary}
-use Rattle.solver_top.specs.Texts.{IsTextOf}
+use Rattle.model_text.specs.Texts.{IsTextOf}
 use Rattle.solver_top.specs.Answers.{HasNoLimit, IsAnswerOf, IsAnswerWith, IsLineOf, known_objective}
 use Rattle.solver_top.proofs.KnownLaws.{known_is}
 

@@ -2,4 +2,3 @@ pub mod AnswerLaws
 pub mod MadeLaws
 pub mod KnownLaws
 pub mod OutcomeLaws
-pub mod TextLaws

@@ -10,7 +10,7 @@ use Rattle.fzn_print.specs.declared.answers.Answer.{Answer}
 use Rattle.answer.specs.Finished.{Gives, IsFinished, IsOptimal}
 use Rattle.made_model.specs.Made.{made, summary}
 use Rattle.made_laws.specs.Models.{HasSolvedModel, MadeHasModel, spaced}
-use Rattle.solver_top.specs.Texts.{HasFaultOn, IsFaultOf, IsTextOf}
+use Rattle.model_text.specs.Texts.{HasFaultOn, IsFaultOf, IsTextOf}
 use Rattle.solver_top.specs.Answers.{IsKnown, IsLineOf, first_objective, known_at, known_objective}
 use Rattle.solver_top.specs.MadeTexts.{MadeLinesSayLeast, MadeTextsHaveModels, MadeTextsHaveNoFault, SaysLeast}
 

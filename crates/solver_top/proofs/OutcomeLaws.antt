@@ -1,33 +1,18 @@
 -- Laws on the causes of the statuses.
 use Rattle.std.proofs.Common.{◌≡◌, ◌⊎◌, inl, inr, ℕ, zero, suc, ◌+◌, ◌<◌, List, [], ◌∷◌, length, Option, None, Some, Result, Ok, Err, IfErr, subst, sym, ap, refl, ◌∙◌, arith}
 use Rattle.fzn_io.specs.Faults.{CountRose}
-use Rattle.fzn_io.specs.Streams.{Adds, AddsFront, IsHeld, IsLonger, IsNextName}
+use Rattle.fzn_io.specs.Streams.{Adds, AddsFront, IsHeld, IsNextName}
 use Rattle.constraint_model.specs.declared.model.FznModel.{FznModel}
 use Rattle.command_line.specs.declared.words.Input.{Input}
 use Rattle.command_line.specs.declared.words.Options.{Options}
 use Rattle.command_line.specs.CommandLine.{InputOf, file, input_meant, made as made_of}
 use Rattle.made_model.specs.Made.{made}
-use Rattle.solver_top.specs.Texts.{IsTextOf, IsFaultOf, HasFaultOn, fault_line, most_bytes, too_long}
+use Rattle.model_text.specs.Texts.{IsTextOf, IsFaultOf, HasFaultOn, fault_line}
+use Rattle.model_text.specs.Files.{IsFaultOfTold, ToldHasFault, ToldHasModel}
 use Rattle.solver_top.specs.Answers.{IsAnswerOf, IsLineOf}
-use Rattle.solver_top.specs.Outcome.{Asked, CanOpen, IsAnswerOfInput, IsAnswerOfWords, IsFaultOfTold, IsFileAlone, IsFileCause, IsInputCause, IsRefused, IsTextCause, IsWordsCause, IsWritten, ReadsFile, Told, ToldHasFault, ToldHasModel, WroteAnswer, WroteFront, told_of, told_text}
+use Rattle.solver_top.specs.Outcome.{Asked, CanOpen, IsAnswerOfInput, IsAnswerOfWords, IsFileAlone, IsFileCause, IsInputCause, IsRefused, IsTextCause, IsWordsCause, IsWritten, ReadsFile, Told, WroteAnswer, WroteFront, told_of, told_text}
 use Rattle.solver_top.specs.declared.status.Status.{Status}
 use Rattle.solver_top.specs.declared.status.Status.TheVariants.{Answered, Usage, Refused, ReadFault, WriteFault, NoMemory}
-
--- a file that is too long has that fault
-long_list : (n : ℕ) → (text : List ℕ) × (length text ≡ n)
-long_list zero = ([], refl)
-long_list (suc n) = let rest = long_list n in (0 ∷ rest.0, ap suc rest.1)
-
-too_long_text : (held : Option (Option (List ℕ))) (text : List ℕ) → IsHeld held text → most_bytes < length text → IsFaultOfTold held too_long 0
-too_long_text held text told long = record { text = text; told = told; fault = record { at = 0; fault = inl (record { long = long; is_kind = refl; first = refl }); is_line = refl } }
-
-some_long : (n : ℕ) → n ≡ most_bytes + 1 → IsFaultOfTold None too_long 0
-some_long n e = let some = long_list n in let same = some.1 in too_long_text None some.0 tt (omega arith)
-
-pub too_long_file : (held : Option (Option (List ℕ))) → IsLonger held most_bytes → IsFaultOfTold held too_long 0
-too_long_file None longer = some_long (most_bytes + 1) refl
-too_long_file (Some None) longer = absurd longer
-too_long_file (Some (Some bytes)) longer = too_long_text (Some (Some bytes)) bytes refl longer
 
 -- a source that may be asked for a file alone may be asked for it next
 pub next_name : (names : Option (List (List ℕ))) (name : List ℕ) → IsFileAlone names name → IsNextName names name

@@ -15,7 +15,7 @@ use Rattle.answer.specs.Finished.{IsFinished}
 use Rattle.answer.specs.Unfinished.{IsUnfinished}
 use Rattle.answer.specs.Answers.{IsWhole, IsAnswer}
 use Rattle.made_model.specs.Made.{made, summary}
-use Rattle.solver_top.specs.Texts.{IsTextOf}
+use Rattle.model_text.specs.Texts.{IsTextOf}
 
 -- the options of the words as the search takes them
 abbrev pub search_options : Options → SearchOptions

@@ -4,7 +4,7 @@ use Rattle.constraint_model.specs.declared.model.FznModel.{FznModel}
 use Rattle.command_line.specs.declared.words.Options.{Options}
 use Rattle.answer.specs.Least.{IsLeastCost}
 use Rattle.made_model.specs.Made.{made, summary}
-use Rattle.solver_top.specs.Texts.{HasFaultOn, IsTextOf}
+use Rattle.model_text.specs.Texts.{HasFaultOn, IsTextOf}
 use Rattle.solver_top.specs.Answers.{HasNoLimit, IsLineOf}
 
 -- each made text has a model

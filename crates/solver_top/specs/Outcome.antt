@@ -1,18 +1,15 @@
 -- What the top call owes: its statuses, each with its cause, and what it writes.
 --
 -- The statuses and their lines are this program's own.
-use Rattle.std.specs.Prelude.{◌≡◌, ℕ, ◌+◌, ◌≤◌, List, [], ◌∷◌, ◌++◌, length, take, codes, Bool, true, false, Option, Some, None}
-use Rattle.std.specs.Option.{option_map_or}
+use Rattle.std.specs.Prelude.{◌≡◌, ℕ, ◌≤◌, List, [], ◌∷◌, ◌++◌, length, take, codes, Option, Some, None}
 use Rattle.fzn_io.specs.Faults.{CountRose}
-use Rattle.fzn_io.specs.Streams.{Adds, IsHeld, IsPartRead, later_names}
-use Rattle.std.specs.Fmt.{decimal}
-use Rattle.constraint_model.specs.declared.model.FznModel.{FznModel}
-use Rattle.fzn_model.specs.FaultKinds.{kind_name as name_of, kind_numbered}
+use Rattle.fzn_io.specs.Streams.{Adds, IsHeld}
 use Rattle.fzn_print.specs.AnswerText.{line_end}
 use Rattle.command_line.specs.declared.words.Options.{Options}
 use Rattle.command_line.specs.CommandLine.{InputOf, file, made as made_of}
 use Rattle.made_model.specs.Made.{made}
-use Rattle.solver_top.specs.Texts.{IsTextOf, HasFaultOn, most_bytes}
+use Rattle.model_text.specs.Texts.{HasFaultOn}
+use Rattle.model_text.specs.Files.{IsFaultOfTold, refusal_line}
 use Rattle.solver_top.specs.Answers.{IsAnswerOf, IsLineOf}
 use Rattle.solver_top.specs.declared.status.Status.{Status}
 use Rattle.solver_top.specs.declared.status.Status.TheVariants.{Answered, Usage, Refused, ReadFault, WriteFault, NoMemory}
@@ -63,24 +60,6 @@ pub record WroteFront (held : Told) (asked : Option Asked) (before after : Optio
   pub within : count ≤ length bytes
   pub added : Adds before after (take count bytes)
 
--- The text that is told of has a fault of this kind on this line.
-pub record IsFaultOfTold (held : Option (Option (List ℕ))) (kind line : ℕ) : Type 0 where
-  pub text : List ℕ
-  pub told : IsHeld held text
-  pub fault : HasFaultOn text kind line
-
--- The text is known, and has a fault of this kind on this line.
-abbrev pub ToldHasFault : Option (Option (List ℕ)) → ℕ → ℕ → Type 0
-ToldHasFault None kind line = ⊥
-ToldHasFault (Some None) kind line = ⊥
-ToldHasFault (Some (Some text)) kind line = HasFaultOn text kind line
-
--- The text is known, and has a model.
-abbrev pub ToldHasModel : Option (Option (List ℕ)) → Type 0
-ToldHasModel None = ⊥
-ToldHasModel (Some None) = ⊥
-ToldHasModel (Some (Some text)) = (model : FznModel) × IsTextOf text model
-
 -- The words name a file that is to be read.
 abbrev pub ReadsFile : Option Asked → Type 0
 ReadsFile None = ⊥
@@ -101,13 +80,6 @@ IsAskedAlone names (Some (options, made_of n)) = Unit {0}
 abbrev pub CanOpen : Option (List (List ℕ)) → Option Asked → Type 0
 CanOpen None asked = Unit {0}
 CanOpen (Some names) asked = IsAskedAlone names asked
-
--- A source was asked for a file, and tells this of it: its name has left the list; where it is open, a front of it was read; and
--- only where the source refused it isn't open.
-pub record WasAsked (held : Option (Option (List ℕ))) (before after : Option (List (List ℕ))) (left : Option (List ℕ)) (is_open : Bool) (refused : Type 0) : Type 0 where
-  pub name_leaves : after ≡ later_names before
-  pub part_read : is_open ≡ true → IsPartRead held left (most_bytes + 1)
-  pub closed : is_open ≡ false → refused
 
 -- Why a text may have no answer.
 abbrev pub IsTextCause : List ℕ → Status → Type 0
@@ -148,15 +120,11 @@ status_code ReadFault = 3
 status_code WriteFault = 4
 status_code NoMemory = 5
 
--- The name of a kind of fault.
-abbrev pub kind_name : ℕ → List ℕ
-kind_name kind = option_map_or name_of (kind_numbered kind) []
-
 -- The line that goes to standard error with a status.
 abbrev pub status_line : Status → List ℕ
 status_line Answered = []
 status_line Usage = codes "usage: turbofzn [-a] [-p N] [--lanes N] [--depth D] [--node-limit N] [--round-limit N] (FILE or --make N)" ++ line_end
-status_line (Refused kind line) = codes "refused " ++ decimal kind ++ codes " " ++ kind_name kind ++ codes " line " ++ decimal line ++ line_end
+status_line (Refused kind line) = refusal_line kind line
 status_line ReadFault = codes "read fault" ++ line_end
 status_line WriteFault = codes "write fault" ++ line_end
 status_line NoMemory = codes "out of memory" ++ line_end

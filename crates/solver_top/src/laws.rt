@@ -1,29 +1,14 @@
 //! What the definitions say by themselves, as calls that do nothing.
 
-ghost use Rattle.std.specs.Prelude.{◌≡◌, ◌⊎◌, ℕ, List};
+ghost use Rattle.std.specs.Prelude.{◌≡◌, ℕ, List};
 ghost use Rattle.solver_top.specs.MadeTexts.{MadeLinesSayLeast, MadeTextsHaveModels, MadeTextsHaveNoFault};
-ghost use Rattle.constraint_model.specs.declared.model.FznModel.{FznModel};
 ghost use Rattle.command_line.specs.declared.words.Options.{Options};
-ghost use Rattle.solver_top.specs.Texts.{IsTextOf, IsFaultOf};
 ghost use Rattle.solver_top.specs.Answers.{HasNoLimit, IsAnswerOf, IsLineOf};
 
 use answer::{law_one_finished, law_unfinished_marks};
-use fzn_lexer::law_one_reading as law_one_lexing;
-use fzn_model::{law_one_model, law_well_formed};
-use fzn_parser::laws::law_one_reading as law_one_parsing;
+use fzn_model::law_well_formed;
 use made_laws::law_made_has_a_model;
-
-/// Every text has one model or one fault, and never both. It does nothing.
-pub fn law_one_text()
-    ensures some { (text : List ℕ) → ((m : FznModel) × IsTextOf text m) ⊎ ((k : ℕ) × ((at : ℕ) × IsFaultOf text k at)) }
-    ensures one_model { (text : List ℕ) (m n : FznModel) → IsTextOf text m → IsTextOf text n → m ≡ n }
-    ensures one_fault { (text : List ℕ) (k l at place : ℕ) → IsFaultOf text k at → IsFaultOf text l place → (k ≡ l) × (at ≡ place) }
-    ensures never_both { (text : List ℕ) (m : FznModel) (k at : ℕ) → IsTextOf text m → IsFaultOf text k at → ⊥ }
-{
-    law_one_lexing();
-    law_one_parsing();
-    law_one_model();
-}
+use model_text::law_one_text;
 
 /// The made texts have models and no faults, so none is refused; and where no limit is set the line of each says the least cost
 /// of its model, and never that it is unknown. It does nothing.

@@ -3,15 +3,14 @@
 
 mod laws;
 mod printing;
-pub mod reader;
 mod solving;
 mod status;
 mod top;
 
 pub use answer::{Answer, Gates, Options, answer};
 pub use gate::{Gate, NoGate};
-pub use laws::{law_made_is_answered, law_one_answer, law_one_text};
+pub use laws::{law_made_is_answered, law_one_answer};
 pub use made_model::made_text;
-pub use reader::{TextError, line_of, read_model};
+pub use model_text::{TextError, law_one_text, line_of, read_model};
 pub use status::{Status, report};
 pub use top::solve_main;

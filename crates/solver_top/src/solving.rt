@@ -5,12 +5,12 @@ ghost use Rattle.fzn_io.specs.Streams.{IsHeld};
 ghost use Rattle.constraint_model.specs.WellFormed.{IsWellFormed};
 ghost use Rattle.command_line.specs.CommandLine.{AreOptions, IsConfig, config_meant, config_of, file, input_meant};
 ghost use Rattle.made_model.specs.Made.{made};
-ghost use Rattle.solver_top.specs.Texts.{IsCause, IsTextOf, fault_line};
+ghost use Rattle.model_text.specs.Texts.{IsCause, IsTextOf};
 ghost use Rattle.solver_top.specs.Answers.{IsAnswerOf, IsAnswerWith, IsLineOf, search_options};
-ghost use Rattle.solver_top.specs.Outcome.{CanOpen, IsAnswerOfInput, IsAnswerOfWords, IsFileAlone, IsFileCause, IsInputCause, IsTextCause, IsWordsCause, ReadsFile, WasAsked, told_text};
+ghost use Rattle.solver_top.specs.Outcome.{CanOpen, IsAnswerOfInput, IsAnswerOfWords, IsFileAlone, IsFileCause, IsInputCause, IsTextCause, IsWordsCause, ReadsFile, told_text};
+ghost use Rattle.model_text.specs.Files.{WasAsked};
 
 use crate::printing::known_objective;
-use crate::reader::{MOST_BYTES, TextError, line_of, read_model};
 use crate::status::Status;
 use answer::{Answer, Gates, answer, law_unfinished_marks};
 use command_line::{Config, Input, Options, WordsError, read_words};
@@ -20,6 +20,7 @@ use fzn_print::print_answer;
 use gate::Gate;
 use interval::NoMemory;
 use made_model::{made_summary, made_text};
+use model_text::{MOST_BYTES, TextError, law_long_text, read_model, told_line};
 use std::alloc::Global;
 use std::thread::Threads;
 
@@ -97,6 +98,7 @@ fn text_of_file<S: Source>(alloc: Global, name: &str, files: &mut S) -> Result<V
     ensures held_kept { S.held files.new ≡ S.held files.old }
     ensures asked { WasAsked (S.held files.old name.now) (S.names files.old) (S.names files.new) (S.left files.new) (S.is_open files.new) (IsErrOf result Status.ReadFault) }
 {
+    law_long_text();
     match read_named(alloc, files, name, MOST_BYTES) {
         Ok(text) => Ok(text),
         Err(FileError::ReadFault) => Err(Status::ReadFault),
@@ -228,16 +230,5 @@ fn status_of(text: &[u8], error: TextError) -> Status
             line: told_line(text, kind, at),
         },
         TextError::NoMemory => Status::NoMemory,
-    }
-}
-
-/// The line that is told of a fault; 0 where the text is too long.
-fn told_line(text: &[u8], kind: u8, at: usize) -> u64
-    ensures { result ≡ fault_line text.now kind at }
-{
-    if kind == FaultKind::TooLong.number() {
-        0
-    } else {
-        line_of(text, at)
     }
 }

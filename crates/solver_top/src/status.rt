@@ -1,15 +1,13 @@
 //! The statuses of the top call, and the line of each.
 
-ghost use Rattle.std.specs.Prelude.{◌≡◌, ◌⊎◌, ℕ, IfOk};
+ghost use Rattle.std.specs.Prelude.{◌≡◌, ◌⊎◌};
 ghost use Rattle.fzn_io.specs.Faults.{CountRose};
 ghost use Rattle.fzn_io.specs.Streams.{Adds, AddsFront};
-ghost use Rattle.solver_top.specs.declared.status.Status.{Status};
-ghost use Rattle.solver_top.specs.Outcome.{IsRefused, kind_name, status_code, status_line};
+ghost use Rattle.solver_top.specs.Outcome.{IsRefused, status_code, status_line};
 
 use fzn_io::{Sink, write_all};
-use fzn_model::FaultKind;
-use itoa::Buffer;
-use std::alloc::{AllocError, Global};
+use model_text::print_refusal;
+use std::alloc::Global;
 
 /// How a call of `solve_main` ended.
 #[derive(Clone, Copy, Debug, PartialEq, Eq)]
@@ -50,31 +48,6 @@ const USAGE: &[u8] =
 /// What is written where memory is refused.
 const OUT_OF_MEMORY: &[u8] = b"out of memory\n";
 
-/// The name of a kind of fault.
-fn name_of_kind(kind: u8) -> &'static str
-    ensures { result.now ≡ kind_name kind }
-{
-    match FaultKind::numbered(kind) {
-        Some(kind) => kind.name(),
-        None => "",
-    }
-}
-
-/// The line of a refused text.
-fn refusal(alloc: Global, kind: u8, line: u64) -> Result<Vec<u8>, AllocError>
-    ensures { IfOk result (λ bytes. bytes.items ≡ status_line (Status.Refused kind line)) }
-{
-    let mut number = Buffer::new();
-    let mut bytes = Vec::from_slice(alloc, b"refused ")?;
-    bytes.extend_from_slice(number.format(kind).as_bytes())?;
-    bytes.extend_from_slice(b" ")?;
-    bytes.extend_from_slice(name_of_kind(kind).as_bytes())?;
-    bytes.extend_from_slice(b" line ")?;
-    bytes.extend_from_slice(number.format(line).as_bytes())?;
-    bytes.extend_from_slice(b"\n")?;
-    Ok(bytes)
-}
-
 /// The line of a status other than `Refused`.
 fn plain_line(status: Status) -> &'static [u8]
     requires { IsRefused status → ⊥ }
@@ -102,7 +75,7 @@ pub fn report<E: Sink>(alloc: Global, err: &mut E, status: Status) -> Status
         let _ = write_all(err, plain_line(status));
         return status;
     };
-    let Ok(bytes) = refusal(alloc, kind, line) else {
+    let Ok(bytes) = print_refusal(alloc, kind, line) else {
         let _ = write_all(err, OUT_OF_MEMORY);
         return Status::NoMemory;
     };

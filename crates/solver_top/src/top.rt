@@ -4,14 +4,15 @@ ghost use Rattle.std.specs.Prelude.{◌≡◌, ◌⊎◌, ℕ, None};
 ghost use Rattle.fzn_io.specs.Faults.{CountRose};
 ghost use Rattle.fzn_io.specs.Streams.{Adds, AddsFront};
 ghost use Rattle.command_line.specs.CommandLine.{config_of};
-ghost use Rattle.solver_top.specs.Outcome.{CanOpen, IsFaultOfTold, ReadsFile, ToldHasFault, ToldHasModel, WasAsked, WroteAnswer, WroteFront, status_line, told_text};
+ghost use Rattle.model_text.specs.Files.{IsFaultOfTold, ToldHasFault, ToldHasModel, WasAsked};
+ghost use Rattle.solver_top.specs.Outcome.{CanOpen, ReadsFile, WroteAnswer, WroteFront, status_line, told_text};
 
-use crate::laws::law_one_text;
 use crate::solving::answer_of_words;
 use crate::status::{Status, report};
 use answer::Gates;
 use fzn_io::{Sink, Source, write_all};
 use gate::Gate;
+use model_text::law_one_text;
 use std::alloc::Global;
 use std::thread::Threads;
 

@@ -1,5 +1,5 @@
-use Rattle.solver_top.proofs.TextLaws.{some_text, one_model, one_fault, never_both}
-use Rattle.solver_top.proofs.laws.law_one_text.Goals as goal
+use Rattle.model_text.proofs.TextLaws.{some_text, one_model, one_fault, never_both}
+use Rattle.model_text.proofs.laws.law_one_text.Goals as goal
 
 pub returns-clause-some : goal.returns-clause-some
 returns-clause-some c = some_text c.law_one_reading.ensures.lexes_or_faults c.law_one_reading-2.ensures.reads_or_faults c.law_one_model.ensures.some

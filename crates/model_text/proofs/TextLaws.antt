@@ -6,7 +6,7 @@ use Rattle.fzn_lexer.specs.Lexing.{LexesAs, FaultsAt as IsNoToken}
 use Rattle.fzn_parser.specs.Parsing.{ItemTree, ReadsAs, FaultsAt as IsNoItem}
 use Rattle.constraint_model.specs.declared.model.FznModel.{FznModel}
 use Rattle.fzn_model.specs.Resolving.{IsModelOf, HasFault, IsRead}
-use Rattle.solver_top.specs.Texts.{HasItems, IsTextOf, LacksItem, IsFaultOf, most_bytes, no_token as lex_kind, no_item as syntax_kind, too_long}
+use Rattle.model_text.specs.Texts.{HasItems, IsTextOf, LacksItem, IsFaultOf, most_bytes, no_token as lex_kind, no_item as syntax_kind, too_long}
 
 -- what each step says by itself
 pub record StepsAreOne : Type 0 where

@@ -1,6 +1,6 @@
 use Rattle.std.proofs.Common.{◌≡◌, ◌≤◌, ◌==◌, take}
 use Rattle.std.specs.List.{count_by}
-use Rattle.solver_top.proofs.reader.line_ends.Given as goal
+use Rattle.model_text.proofs.reader.line_ends.Given as goal
 
 -- the ends of lines so far
 abbrev pub invariant-loop-byte : goal.invariant-loop-byte

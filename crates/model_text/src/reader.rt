@@ -4,7 +4,7 @@ ghost use Rattle.std.specs.Prelude.{◌≡◌, ◌≤◌, ◌==◌, count_by, �
 ghost use Rattle.fzn_lexer.specs.Lexing.{LexesAs};
 ghost use Rattle.fzn_parser.specs.Parsing.{item_tree};
 ghost use Rattle.constraint_model.specs.declared.model.FznModel.{FznModel};
-ghost use Rattle.solver_top.specs.Texts.{most_bytes, HasItems, IsTextOf, IsFaultOf, IsCause, LacksModel, line_at};
+ghost use Rattle.model_text.specs.Texts.{most_bytes, HasItems, IsTextOf, IsFaultOf, IsCause, LacksModel, fault_line, line_at};
 
 use fzn_lexer::{LexError, Token, lex};
 use fzn_model::{FaultKind, FznModel, ModelError, resolve};
@@ -107,5 +107,16 @@ pub fn line_of(text: &[u8], at: usize) -> u64
         line_ends(&text[..at]) + 1
     } else {
         line_ends(text) + 1
+    }
+}
+
+/// The line that is told of a fault; 0 where the text is too long.
+pub fn told_line(text: &[u8], kind: u8, at: usize) -> u64
+    ensures { result ≡ fault_line text.now kind at }
+{
+    if kind == FaultKind::TooLong.number() {
+        0
+    } else {
+        line_of(text, at)
     }
 }

@@ -8,7 +8,7 @@ use Rattle.constraint_model.specs.declared.model.FznModel.{FznModel}
 use Rattle.fzn_model.specs.declared.fault_kinds.FaultKind.{FaultKind}
 use Rattle.fzn_model.specs.FaultKinds.{kind_number}
 use Rattle.fzn_model.specs.Resolving.{IsModelOf, HasFault}
-use Rattle.solver_top.specs.declared.reader.TextError.{TextError}
+use Rattle.model_text.specs.declared.reader.TextError.{TextError}
 
 abbrev pub most_bytes : ℕ
 most_bytes = 67108864

@@ -1,0 +1,40 @@
+//! `fzncheck`: checks the solutions in one file against the FlatZinc model in another, and ends with the status of the call.
+#![tactic(auto)]
+
+use fzn_check::{Status, check_main, report_memory};
+use fzn_io::{FileSource, StdSink};
+use std::process::ExitCode;
+use std::thread::Threads;
+use std::{env, io};
+
+fn main(rt: HostRuntime) -> ExitCode {
+    let status = match words(&rt) {
+        Ok(words) => check(&rt, &rt, &words),
+        Err(error) if error.kind() == io::ErrorKind::OutOfMemory => refuse_memory(&rt),
+        // Words that can't be had, as those that are no text, are taken as no words.
+        Err(_) => check(&rt, &rt, &[]),
+    };
+    ExitCode::from(status.code())
+}
+
+/// The words of the command line, the program's name first.
+fn words(rt: &HostRuntime) -> io::Result<Vec<String>> {
+    let mut words = Vec::new(rt.alloc());
+    for word in env::args(rt)? {
+        words.push(word)?;
+    }
+    Ok(words)
+}
+
+/// The top call over the real files, streams and threads.
+fn check(rt: &HostRuntime, threads: &(impl Threads + Sync), words: &[String]) -> Status {
+    let mut files = FileSource::new(rt);
+    let mut out = StdSink::new(rt.stdout());
+    let mut err = StdSink::new(rt.stderr());
+    check_main(threads, rt.alloc(), words, &mut files, &mut out, &mut err)
+}
+
+/// What is said where there is no memory for the words.
+fn refuse_memory(rt: &HostRuntime) -> Status {
+    report_memory(&mut StdSink::new(rt.stderr()))
+}

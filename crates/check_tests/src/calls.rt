@@ -1,7 +1,10 @@
 //! The top call on words, two files and streams in memory, and what it is to end with.
 
+ghost use Rattle.std.specs.Prelude.{◌≡◌, Some, [], ◌∷◌, codes};
+ghost use Rattle.fzn_check.specs.Words.{texts_of};
+
 use fzn_check::{Status, check_main};
-use fzn_io::{HonestSource, MemSink, MemSource, Named};
+use fzn_io::{HonestSource, MemSink, MemSource, Named, Source};
 use std::alloc::{AllocError, Global};
 use std::process::Abort;
 use std::test::Fail;
@@ -34,6 +37,21 @@ pub(crate) fn sink(alloc: Global, stream: Stream) -> Result<MemSink, AllocError>
     Ok(MemSink::new(alloc, chunk, vec![in alloc; failing]?))
 }
 
+/// The call on the words that name the two files, over a source that has these alone.
+fn check_named<S: Source>(
+    rt: &(impl Threads + Sync),
+    alloc: Global,
+    words: &[String],
+    files: &mut S,
+    out: &mut MemSink,
+    err: &mut MemSink,
+) -> Status
+    requires words { texts_of words.now ≡ codes "fzncheck" ∷ codes "m.fzn" ∷ codes "s.txt" ∷ [] }
+    requires files { S.names files.old ≡ Some (codes "m.fzn" ∷ codes "s.txt" ∷ []) }
+{
+    check_main(rt, alloc, words, files, out, err)
+}
+
 /// Runs the checker on two files, each of which holds its text or isn't there, over these streams: the files', standard output
 /// and standard error.
 pub(crate) fn run_files(
@@ -64,7 +82,7 @@ pub(crate) fn run_files(
     );
     let mut out = sink(alloc, streams.1)?;
     let mut err = sink(alloc, streams.2)?;
-    let status = check_main(rt, alloc, &words, &mut files, &mut out, &mut err);
+    let status = check_named(rt, alloc, &words, &mut files, &mut out, &mut err);
     Ok(Outcome { status, out, err })
 }
 

@@ -16,6 +16,7 @@ to_depth options depth = record {
   depth = depth;
   node_limit = options.node_limit;
   round_limit = options.round_limit;
+  steal = options.steal;
 }
 
 same_options : (options : Options) (depth : ℕ) → depth ≡ options.depth → to_depth options depth ≡ options
@@ -26,6 +27,7 @@ same_options options depth e = λ i. record {
   depth = e i;
   node_limit = options.node_limit;
   round_limit = options.round_limit;
+  steal = options.steal;
 }
 
 none_or_some : (n : ℕ) → (n ≡ 0) ⊎ (n ≡ 0 → ⊥)

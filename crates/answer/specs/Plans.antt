@@ -4,6 +4,9 @@ use Rattle.interval.specs.Boxes.{IsInside}
 use Rattle.guarded_tell.specs.declared.kernel.Kernel.{Kernel}
 use Rattle.constraint_model.specs.declared.model.FznModel.{FznModel}
 use Rattle.search.specs.Premises.{IsRun}
+use Rattle.crew.specs.declared.workers.Workers.{Workers}
+use Rattle.crew.specs.Crews.{workers_of, steals_of}
+use Rattle.answer.specs.declared.options.Options.{Options}
 use Rattle.answer.specs.declared.plan.Plan.{Plan}
 
 abbrev pub model_of : {L : Type 0} → Plan L → FznModel
@@ -19,3 +22,8 @@ pub record IsPlan {L : Type 0} (plan : Plan L) : Type 0 where
   pub round_limit : plan.run.now.round_limit ≡ plan.options.round_limit
   pub depth : plan.options.depth ≤ 16
   pub inside : IsInside plan.start.now plan.run.now.program.now.start
+
+-- the crew has as many workers as the options say, and they get their numbers in that way
+pub record IsCrewFor (options : Options) (crew : Workers) : Type 0 where
+  pub workers : workers_of crew ≡ options.workers
+  pub steals : steals_of crew ≡ options.steal

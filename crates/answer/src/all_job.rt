@@ -3,8 +3,7 @@
 ghost use Rattle.std.specs.Prelude.{◌≡◌, ◌<◌, [], IfOk};
 ghost use Rattle.crew.specs.AtWork.{IsRun};
 ghost use Rattle.crew.specs.Ends.{AreEndsOf};
-ghost use Rattle.crew.specs.Crews.{workers_of};
-ghost use Rattle.answer.specs.Plans.{IsPlan, model_of};
+ghost use Rattle.answer.specs.Plans.{IsPlan, IsCrewFor, model_of};
 ghost use Rattle.answer.specs.Places.{AreResults};
 ghost use Rattle.answer.specs.Results.{IsAllResult};
 ghost use Rattle.answer.specs.Jobs.{numbers_of, Owns, AllFits, AllParts, AllStands};
@@ -79,9 +78,9 @@ fn run_each<R: Threads + Sync, C: CrewGate + Sync, L: Gate + Sync>(
     gate: &C,
 ) -> Result<ListOf<AllEnd>, NoMemory>
     requires plan { IsPlan job.now.plan.now }
-    requires crew { workers_of crew.old ≡ job.now.plan.now.options.workers }
+    requires crew { IsCrewFor job.now.plan.now.options crew.old }
     ensures ends { IfOk result (AreEndsOf (numbers_of job.now.plan.now) (AllStands job.now tt)) }
-    ensures crew { workers_of crew.new ≡ workers_of crew.old }
+    ensures crew { IsCrewFor job.now.plan.now.options crew.new }
 {
     let run = |own: &mut Walk, _seat: &mut (), number: u32| -> Result<AllEnd, NoMemory>
         requires { (number < numbers_of job.now.plan.now) × Owns job.now.plan.now own.now × IsPlan job.now.plan.now }
@@ -102,9 +101,9 @@ pub(crate) fn all_ends<R: Threads + Sync, C: CrewGate + Sync, L: Gate + Sync>(
     gate: &C,
 ) -> Result<ListOf<AllEnd>, NoMemory>
     requires plan { IsPlan plan.now }
-    requires crew { workers_of crew.old ≡ plan.now.options.workers }
+    requires crew { IsCrewFor plan.now.options crew.old }
     ensures ends { IfOk result (AreResults (model_of plan.now) plan.now.options.depth plan.now.start.now (IsAllResult (model_of plan.now) plan.now.options)) }
-    ensures crew { workers_of crew.new ≡ workers_of crew.old }
+    ensures crew { IsCrewFor plan.now.options crew.new }
 {
     let job = AllJob { plan: &*plan };
     let ends = run_each(rt, alloc, crew, &job, gate)?;

@@ -5,7 +5,7 @@ ghost use Rattle.std.specs.Bool.{OnTrue, OnFalse};
 ghost use Rattle.constraint_model.specs.declared.model.Goal.TheVariants.{Satisfy};
 ghost use Rattle.constraint_model.specs.Relations.{cost_of, IsSolution};
 ghost use Rattle.constraint_model.specs.WellFormed.{IsWellFormed};
-ghost use Rattle.crew.specs.Crews.{workers_of};
+ghost use Rattle.answer.specs.Plans.{IsCrewFor};
 ghost use Rattle.answer.specs.Results.{listed};
 ghost use Rattle.answer.specs.Finished.{IsFinished};
 ghost use Rattle.answer.specs.Answers.{HasLimit, IsAnswer};
@@ -55,7 +55,7 @@ fn first_answer<R: Threads + Sync, C: CrewGate + Sync, L: Gate + Sync>(
     gate: &C,
 ) -> Result<Answer, NoMemory>
     requires set_up { IsSetUp run.now options }
-    requires crew { workers_of crew.old ≡ options.workers }
+    requires crew { IsCrewFor options crew.old }
     requires satisfy { run.now.model.now.goal ≡ Satisfy }
     requires first { options.all ≡ false }
     ensures { IfOk result (IsGiven run.now.model.now options) }
@@ -90,7 +90,7 @@ fn all_answer<R: Threads + Sync, C: CrewGate + Sync, L: Gate + Sync>(
     gate: &C,
 ) -> Result<Answer, NoMemory>
     requires set_up { IsSetUp run.now options }
-    requires crew { workers_of crew.old ≡ options.workers }
+    requires crew { IsCrewFor options crew.old }
     requires satisfy { run.now.model.now.goal ≡ Satisfy }
     requires all { options.all ≡ true }
     ensures { IfOk result (IsGiven run.now.model.now options) }
@@ -148,7 +148,7 @@ fn optimum<R: Threads + Sync, C: CrewGate + Sync, L: Gate + Sync>(
     best: ListOf<i64>,
 ) -> Result<Answer, NoMemory>
     requires set_up { IsSetUp run.now options }
-    requires crew { workers_of crew.old ≡ options.workers }
+    requires crew { IsCrewFor options crew.old }
     requires objective { run.now.model.now.goal ≢ Satisfy }
     requires best { IsBestKnown run.now.model.now options best }
     ensures { IfOk result (IsGiven run.now.model.now options) }
@@ -185,7 +185,7 @@ fn least_answer<R: Threads + Sync, C: CrewGate + Sync, L: Gate + Sync>(
     gate: &C,
 ) -> Result<Answer, NoMemory>
     requires set_up { IsSetUp run.now options }
-    requires crew { workers_of crew.old ≡ options.workers }
+    requires crew { IsCrewFor options crew.old }
     requires objective { run.now.model.now.goal ≢ Satisfy }
     ensures { IfOk result (IsGiven run.now.model.now options) }
 {
@@ -229,7 +229,7 @@ fn answer_of<R: Threads + Sync, C: CrewGate + Sync, L: Gate + Sync>(
     gate: &C,
 ) -> Result<Answer, NoMemory>
     requires set_up { IsSetUp run.now options }
-    requires crew { workers_of crew.old ≡ options.workers }
+    requires crew { IsCrewFor options crew.old }
     ensures { IfOk result (IsGiven run.now.model.now options) }
 {
     match run.model.goal {
@@ -296,7 +296,7 @@ pub fn answer<R: Threads + Sync, C: CrewGate + Sync, L: Gate + Sync>(
         round_limit: options.round_limit,
         gate: &*gates.lanes,
     };
-    let mut crew = Workers::new(alloc, options.workers)?;
+    let mut crew = Workers::new(alloc, options.workers, options.steal)?;
     let mut parted = *options;
     parted.depth = depth_for(options);
     let answer = answer_of(rt, alloc, &run, parted, &mut crew, gates.crew)?;

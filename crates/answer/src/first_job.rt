@@ -3,8 +3,7 @@
 ghost use Rattle.std.specs.Prelude.{◌≡◌, ◌<◌, ◌↔◌, ℕ, [], IfOk};
 ghost use Rattle.crew.specs.AtWork.{IsRun};
 ghost use Rattle.crew.specs.Ends.{AreEndsOf};
-ghost use Rattle.crew.specs.Crews.{workers_of};
-ghost use Rattle.answer.specs.Plans.{IsPlan, model_of};
+ghost use Rattle.answer.specs.Plans.{IsPlan, IsCrewFor, model_of};
 ghost use Rattle.answer.specs.Results.{AreFirstResults};
 ghost use Rattle.answer.specs.Runs.{HasSolution};
 ghost use Rattle.answer.specs.Jobs.{numbers_of, Owns, FirstFits, FirstParts, FirstStands};
@@ -113,11 +112,11 @@ fn run_all<R: Threads + Sync, C: CrewGate + Sync, L: Gate + Sync, M: OfParts + S
     requires parts { FirstParts seat.old 1024 }
     requires none { FirstStands job.now seat.old [] }
     requires numbers { (number : ℕ) → M.has_solution number ↔ HasSolution (model_of job.now.plan.now) job.now.plan.now.options.depth job.now.plan.now.start.now number }
-    requires crew { workers_of crew.old ≡ job.now.plan.now.options.workers }
+    requires crew { IsCrewFor job.now.plan.now.options crew.old }
     ensures ends { IfOk result (AreEndsOf (numbers_of job.now.plan.now) (FirstStands job.now seat.new)) }
     ensures fits { FirstFits job.now seat.new }
     ensures parts { FirstParts seat.new 1024 }
-    ensures crew { workers_of crew.new ≡ workers_of crew.old }
+    ensures crew { IsCrewFor job.now.plan.now.options crew.new }
 {
     let run = |own: &mut Walk, seat: &mut FoundSeat, number: u32| -> Result<FirstEnd, NoMemory>
         requires { (number < numbers_of job.now.plan.now) × Owns job.now.plan.now own.now × FirstFits job.now seat.now × ((number : ℕ) → M.has_solution number ↔ HasSolution (model_of job.now.plan.now) job.now.plan.now.options.depth job.now.plan.now.start.now number) }
@@ -139,9 +138,9 @@ fn ends_of<R: Threads + Sync, C: CrewGate + Sync, L: Gate + Sync, M: OfParts + S
 ) -> Result<ListOf<FirstEnd>, NoMemory>
     requires plan { IsPlan plan.now }
     requires numbers { (number : ℕ) → M.has_solution number ↔ HasSolution (model_of plan.now) plan.now.options.depth plan.now.start.now number }
-    requires crew { workers_of crew.old ≡ plan.now.options.workers }
+    requires crew { IsCrewFor plan.now.options crew.old }
     ensures ends { IfOk result (AreFirstResults (model_of plan.now) plan.now.options plan.now.start.now) }
-    ensures crew { workers_of crew.new ≡ workers_of crew.old }
+    ensures crew { IsCrewFor plan.now.options crew.new }
 {
     let (found, mut seat) = Found::<NumbersOf<M>>::new(alloc)?;
     let job = FirstJob {
@@ -163,9 +162,9 @@ pub(crate) fn first_ends<R: Threads + Sync, C: CrewGate + Sync, L: Gate + Sync>(
     gate: &C,
 ) -> Result<ListOf<FirstEnd>, NoMemory>
     requires plan { IsPlan plan.now }
-    requires crew { workers_of crew.old ≡ plan.now.options.workers }
+    requires crew { IsCrewFor plan.now.options crew.old }
     ensures ends { IfOk result (AreFirstResults (model_of plan.now) plan.now.options plan.now.start.now) }
-    ensures crew { workers_of crew.new ≡ workers_of crew.old }
+    ensures crew { IsCrewFor plan.now.options crew.new }
 {
     ends_of(rt, alloc, crew, plan, gate, PhantomData::<Brand>)
 }

@@ -5,9 +5,8 @@ ghost use Rattle.constraint_model.specs.declared.model.Goal.TheVariants.{Satisfy
 ghost use Rattle.search.specs.LeastEnds.{IsCost};
 ghost use Rattle.crew.specs.AtWork.{IsRun};
 ghost use Rattle.crew.specs.Ends.{AreEndsOf};
-ghost use Rattle.crew.specs.Crews.{workers_of};
 ghost use Rattle.decompose.specs.Program.{start_of};
-ghost use Rattle.answer.specs.Plans.{IsPlan, model_of};
+ghost use Rattle.answer.specs.Plans.{IsPlan, IsCrewFor, model_of};
 ghost use Rattle.answer.specs.Runs.{AreWholeEnds};
 ghost use Rattle.answer.specs.Jobs.{numbers_of, Owns, LeastFits, LeastParts, LeastStands};
 
@@ -126,11 +125,11 @@ fn run_all<R: Threads + Sync, C: CrewGate + Sync, L: Gate + Sync, M: OfModel + S
     requires parts { LeastParts seat.old 1024 }
     requires none { LeastStands job.now seat.old [] }
     requires costs { (cost : ℤ) → M.is_cost cost ↔ IsCost (model_of job.now.plan.now) cost }
-    requires crew { workers_of crew.old ≡ job.now.plan.now.options.workers }
+    requires crew { IsCrewFor job.now.plan.now.options crew.old }
     ensures ends { IfOk result (AreEndsOf (numbers_of job.now.plan.now) (LeastStands job.now seat.new)) }
     ensures fits { LeastFits job.now seat.new }
     ensures parts { LeastParts seat.new 1024 }
-    ensures crew { workers_of crew.new ≡ workers_of crew.old }
+    ensures crew { IsCrewFor job.now.plan.now.options crew.new }
 {
     let run = |own: &mut Walk, seat: &mut BestSeat, number: u32| -> Result<LeastEnd, NoMemory>
         requires { (number < numbers_of job.now.plan.now) × Owns job.now.plan.now own.now × LeastFits job.now seat.now × ((cost : ℤ) → M.is_cost cost ↔ IsCost (model_of job.now.plan.now) cost) }
@@ -154,9 +153,9 @@ fn ends_of<R: Threads + Sync, C: CrewGate + Sync, L: Gate + Sync, M: OfModel + S
     requires start { plan.now.start.now ≡ start_of (model_of plan.now) }
     requires objective { (model_of plan.now).goal ≢ Satisfy }
     requires costs { (cost : ℤ) → M.is_cost cost ↔ IsCost (model_of plan.now) cost }
-    requires crew { workers_of crew.old ≡ plan.now.options.workers }
+    requires crew { IsCrewFor plan.now.options crew.old }
     ensures ends { IfOk result (AreWholeEnds (model_of plan.now) plan.now.options) }
-    ensures crew { workers_of crew.new ≡ workers_of crew.old }
+    ensures crew { IsCrewFor plan.now.options crew.new }
 {
     law_inside_order();
     law_every_list();
@@ -186,9 +185,9 @@ pub(crate) fn least_ends<R: Threads + Sync, C: CrewGate + Sync, L: Gate + Sync>(
     requires plan { IsPlan plan.now }
     requires start { plan.now.start.now ≡ start_of (model_of plan.now) }
     requires objective { (model_of plan.now).goal ≢ Satisfy }
-    requires crew { workers_of crew.old ≡ plan.now.options.workers }
+    requires crew { IsCrewFor plan.now.options crew.old }
     ensures ends { IfOk result (AreWholeEnds (model_of plan.now) plan.now.options) }
-    ensures crew { workers_of crew.new ≡ workers_of crew.old }
+    ensures crew { IsCrewFor plan.now.options crew.new }
 {
     ends_of(rt, alloc, crew, plan, gate, PhantomData::<Brand>)
 }

@@ -16,4 +16,7 @@ pub struct Options {
     pub node_limit: u64,
     /// The most rounds of one propagation; 0 is no limit.
     pub round_limit: u64,
+    /// Whether the subproblems are dealt to the workers, of which each that has none left steals one of another's; else they
+    /// draw them from one row.
+    pub steal: bool,
 }

@@ -24,6 +24,10 @@ use Rattle.command_line.specs.declared.words.Input.{Input}
 abbrev pub flag_rule : Text → ℕ → Rule
 flag_rule id letter = record (new_rule id) { short = Some letter; action = Some SetTrue }
 
+-- a flag, named by a word
+abbrev pub word_flag_rule : Text → Rule
+word_flag_rule id = record (new_rule id) { long = Some id; action = Some SetTrue }
+
 -- any number that 64 bits hold
 abbrev pub any_number : ValueParser
 any_number = vp.Unsigned 0 18446744073709551615
@@ -42,13 +46,14 @@ plain_rule id = record (new_rule id) { long = Some id; parser = Some any_number 
 
 abbrev pub command : App
 command =
-    with_rule (with_rule (with_rule (with_rule (with_rule (with_rule (with_rule (with_rule (new_app (codes "turbofzn"))
+    with_rule (with_rule (with_rule (with_rule (with_rule (with_rule (with_rule (with_rule (with_rule (new_app (codes "turbofzn"))
     (flag_rule (codes "all") 97))
     (letter_rule (codes "workers") 112 (codes "1")))
     (word_rule (codes "lanes") (codes "1")))
     (word_rule (codes "depth") (codes "6")))
     (word_rule (codes "node-limit") (codes "0")))
     (word_rule (codes "round-limit") (codes "0")))
+    (word_flag_rule (codes "steal")))
     (plain_rule (codes "make")))
     (new_rule (codes "FILE"))
 
@@ -83,6 +88,7 @@ options_of rows =
       depth = depth;
       node_limit = node_limit;
       round_limit = round_limit;
+      steal = is_given (codes "steal") rows;
     })
     (number_of (codes "round-limit") 0 most_limit rows))
     (number_of (codes "node-limit") 0 most_limit rows))

@@ -3,7 +3,7 @@
 ghost use Rattle.std.specs.Prelude.{◌≡◌, IfOk, false};
 ghost use Rattle.clap.specs.Walk.{rule_of};
 ghost use Rattle.clap.specs.Simple.{app_of};
-ghost use Rattle.command_line.specs.CommandLine.{command, flag_rule, letter_rule, plain_rule, word_rule};
+ghost use Rattle.command_line.specs.CommandLine.{command, flag_rule, letter_rule, plain_rule, word_flag_rule, word_rule};
 
 use clap::{Arg, ArgAction, Command, value_parser};
 use std::alloc::{AllocError, Global};
@@ -19,6 +19,7 @@ pub(crate) fn command<'a>(alloc: Global) -> Result<Command<'a>, AllocError>
         .arg(number(alloc, "depth", "6"))?
         .arg(number(alloc, "node-limit", "0"))?
         .arg(number(alloc, "round-limit", "0"))?
+        .arg(word_flag(alloc, "steal"))?
         .arg(plain_number(alloc, "make"))?
         .arg(Arg::new(alloc, "FILE"))
 }
@@ -29,6 +30,14 @@ fn flag<'a>(alloc: Global, id: &'a str, letter: char) -> Arg<'a>
     ensures own { result.global ≡ false }
 {
     Arg::new(alloc, id).short(letter).action(ArgAction::SetTrue)
+}
+
+/// A flag, named by a word.
+fn word_flag<'a>(alloc: Global, id: &'a str) -> Arg<'a>
+    ensures rule { rule_of result ≡ word_flag_rule id.entry.now }
+    ensures own { result.global ≡ false }
+{
+    Arg::new(alloc, id).long(id).action(ArgAction::SetTrue)
 }
 
 /// An option of one letter with a number, and the number that it has where it isn't used.

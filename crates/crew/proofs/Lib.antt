@@ -1,2 +1,5 @@
 pub mod Filling
+pub mod Items
 mod Made
+mod Tickets
+mod Hired

@@ -1,5 +1,5 @@
 -- What contracts say of a crew.
-use Rattle.std.specs.Prelude.{ℕ, List, length}
+use Rattle.std.specs.Prelude.{ℕ, Bool, List, length}
 use Rattle.crew.specs.declared.workers.Workers.{Workers}
 
 -- how many workers there are
@@ -9,3 +9,7 @@ workers_of crew = length crew.turns.items
 -- how many numbers each worker has asked for so far
 abbrev pub turns_of : Workers → List ℕ
 turns_of crew = crew.turns.items
+
+-- whether they steal numbers
+abbrev pub steals_of : Workers → Bool
+steals_of crew = crew.steals

@@ -1,4 +1,6 @@
 pub mod Ends
 pub mod Slots
 pub mod Crews
+pub mod Rights
 pub mod AtWork
+pub mod TicketRights

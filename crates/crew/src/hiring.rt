@@ -1,214 +1,76 @@
 //! Workers that are given seats, set to work side by side, and taken back.
 
-ghost use Rattle.std.specs.Prelude.{◌≡◌, ◌<◌, ◌≤◌, ◌+◌, ℕ, [], length, slice_index_or, IfOk, OnOk, OnErr};
+ghost use Rattle.std.specs.Prelude.{◌≡◌, ◌<◌, ◌≤◌, ◌+◌, ◌++◌, ◌∷◌, ℕ, List, [], length, map, flat_map, true, slice_index_or, vec_len, vec_capacity};
 ghost use Rattle.std.specs.Bool.{OnTrue};
 ghost use Rattle.std.specs.List.{All};
-ghost use Rattle.tickets.specs.Counting.{IsEachOnce};
-ghost use Rattle.tickets.specs.Seats.{count_of, next_of, ticket_parts};
-ghost use Rattle.crew.specs.Ends.{numbers_of};
-ghost use Rattle.crew.specs.AtWork.{HaveRun, HaveRunSome, AreSeats, IsHired, IsBack, IsRun, KeepsRuns};
+ghost use Rattle.crew.specs.Rights.{KeepsSame};
+ghost use Rattle.crew.specs.AtWork.{HaveRun, HaveRunSome, HasSeat, IsFirstSeat, MayStart, IsHired, IsBack, IsRun, KeepsRuns};
 ghost use Rattle.crew.specs.declared.worker.Worker.{Worker};
 
 use crate::job::Job;
+use crate::recruit::Recruit;
+use crate::source::Source;
 use crate::worker::{Worker, work};
 use gate::Gate;
 use interval::NoMemory;
 use std::alloc::Global;
 use std::thread::{Threads, for_each_mut};
-use tickets::{TicketSeat, Tickets};
 
-/// A worker with one part of each seat, which has drawn nothing. Where memory is refused the seats keep all parts.
-fn hire<S, W, E, J: Job<S, W, E>>(
+/// Gives a recruit one part of the seat.
+fn hire<N, S, W, E, J: Job<S, W, E>>(
     alloc: Global,
-    tickets: &Tickets,
-    first: &mut TicketSeat,
     job: &J,
     seat: &mut S,
-    number: u32,
-    turn: u64,
-) -> Result<Worker<S, W, E>, NoMemory>
-    requires seats { AreSeats tickets.now (J.fits job.now) J.has_parts first.old seat.old }
-    requires parts { 1 < ticket_parts first.old }
-    requires none { HaveRun (J.stands job.now) first.old seat.old [] }
-    ensures hired { IfOk result (IsHired tickets.now (J.fits job.now) J.has_parts (J.owns job.now) (J.stands job.now)) }
-    ensures seats { AreSeats tickets.now (J.fits job.now) J.has_parts first.new seat.new }
-    ensures parts { OnOk result (ticket_parts first.new + 1 ≡ ticket_parts first.old) }
-    ensures all_parts { OnErr result (ticket_parts first.new ≡ ticket_parts first.old) }
-    ensures none { HaveRun (J.stands job.now) first.new seat.new [] }
+    recruit: Recruit<N, W>,
+) -> Worker<N, S, W, E>
+    requires seat { (workers : ℕ) × (workers < 64) × IsFirstSeat (J.fits job.now) J.has_parts workers seat.old }
+    requires none { J.stands job.now seat.old [] }
+    requires own { J.owns job.now recruit.own }
+    ensures seat { (workers : ℕ) → workers < 64 → IsFirstSeat (J.fits job.now) J.has_parts workers seat.old → IsFirstSeat (J.fits job.now) J.has_parts (workers + 1) seat.new }
+    ensures none { J.stands job.now seat.new [] }
+    ensures hired { IsHired (J.fits job.now) J.has_parts (J.owns job.now) (J.stands job.now) result }
+    ensures right { result.right ≡ recruit.right }
 {
-    let own = job.own(alloc)?;
-    Ok(Worker {
+    let Recruit {
         number,
         turn,
-        tickets: tickets.split(first),
+        right,
+        own,
+    } = recruit;
+    Worker {
+        number,
+        turn,
+        right,
         seat: job.split(seat),
         own,
         runs: Vec::new(alloc),
         is_done: false,
-    })
-}
-
-/// Takes back a worker's seats and its runs, and says whether these are all that it had drawn, with nothing left to draw.
-fn take_in<S, W: Drop, E: Drop, J: Job<S, W, E>>(
-    tickets: &Tickets,
-    first: &mut TicketSeat,
-    job: &J,
-    seat: &mut S,
-    worker: Worker<S, W, E>,
-    runs: &mut Vec<(u32, E)>,
-) -> bool
-    requires seats { AreSeats tickets.now (J.fits job.now) J.has_parts first.old seat.old }
-    requires worker { IsBack tickets.now (J.fits job.now) J.has_parts (J.stands job.now) worker }
-    ensures seats { AreSeats tickets.now (J.fits job.now) J.has_parts first.new seat.new }
-    ensures parts { ticket_parts first.new ≡ ticket_parts first.old + 1 }
-    ensures passed { OnTrue result (next_of first.new ≡ count_of tickets.now) }
-    ensures run { OnTrue result (HaveRun (J.stands job.now) first.old seat.old runs.old.items → HaveRun (J.stands job.now) first.new seat.new runs.new.items) }
-    ensures made { HaveRunSome (J.stands job.now) first.old seat.old → HaveRunSome (J.stands job.now) worker.tickets worker.seat → HaveRunSome (J.stands job.now) first.new seat.new }
-{
-    let Worker {
-        tickets: numbers,
-        seat: other,
-        runs: mut others,
-        is_done,
-        ..
-    } = worker;
-    tickets.join_back(first, numbers);
-    job.join_back(seat, other);
-    runs.append(&mut others).is_ok() && is_done
-}
-
-/// Gives a worker's parts back to the first seats.
-fn dismiss<S, W: Drop, E: Drop, J: Job<S, W, E>>(
-    tickets: &Tickets,
-    first: &mut TicketSeat,
-    job: &J,
-    seat: &mut S,
-    worker: Worker<S, W, E>,
-)
-    requires seats { AreSeats tickets.now (J.fits job.now) J.has_parts first.old seat.old }
-    requires worker { IsHired tickets.now (J.fits job.now) J.has_parts (J.owns job.now) (J.stands job.now) worker }
-    ensures seats { AreSeats tickets.now (J.fits job.now) J.has_parts first.new seat.new }
-    ensures parts { ticket_parts first.new ≡ ticket_parts first.old + 1 }
-    ensures made { HaveRunSome (J.stands job.now) first.old seat.old → HaveRunSome (J.stands job.now) first.new seat.new }
-{
-    let Worker {
-        tickets: numbers,
-        seat: other,
-        ..
-    } = worker;
-    tickets.join_back(first, numbers);
-    job.join_back(seat, other);
-}
-
-/// Hires one worker more. Where memory is refused the workers are as before, and so are the parts of the seats.
-fn hire_one<S: Drop, W: Drop, E: Drop, J: Job<S, W, E>>(
-    alloc: Global,
-    tickets: &Tickets,
-    first: &mut TicketSeat,
-    job: &J,
-    seat: &mut S,
-    turn: u64,
-    workers: &mut Vec<Worker<S, W, E>>,
-) -> Result<(), NoMemory>
-    requires seats { AreSeats tickets.now (J.fits job.now) J.has_parts first.old seat.old }
-    requires parts { 1 < ticket_parts first.old }
-    requires none { HaveRun (J.stands job.now) first.old seat.old [] }
-    requires few { length workers.old.items < 64 }
-    requires hired { All (IsHired tickets.now (J.fits job.now) J.has_parts (J.owns job.now) (J.stands job.now)) workers.old.items }
-    ensures seats { AreSeats tickets.now (J.fits job.now) J.has_parts first.new seat.new }
-    ensures parts { ticket_parts first.new + length workers.new.items ≡ ticket_parts first.old + length workers.old.items }
-    ensures none { OnOk result (HaveRun (J.stands job.now) first.new seat.new []) }
-    ensures made { HaveRunSome (J.stands job.now) first.new seat.new }
-    ensures hired { All (IsHired tickets.now (J.fits job.now) J.has_parts (J.owns job.now) (J.stands job.now)) workers.new.items }
-    ensures count { OnOk result (length workers.new.items ≡ length workers.old.items + 1) }
-{
-    let number = workers.len() as u32;
-    let worker = hire(alloc, tickets, first, job, seat, number, turn)?;
-    match workers.push(worker) {
-        Ok(()) => Ok(()),
-        Err(refused) => {
-            dismiss(tickets, first, job, seat, refused.value);
-            Err(NoMemory)
-        }
     }
 }
 
-/// Hires a worker for each of these turns. Where memory is refused, some are hired.
-fn hire_each<S: Drop, W: Drop, E: Drop, J: Job<S, W, E>>(
+/// Gives each recruit one part of the seat. There is room for all workers.
+pub(crate) fn hire_all<N: Drop, S: Drop, W: Drop, E: Drop, J: Job<S, W, E>>(
     alloc: Global,
-    tickets: &Tickets,
-    first: &mut TicketSeat,
     job: &J,
     seat: &mut S,
-    turns: &[u64],
-    workers: &mut Vec<Worker<S, W, E>>,
-) -> Result<(), NoMemory>
-    requires seats { AreSeats tickets.now (J.fits job.now) J.has_parts first.old seat.old }
-    requires parts { ticket_parts first.old ≡ 1024 }
-    requires none { HaveRun (J.stands job.now) first.old seat.old [] }
-    requires few { length turns.now ≤ 64 }
+    recruits: Vec<Recruit<N, W>>,
+    workers: &mut Vec<Worker<N, S, W, E>>,
+)
+    requires fits { J.fits job.now seat.old }
+    requires parts { J.has_parts seat.old 1024 }
+    requires none { J.stands job.now seat.old [] }
+    requires few { length recruits.items ≤ 64 }
+    requires own { All (λ recruit. J.owns job.now recruit.own) recruits.items }
     requires empty { workers.old.items ≡ [] }
-    ensures seats { AreSeats tickets.now (J.fits job.now) J.has_parts first.new seat.new }
-    ensures parts { ticket_parts first.new + length workers.new.items ≡ 1024 }
-    ensures none { OnOk result (HaveRun (J.stands job.now) first.new seat.new []) }
-    ensures made { HaveRunSome (J.stands job.now) first.new seat.new }
-    ensures hired { All (IsHired tickets.now (J.fits job.now) J.has_parts (J.owns job.now) (J.stands job.now)) workers.new.items }
-    ensures count { OnOk result (length workers.new.items ≡ length turns.now) }
+    requires room { length recruits.items ≤ vec_capacity workers.old }
+    ensures seat { IsFirstSeat (J.fits job.now) J.has_parts (length workers.new.items) seat.new }
+    ensures none { J.stands job.now seat.new [] }
+    ensures hired { All (IsHired (J.fits job.now) J.has_parts (J.owns job.now) (J.stands job.now)) workers.new.items }
+    ensures count { length workers.new.items ≡ length recruits.items }
+    ensures rights { map (λ worker. worker.right) workers.new.items ≡ map (λ recruit. recruit.right) recruits.items }
 {
-    for turn in turns {
-        hire_one(alloc, tickets, first, job, seat, *turn, workers)?;
-    }
-    Ok(())
-}
-
-/// Gives the parts of all workers back to the first seats.
-fn dismiss_all<S: Drop, W: Drop, E: Drop, J: Job<S, W, E>>(
-    tickets: &Tickets,
-    first: &mut TicketSeat,
-    job: &J,
-    seat: &mut S,
-    workers: Vec<Worker<S, W, E>>,
-)
-    requires seats { AreSeats tickets.now (J.fits job.now) J.has_parts first.old seat.old }
-    requires hired { All (IsHired tickets.now (J.fits job.now) J.has_parts (J.owns job.now) (J.stands job.now)) workers.items }
-    ensures seats { AreSeats tickets.now (J.fits job.now) J.has_parts first.new seat.new }
-    ensures parts { ticket_parts first.new ≡ ticket_parts first.old + length workers.items }
-    ensures made { HaveRunSome (J.stands job.now) first.old seat.old → HaveRunSome (J.stands job.now) first.new seat.new }
-{
-    let mut workers = workers;
-    while let Some(worker) = workers.pop() {
-        dismiss(tickets, first, job, seat, worker);
-    }
-}
-
-/// Hires a worker for each of these turns. Where memory is refused none is hired, and the seats keep all parts.
-pub(crate) fn hire_all<S: Drop, W: Drop, E: Drop, J: Job<S, W, E>>(
-    alloc: Global,
-    tickets: &Tickets,
-    first: &mut TicketSeat,
-    job: &J,
-    seat: &mut S,
-    turns: &[u64],
-) -> Result<Vec<Worker<S, W, E>>, NoMemory>
-    requires seats { AreSeats tickets.now (J.fits job.now) J.has_parts first.old seat.old }
-    requires parts { ticket_parts first.old ≡ 1024 }
-    requires none { HaveRun (J.stands job.now) first.old seat.old [] }
-    requires few { length turns.now ≤ 64 }
-    ensures seats { AreSeats tickets.now (J.fits job.now) J.has_parts first.new seat.new }
-    ensures parts { IfOk result (λ workers. ticket_parts first.new + length workers.items ≡ 1024) }
-    ensures all_parts { OnErr result (ticket_parts first.new ≡ 1024) }
-    ensures none { OnOk result (HaveRun (J.stands job.now) first.new seat.new []) }
-    ensures made { HaveRunSome (J.stands job.now) first.new seat.new }
-    ensures hired { IfOk result (λ workers. All (IsHired tickets.now (J.fits job.now) J.has_parts (J.owns job.now) (J.stands job.now)) workers.items) }
-    ensures count { IfOk result (λ workers. length workers.items ≡ length turns.now) }
-{
-    let mut workers = Vec::new(alloc);
-    match hire_each(alloc, tickets, first, job, seat, turns, &mut workers) {
-        Ok(()) => Ok(workers),
-        Err(refused) => {
-            dismiss_all(tickets, first, job, seat, workers);
-            Err(refused)
-        }
+    for recruit in recruits {
+        workers.push_reserved(hire(alloc, job, seat, recruit));
     }
 }
 
@@ -216,22 +78,26 @@ pub(crate) fn hire_all<S: Drop, W: Drop, E: Drop, J: Job<S, W, E>>(
 pub(crate) fn work_all<
     R: Threads + Sync,
     C: Gate + Sync,
+    N: Send,
     S: Send,
     W: Send,
     E: Send + Drop,
+    Q: Source<N> + Sync,
     J: Job<S, W, E> + Sync,
     F: Fn(&mut W, &mut S, u32) -> Result<E, NoMemory> + Sync,
->(rt: &R, tickets: &Tickets, job: &J, run: &F, gate: &C, workers: &mut [Worker<S, W, E>])
+>(rt: &R, source: &Q, job: &J, run: &F, gate: &C, workers: &mut [Worker<N, S, W, E>])
     requires some { 0 < length workers.old }
     requires can { (own : _) (seat : _) (number : ℕ) → number < J.count job.now → J.owns job.now own.now → J.fits job.now seat.now → F.pre run.now own seat number }
     requires does { (own : _) (seat : _) (number : ℕ) (r : _) (own2 : _) (seat2 : _) → number < J.count job.now → J.owns job.now own.now → J.fits job.now seat.now → F.post run.now own seat number r own2 seat2 → IsRun (J.fits job.now) J.has_parts (J.owns job.now) (J.stands job.now) own2.now seat.now seat2.now number r }
-    requires count { count_of tickets.now ≡ J.count job.now }
-    requires hired { All (IsHired tickets.now (J.fits job.now) J.has_parts (J.owns job.now) (J.stands job.now)) workers.old }
-    ensures back { (i : ℕ) (d : Worker S W E) → i < length workers.old → IsBack tickets.now (J.fits job.now) J.has_parts (J.stands job.now) (slice_index_or workers.new i d) }
-    ensures made { ((own : _) (seat : _) (number : ℕ) (r : _) (own2 : _) (seat2 : _) → number < J.count job.now → J.owns job.now own.now → J.fits job.now seat.now → F.post run.now own seat number r own2 seat2 → KeepsRuns (J.stands job.now) seat.now seat2.now r) → (i : ℕ) (d : Worker S W E) → i < length workers.old → HaveRunSome (J.stands job.now) (slice_index_or workers.new i d).tickets (slice_index_or workers.new i d).seat }
+    requires count { Q.count source.now ≡ J.count job.now }
+    requires hired { All (IsHired (J.fits job.now) J.has_parts (J.owns job.now) (J.stands job.now)) workers.old }
+    requires may_start { All (MayStart (Q.is_right source.now) Q.drawn) workers.old }
+    ensures back { (i : ℕ) (d : Worker N S W E) → i < length workers.old → IsBack (Q.is_right source.now) Q.drawn (Q.has_passed source.now) (J.fits job.now) J.has_parts (J.stands job.now) (slice_index_or workers.new i d) }
+    ensures same { (i : ℕ) (d : Worker N S W E) → i < length workers.old → KeepsSame Q.same (slice_index_or workers.old i d).right (slice_index_or workers.new i d).right }
+    ensures made { ((own : _) (seat : _) (number : ℕ) (r : _) (own2 : _) (seat2 : _) → number < J.count job.now → J.owns job.now own.now → J.fits job.now seat.now → F.post run.now own seat number r own2 seat2 → KeepsRuns (J.stands job.now) seat.now seat2.now r) → (i : ℕ) (d : Worker N S W E) → i < length workers.old → HaveRunSome (J.stands job.now) (Q.drawn (slice_index_or workers.new i d).right) (slice_index_or workers.new i d).seat }
 {
     if workers.len() == 1 {
-        work(tickets, job, run, gate, &mut workers[0]);
+        work(source, job, run, gate, &mut workers[0]);
         return;
     }
     let threads = workers.len();
@@ -239,39 +105,73 @@ pub(crate) fn work_all<
         rt,
         workers,
         threads,
-        &|_, worker: &mut Worker<S, W, E>|
-            requires { (count_of tickets.now ≡ J.count job.now) × ((own : _) (seat : _) (number : ℕ) → number < J.count job.now → J.owns job.now own.now → J.fits job.now seat.now → F.pre run.now own seat number) × ((own : _) (seat : _) (number : ℕ) (r : _) (own2 : _) (seat2 : _) → number < J.count job.now → J.owns job.now own.now → J.fits job.now seat.now → F.post run.now own seat number r own2 seat2 → IsRun (J.fits job.now) J.has_parts (J.owns job.now) (J.stands job.now) own2.now seat.now seat2.now number r) × IsHired tickets.now (J.fits job.now) J.has_parts (J.owns job.now) (J.stands job.now) worker.now }
-            ensures back { IsBack tickets.entry.now (J.fits job.entry.now) J.has_parts (J.stands job.entry.now) worker.exit.now }
-            ensures made { ((own : _) (seat : _) (number : ℕ) (r : _) (own2 : _) (seat2 : _) → number < J.count job.entry.now → J.owns job.entry.now own.now → J.fits job.entry.now seat.now → F.post run.entry.now own seat number r own2 seat2 → KeepsRuns (J.stands job.entry.now) seat.now seat2.now r) → HaveRunSome (J.stands job.entry.now) worker.exit.now.tickets worker.exit.now.seat }
-        { work(tickets, job, run, gate, worker) },
+        &|_, worker: &mut Worker<N, S, W, E>|
+            requires { (Q.count source.now ≡ J.count job.now) × ((own : _) (seat : _) (number : ℕ) → number < J.count job.now → J.owns job.now own.now → J.fits job.now seat.now → F.pre run.now own seat number) × ((own : _) (seat : _) (number : ℕ) (r : _) (own2 : _) (seat2 : _) → number < J.count job.now → J.owns job.now own.now → J.fits job.now seat.now → F.post run.now own seat number r own2 seat2 → IsRun (J.fits job.now) J.has_parts (J.owns job.now) (J.stands job.now) own2.now seat.now seat2.now number r) × IsHired (J.fits job.now) J.has_parts (J.owns job.now) (J.stands job.now) worker.now × MayStart (Q.is_right source.now) Q.drawn worker.now }
+            ensures back { IsBack (Q.is_right source.entry.now) Q.drawn (Q.has_passed source.entry.now) (J.fits job.entry.now) J.has_parts (J.stands job.entry.now) worker.exit.now }
+            ensures same { KeepsSame Q.same worker.entry.now.right worker.exit.now.right }
+            ensures made { ((own : _) (seat : _) (number : ℕ) (r : _) (own2 : _) (seat2 : _) → number < J.count job.entry.now → J.owns job.entry.now own.now → J.fits job.entry.now seat.now → F.post run.entry.now own seat number r own2 seat2 → KeepsRuns (J.stands job.entry.now) seat.now seat2.now r) → HaveRunSome (J.stands job.entry.now) (Q.drawn worker.exit.now.right) worker.exit.now.seat }
+        { work(source, job, run, gate, worker) },
     );
 }
 
-/// Takes back all workers. Gives their runs, if each had run all that it had drawn and found nothing left to draw.
-pub(crate) fn take_all<S: Drop, W: Drop, E: Drop, J: Job<S, W, E>>(
-    alloc: Global,
-    tickets: &Tickets,
-    first: &mut TicketSeat,
+/// Takes back a worker's part of the seat, its right and its runs, and says whether these are all that it had drawn, with
+/// nothing left to draw. There is room for the right.
+fn take_in<N, S, W: Drop, E: Drop, J: Job<S, W, E>>(
     job: &J,
     seat: &mut S,
-    workers: Vec<Worker<S, W, E>>,
-) -> Result<Vec<(u32, E)>, NoMemory>
-    requires seats { AreSeats tickets.now (J.fits job.now) J.has_parts first.old seat.old }
-    requires parts { ticket_parts first.old + length workers.items ≡ 1024 }
-    requires back { All (IsBack tickets.now (J.fits job.now) J.has_parts (J.stands job.now)) workers.items }
-    ensures seats { AreSeats tickets.now (J.fits job.now) J.has_parts first.new seat.new }
-    ensures parts { ticket_parts first.new ≡ 1024 }
-    ensures run { HaveRun (J.stands job.now) first.old seat.old [] → IfOk result (λ runs. HaveRun (J.stands job.now) first.new seat.new runs.items) }
-    ensures made { HaveRunSome (J.stands job.now) first.old seat.old → All (λ w. HaveRunSome (J.stands job.now) w.tickets w.seat) workers.items → HaveRunSome (J.stands job.now) first.new seat.new }
-    ensures each_once { HaveRun (J.stands job.now) first.old seat.old [] → IfOk result (λ runs. 0 < length workers.items → IsEachOnce (count_of tickets.now) (numbers_of runs.items)) }
+    worker: Worker<N, S, W, E>,
+    rights: &mut Vec<N>,
+    runs: &mut Vec<(u32, E)>,
+) -> bool
+    requires fits { J.fits job.now seat.old }
+    requires worker { HasSeat (J.fits job.now) J.has_parts worker }
+    requires room { vec_len rights.old < vec_capacity rights.old }
+    ensures seat { (workers : ℕ) → IsFirstSeat (J.fits job.now) J.has_parts (workers + 1) seat.old → IsFirstSeat (J.fits job.now) J.has_parts workers seat.new }
+    ensures right { rights.new.items ≡ rights.old.items ++ worker.right ∷ [] }
+    ensures capacity { vec_capacity rights.new ≡ vec_capacity rights.old }
+    ensures done { OnTrue result (worker.is_done ≡ true) }
+    ensures run { OnTrue result ((numbers others : List ℕ) → HaveRun (J.stands job.now) numbers seat.old runs.old.items → HaveRun (J.stands job.now) others worker.seat worker.runs.items → HaveRun (J.stands job.now) (numbers ++ others) seat.new runs.new.items) }
+    ensures made { (numbers others : List ℕ) → HaveRunSome (J.stands job.now) numbers seat.old → HaveRunSome (J.stands job.now) others worker.seat → HaveRunSome (J.stands job.now) (numbers ++ others) seat.new }
 {
-    let mut workers = workers;
-    let mut runs = Vec::new(alloc);
+    let Worker {
+        right,
+        seat: other,
+        runs: mut others,
+        is_done,
+        ..
+    } = worker;
+    rights.push_reserved(right);
+    job.join_back(seat, other);
+    runs.append(&mut others).is_ok() && is_done
+}
+
+/// Takes back all workers, with their rights and runs in order, and says whether each had run all that it had drawn and
+/// found nothing left to draw. There is room for the rights.
+pub(crate) fn take_all<N: Drop, S: Drop, W: Drop, E: Drop, J: Job<S, W, E>>(
+    job: &J,
+    seat: &mut S,
+    workers: Vec<Worker<N, S, W, E>>,
+    rights: &mut Vec<N>,
+    runs: &mut Vec<(u32, E)>,
+) -> bool
+    requires seat { IsFirstSeat (J.fits job.now) J.has_parts (length workers.items) seat.old }
+    requires none { J.stands job.now seat.old [] }
+    requires seats { All (HasSeat (J.fits job.now) J.has_parts) workers.items }
+    requires empty { rights.old.items ≡ [] }
+    requires room { length workers.items ≤ vec_capacity rights.old }
+    requires no_runs { runs.old.items ≡ [] }
+    ensures fits { J.fits job.now seat.new }
+    ensures parts { J.has_parts seat.new 1024 }
+    ensures rights { rights.new.items ≡ map (λ worker. worker.right) workers.items }
+    ensures done { OnTrue result (All (λ worker. worker.is_done ≡ true) workers.items) }
+    ensures run { OnTrue result ((drawn : N → List ℕ) → All (λ worker. HaveRun (J.stands job.now) (drawn worker.right) worker.seat worker.runs.items) workers.items → HaveRun (J.stands job.now) (flat_map drawn rights.new.items) seat.new runs.new.items) }
+    ensures made { (drawn : N → List ℕ) → All (λ worker. HaveRunSome (J.stands job.now) (drawn worker.right) worker.seat) workers.items → HaveRunSome (J.stands job.now) (flat_map drawn rights.new.items) seat.new }
+{
     let mut is_whole = true;
-    while let Some(worker) = workers.pop() {
-        if !take_in(tickets, first, job, seat, worker, &mut runs) {
+    for worker in workers {
+        if !take_in(job, seat, worker, rights, runs) {
             is_whole = false;
         }
     }
-    if is_whole { Ok(runs) } else { Err(NoMemory) }
+    is_whole
 }

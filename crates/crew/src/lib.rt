@@ -6,6 +6,10 @@ mod ends;
 mod hiring;
 mod job;
 mod numbers;
+mod recruit;
+mod source;
+mod sourced;
+mod ticket_source;
 mod worker;
 mod workers;
 

@@ -2,19 +2,18 @@
 
 ghost use Rattle.std.specs.Prelude.{◌≡◌, ◌<◌, ℕ, [], IfOk, OnErr};
 ghost use Rattle.crew.specs.Ends.{AreEndsOf, AreSomeRuns};
-ghost use Rattle.crew.specs.Crews.{workers_of};
+ghost use Rattle.crew.specs.Crews.{workers_of, steals_of};
 ghost use Rattle.crew.specs.AtWork.{IsRun, KeepsRuns};
 
-use crate::ends::in_order;
-use crate::hiring::{hire_all, take_all, work_all};
 use crate::job::Job;
+use crate::sourced::run_from;
+use crate::ticket_source::deal_tickets;
 use crate::workers::Workers;
 use gate::Gate;
 use interval::NoMemory;
 use list_of::ListOf;
 use std::alloc::Global;
 use std::thread::Threads;
-use tickets::Tickets;
 
 /// Has a crew run all numbers of a job, each once, and gives the ends of the runs in the order of the numbers. Each
 /// worker passes the gate, with how many times it has asked for a number before, and asks for the next, until none is
@@ -49,11 +48,8 @@ pub fn run_numbers<
     ensures fits { J.fits job.now seat.new }
     ensures parts { J.has_parts seat.new 1024 }
     ensures crew { workers_of crew.new ≡ workers_of crew.old }
+    ensures steals { steals_of crew.new ≡ steals_of crew.old }
 {
-    let (tickets, mut first) = Tickets::new(alloc, count)?;
-    let mut workers = hire_all(alloc, &tickets, &mut first, job, seat, crew.turns())?;
-    work_all(rt, &tickets, job, run, gate, &mut workers);
-    crew.note_turns(&workers);
-    let runs = take_all(alloc, &tickets, &mut first, job, seat, workers)?;
-    in_order(alloc, count, runs)
+    let dealt = deal_tickets(alloc, count, crew.count())?;
+    run_from(rt, alloc, crew, job, run, gate, seat, dealt)
 }

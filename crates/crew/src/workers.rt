@@ -6,25 +6,45 @@ use crate::worker::Worker;
 use interval::NoMemory;
 use std::alloc::Global;
 
-/// How many times each of some workers has asked for a number, so that its gate can tell the times apart.
+/// Some workers: how they get their numbers, and how many times each has asked for one, so that its gate can tell the times
+/// apart.
 #[derive(Drop)]
 pub struct Workers {
     turns: Vec<u64>,
+    steals: bool,
     ghost some: { 1 ≤ length turns.items },
     ghost few: { length turns.items ≤ 64 },
 }
 
 impl Workers {
-    ghost use Rattle.crew.specs.Crews.{workers_of, turns_of};
+    ghost use Rattle.crew.specs.Crews.{workers_of, steals_of, turns_of};
 
-    /// So many workers, which have asked for no number yet.
-    pub fn new(alloc: Global, workers: u32) -> Result<Workers, NoMemory>
+    /// So many workers, which have asked for no number yet. The numbers are dealt to them, and who has none left steals one
+    /// where `steals`; else they draw tickets.
+    pub fn new(alloc: Global, workers: u32, steals: bool) -> Result<Workers, NoMemory>
         requires some { 1 ≤ workers }
         requires few { workers ≤ 64 }
-        ensures { IfOk result (λ crew. turns_of crew ≡ replicate workers 0) }
+        ensures turns { IfOk result (λ crew. turns_of crew ≡ replicate workers 0) }
+        ensures steals { IfOk result (λ crew. steals_of crew ≡ steals) }
     {
         let turns = vec![in alloc; 0u64; workers as usize]?;
-        Ok(Workers { turns })
+        Ok(Workers { turns, steals })
+    }
+
+    /// How many workers there are, 1 to 64.
+    pub(crate) fn count(&self) -> u32
+        ensures count { result ≡ workers_of self.now }
+        ensures some { 1 ≤ result }
+        ensures few { result ≤ 64 }
+    {
+        self.turns.len() as u32
+    }
+
+    /// Whether they steal numbers.
+    pub(crate) fn steals(&self) -> bool
+        ensures { result ≡ steals_of self.now }
+    {
+        self.steals
     }
 
     /// How many times each worker has asked for a number by now.
@@ -35,8 +55,9 @@ impl Workers {
     }
 
     /// Notes how many times each worker has asked for a number by now.
-    pub(crate) fn note_turns<S, W, E>(&mut self, workers: &[Worker<S, W, E>])
-        ensures { workers_of self.new ≡ workers_of self.old }
+    pub(crate) fn note_turns<N, S, W, E>(&mut self, workers: &[Worker<N, S, W, E>])
+        ensures workers { workers_of self.new ≡ workers_of self.old }
+        ensures steals { steals_of self.new ≡ steals_of self.old }
     {
         for (i, worker) in workers.iter().enumerate() {
             if i < self.turns.len() {

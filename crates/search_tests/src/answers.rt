@@ -122,20 +122,14 @@ const WHOLE: &[(&str, bool, &[&[i64]], Mark)] = &[
 fn assert_whole<R: Abort + Threads + Sync>(
     rt: &R,
     alloc: Global,
-    workers: u32,
-    lanes: u32,
-    depth: u32,
+    options: Options,
 ) -> Result<(), NoMemory> {
     for (text, all, solutions, mark) in WHOLE {
-        let options = Options {
+        let asked = Options {
             all: *all,
-            workers,
-            lanes,
-            depth,
-            node_limit: 0,
-            round_limit: 0,
+            ..options
         };
-        assert_answer(rt, alloc, text, options, solutions, *mark)?;
+        assert_answer(rt, alloc, text, asked, solutions, *mark)?;
     }
     Ok(())
 }
@@ -143,7 +137,18 @@ fn assert_whole<R: Abort + Threads + Sync>(
 #[test]
 fn what_is_asked_is_given_by_any_workers_lanes_and_depth(rt: HostRuntime) -> Result<(), Fail> {
     for (workers, lanes, depth) in [(1, 1, 0), (2, 1, 1), (3, 2, 6)] {
-        assert_whole(&rt, rt.alloc(), workers, lanes, depth)?;
+        for steal in [false, true] {
+            let options = Options {
+                all: false,
+                workers,
+                lanes,
+                depth,
+                node_limit: 0,
+                round_limit: 0,
+                steal,
+            };
+            assert_whole(&rt, rt.alloc(), options)?;
+        }
     }
     Ok(())
 }
@@ -166,6 +171,7 @@ fn limits_leave_what_is_known(rt: HostRuntime) -> Result<(), Fail> {
             depth: 0,
             node_limit: *node_limit,
             round_limit: *round_limit,
+            steal: false,
         };
         assert_answer(&rt, rt.alloc(), text, options, solutions, *mark)?;
     }

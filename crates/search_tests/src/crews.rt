@@ -122,12 +122,14 @@ fn are_doubled(ends: &ListOf<u64>, count: u32) -> bool {
 fn every_crew_gives_the_ends_in_order(rt: HostRuntime) -> Result<(), Fail> {
     for workers in [1, 2, 3, 64] {
         for count in [0, 1, 2, 64] {
-            let job = Doubles::new(count);
-            let mut crew = Workers::new(rt.alloc(), workers)?;
-            let mut seat = Counter { runs: 0 };
-            let ends = double_all(&rt, rt.alloc(), &mut crew, &job, count, &NoGate, &mut seat)?;
-            assert!(rt; are_doubled(&ends, count));
-            assert_eq!(rt; seat.runs, u64::from(count));
+            for steals in [false, true] {
+                let job = Doubles::new(count);
+                let mut crew = Workers::new(rt.alloc(), workers, steals)?;
+                let mut seat = Counter { runs: 0 };
+                let ends = double_all(&rt, rt.alloc(), &mut crew, &job, count, &NoGate, &mut seat)?;
+                assert!(rt; are_doubled(&ends, count));
+                assert_eq!(rt; seat.runs, u64::from(count));
+            }
         }
     }
     Ok(())
@@ -136,13 +138,15 @@ fn every_crew_gives_the_ends_in_order(rt: HostRuntime) -> Result<(), Fail> {
 #[test]
 fn where_memory_is_refused_all_workers_are_taken_in(rt: HostRuntime) -> Result<(), Fail> {
     for workers in [1, 2, 3] {
-        let job = Doubles::refused_at(64, 5);
-        let mut crew = Workers::new(rt.alloc(), workers)?;
-        let mut seat = Counter { runs: 0 };
-        let ends = double_all(&rt, rt.alloc(), &mut crew, &job, 64, &NoGate, &mut seat);
-        assert!(rt; ends.is_err());
-        assert_eq!(rt; seat.runs, job.made.load(Ordering::SeqCst));
-        assert!(rt; seat.runs < 64);
+        for steals in [false, true] {
+            let job = Doubles::refused_at(64, 5);
+            let mut crew = Workers::new(rt.alloc(), workers, steals)?;
+            let mut seat = Counter { runs: 0 };
+            let ends = double_all(&rt, rt.alloc(), &mut crew, &job, 64, &NoGate, &mut seat);
+            assert!(rt; ends.is_err());
+            assert_eq!(rt; seat.runs, job.made.load(Ordering::SeqCst));
+            assert!(rt; seat.runs < 64);
+        }
     }
     Ok(())
 }
@@ -165,19 +169,21 @@ impl Gate for Rising {
 
 #[test]
 fn turns_go_on_over_two_calls(rt: HostRuntime) -> Result<(), Fail> {
-    let gate = Rising {
-        next: AtomicU64::new(0),
-        was_wrong: AtomicBool::new(false),
-    };
-    let mut crew = Workers::new(rt.alloc(), 1)?;
-    for count in [2, 1] {
-        let job = Doubles::new(count);
-        let mut seat = Counter { runs: 0 };
-        let ends = double_all(&rt, rt.alloc(), &mut crew, &job, count, &gate, &mut seat)?;
-        assert!(rt; are_doubled(&ends, count));
+    for steals in [false, true] {
+        let gate = Rising {
+            next: AtomicU64::new(0),
+            was_wrong: AtomicBool::new(false),
+        };
+        let mut crew = Workers::new(rt.alloc(), 1, steals)?;
+        for count in [2, 1] {
+            let job = Doubles::new(count);
+            let mut seat = Counter { runs: 0 };
+            let ends = double_all(&rt, rt.alloc(), &mut crew, &job, count, &gate, &mut seat)?;
+            assert!(rt; are_doubled(&ends, count));
+        }
+        assert!(rt; !gate.was_wrong.load(Ordering::SeqCst));
+        assert_eq!(rt; gate.next.load(Ordering::SeqCst), 5);
     }
-    assert!(rt; !gate.was_wrong.load(Ordering::SeqCst));
-    assert_eq!(rt; gate.next.load(Ordering::SeqCst), 5);
     Ok(())
 }
 
@@ -195,15 +201,17 @@ impl Gate for Passes {
 
 #[test]
 fn each_worker_passes_before_each_number_and_once_more(rt: HostRuntime) -> Result<(), Fail> {
-    let gate = Passes {
-        count: AtomicU64::new(0),
-    };
-    let mut crew = Workers::new(rt.alloc(), 3)?;
-    let job = Doubles::new(7);
-    let mut seat = Counter { runs: 0 };
-    let ends = double_all(&rt, rt.alloc(), &mut crew, &job, 7, &gate, &mut seat)?;
-    assert!(rt; are_doubled(&ends, 7));
-    assert_eq!(rt; gate.count.load(Ordering::SeqCst), 10);
+    for steals in [false, true] {
+        let gate = Passes {
+            count: AtomicU64::new(0),
+        };
+        let mut crew = Workers::new(rt.alloc(), 3, steals)?;
+        let job = Doubles::new(7);
+        let mut seat = Counter { runs: 0 };
+        let ends = double_all(&rt, rt.alloc(), &mut crew, &job, 7, &gate, &mut seat)?;
+        assert!(rt; are_doubled(&ends, 7));
+        assert_eq!(rt; gate.count.load(Ordering::SeqCst), 10);
+    }
     Ok(())
 }
 
@@ -265,13 +273,15 @@ impl Gate for Meet {
 
 #[test]
 fn two_workers_meet(rt: HostRuntime) -> Result<(), Fail> {
-    let job = Doubles::new(4);
-    let mut crew = Workers::new(rt.alloc(), 2)?;
-    let mut seat = Counter { runs: 0 };
-    let gate = Meet::new();
-    let ends = double_all(&rt, rt.alloc(), &mut crew, &job, 4, &gate, &mut seat)?;
-    assert!(rt; are_doubled(&ends, 4));
-    assert!(rt; gate.was_passed());
+    for steals in [false, true] {
+        let job = Doubles::new(4);
+        let mut crew = Workers::new(rt.alloc(), 2, steals)?;
+        let mut seat = Counter { runs: 0 };
+        let gate = Meet::new();
+        let ends = double_all(&rt, rt.alloc(), &mut crew, &job, 4, &gate, &mut seat)?;
+        assert!(rt; are_doubled(&ends, 4));
+        assert!(rt; gate.was_passed());
+    }
     Ok(())
 }
 
@@ -324,10 +334,12 @@ fn halve_all<R: Threads + Sync>(
 
 #[test]
 fn workers_may_share_nothing(rt: HostRuntime) -> Result<(), Fail> {
-    let mut crew = Workers::new(rt.alloc(), 2)?;
     let numbers = [9, 8, 1, 0, 7];
-    let job = Halves { numbers: &numbers };
-    let ends = halve_all(&rt, rt.alloc(), &mut crew, &job, 5)?;
-    assert_eq!(rt; ends.as_slice(), [4, 4, 0, 0, 3].as_slice());
+    for steals in [false, true] {
+        let mut crew = Workers::new(rt.alloc(), 2, steals)?;
+        let job = Halves { numbers: &numbers };
+        let ends = halve_all(&rt, rt.alloc(), &mut crew, &job, 5)?;
+        assert_eq!(rt; ends.as_slice(), [4, 4, 0, 0, 3].as_slice());
+    }
     Ok(())
 }

@@ -60,25 +60,28 @@ fn a_worker_that_begins_late_changes_no_answer(rt: HostRuntime) -> Result<(), Fa
     let text = "var 0..1: x; var 0..1: y; var 0..9: o; constraint int_lin_eq([1,1],[x,y],1); \
          constraint int_le(4,o); solve minimize o;";
     let model = model_of(rt.alloc(), text)?;
-    let gate = SecondFirst::new();
-    let gates = Gates {
-        crew: &gate,
-        lanes: &NoGate,
-    };
-    let options = Options {
-        all: false,
-        workers: 2,
-        lanes: 1,
-        depth: 1,
-        node_limit: 0,
-        round_limit: 0,
-    };
-    let given = answer(&rt, rt.alloc(), &model, &options, &gates)?;
-    assert_eq!(rt; given.mark, Mark::Complete);
-    assert_eq!(rt; given.solutions.len(), 1);
-    for solution in given.solutions.as_slice() {
-        assert_eq!(rt; solution.as_slice(), [0, 1, 4].as_slice());
+    for steal in [false, true] {
+        let gate = SecondFirst::new();
+        let gates = Gates {
+            crew: &gate,
+            lanes: &NoGate,
+        };
+        let options = Options {
+            all: false,
+            workers: 2,
+            lanes: 1,
+            depth: 1,
+            node_limit: 0,
+            round_limit: 0,
+            steal,
+        };
+        let given = answer(&rt, rt.alloc(), &model, &options, &gates)?;
+        assert_eq!(rt; given.mark, Mark::Complete);
+        assert_eq!(rt; given.solutions.len(), 1);
+        for solution in given.solutions.as_slice() {
+            assert_eq!(rt; solution.as_slice(), [0, 1, 4].as_slice());
+        }
+        assert!(rt; gate.was_passed());
     }
-    assert!(rt; gate.was_passed());
     Ok(())
 }

@@ -43,6 +43,12 @@ const GOALS: &[(&str, &str, &str)] = &[
     ("turbofzn -p 8 --lanes 3 m.fzn", SUMS, SUMS_ANSWER),
     ("turbofzn --lanes 3 --depth 0 m.fzn", SUMS, SUMS_ANSWER),
     ("turbofzn -a --round-limit 35 m.fzn", SUMS, SUMS_ANSWER),
+    ("turbofzn -p 1 --steal m.fzn", SUMS, SUMS_ANSWER),
+    ("turbofzn -p 2 --steal m.fzn", SUMS, SUMS_ANSWER),
+    ("turbofzn -p 8 --steal m.fzn", SUMS, SUMS_ANSWER),
+    ("turbofzn -p 1 --steal --node-limit 1000 m.fzn", SUMS, SUMS_ANSWER),
+    ("turbofzn -p 64 --depth 2 --steal m.fzn", SUMS, SUMS_ANSWER),
+    ("turbofzn -p 64 --depth 16 --steal m.fzn", SUMS, SUMS_ANSWER),
     (
         "turbofzn -p 2 --depth 1 m.fzn",
         "var 0..1: x :: output_var; var 0..1: y :: output_var; var 0..9: o :: output_var; \

@@ -84,16 +84,20 @@ fn two_lanes_meet(rt: HostRuntime) -> Result<(), Fail> {
 fn two_workers_meet(rt: HostRuntime) -> Result<(), Fail> {
     let text = "var 0..1: x :: output_var; var 0..1: y :: output_var; var 0..9: o :: output_var; \
          constraint int_lin_eq([1,1],[x,y],1); constraint int_le(4,o); solve minimize o;";
-    let gate = Meet::new();
-    let gates = Gates {
-        crew: &gate,
-        lanes: &NoGate,
-    };
-    let words = "turbofzn -p 2 --depth 2 m.fzn";
-    let outcome = run_gated(&rt, rt.alloc(), words, text, (SOUND, SOUND), &gates)?;
     let answer = "x = 0;\ny = 1;\no = 4;\n----------\n==========\n";
-    assert_ended(&rt, &outcome, &(Status::Answered, answer, ""), words, text);
-    assert!(rt; gate.was_passed());
+    for words in [
+        "turbofzn -p 2 --depth 2 m.fzn",
+        "turbofzn -p 2 --depth 2 --steal m.fzn",
+    ] {
+        let gate = Meet::new();
+        let gates = Gates {
+            crew: &gate,
+            lanes: &NoGate,
+        };
+        let outcome = run_gated(&rt, rt.alloc(), words, text, (SOUND, SOUND), &gates)?;
+        assert_ended(&rt, &outcome, &(Status::Answered, answer, ""), words, text);
+        assert!(rt; gate.was_passed());
+    }
     Ok(())
 }
 
@@ -144,16 +148,20 @@ impl Gate for AllMeet {
 
 #[test]
 fn eight_workers_meet(rt: HostRuntime) -> Result<(), Fail> {
-    let gate = AllMeet::new();
-    let gates = Gates {
-        crew: &gate,
-        lanes: &NoGate,
-    };
     let text = "var 0..7: x :: output_var; constraint int_le(6,x); solve satisfy;";
-    let words = "turbofzn -p 8 --depth 3 m.fzn";
-    let outcome = run_gated(&rt, rt.alloc(), words, text, (SOUND, SOUND), &gates)?;
-    let ended = (Status::Answered, "x = 6;\n----------\n", "");
-    assert_ended(&rt, &outcome, &ended, words, text);
-    assert!(rt; gate.was_passed());
+    for words in [
+        "turbofzn -p 8 --depth 3 m.fzn",
+        "turbofzn -p 8 --depth 3 --steal m.fzn",
+    ] {
+        let gate = AllMeet::new();
+        let gates = Gates {
+            crew: &gate,
+            lanes: &NoGate,
+        };
+        let outcome = run_gated(&rt, rt.alloc(), words, text, (SOUND, SOUND), &gates)?;
+        let ended = (Status::Answered, "x = 6;\n----------\n", "");
+        assert_ended(&rt, &outcome, &ended, words, text);
+        assert!(rt; gate.was_passed());
+    }
     Ok(())
 }

@@ -26,6 +26,7 @@ search_options o = record {
   depth = o.depth;
   node_limit = o.node_limit;
   round_limit = o.round_limit;
+  steal = o.steal;
 }
 
 -- neither limit is set

@@ -123,7 +123,7 @@ status_code NoMemory = 5
 -- The line that goes to standard error with a status.
 abbrev pub status_line : Status → List ℕ
 status_line Answered = []
-status_line Usage = codes "usage: turbofzn [-a] [-p N] [--lanes N] [--depth D] [--node-limit N] [--round-limit N] (FILE or --make N)" ++ line_end
+status_line Usage = codes "usage: turbofzn [-a] [-p N] [--lanes N] [--depth D] [--node-limit N] [--round-limit N] [--steal] (FILE or --make N)" ++ line_end
 status_line (Refused kind line) = refusal_line kind line
 status_line ReadFault = codes "read fault" ++ line_end
 status_line WriteFault = codes "write fault" ++ line_end

@@ -216,6 +216,7 @@ fn search_options(options: &Options) -> answer::Options
         depth: options.depth,
         node_limit: options.node_limit,
         round_limit: options.round_limit,
+        steal: options.steal,
     }
 }
 

@@ -12,6 +12,7 @@ const DEFAULTS: Options = Options {
     depth: 6,
     node_limit: 0,
     round_limit: 0,
+    steal: false,
 };
 
 /// The words of a line that has a blank between each two.
@@ -36,6 +37,12 @@ fn options_and_what_is_solved_are_read(rt: HostRuntime) -> Result<(), Fail> {
         depth: 0,
         node_limit: 1_000_000_000_000,
         round_limit: 7,
+        steal: true,
+    };
+    let thieves = Options {
+        workers: 2,
+        steal: true,
+        ..DEFAULTS
     };
     let table = [
         ("turbofzn f", DEFAULTS, Input::File("f")),
@@ -45,10 +52,11 @@ fn options_and_what_is_solved_are_read(rt: HostRuntime) -> Result<(), Fail> {
         ("turbofzn f -a", all, Input::File("f")),
         ("turbofzn -- -a", DEFAULTS, Input::File("-a")),
         (
-            "turbofzn -ap64 --lanes=3 --depth 0 --node-limit 1000000000000 --round-limit 007 f",
+            "turbofzn -ap64 --lanes=3 --depth 0 --node-limit 1000000000000 --round-limit 007 --steal f",
             every,
             Input::File("f"),
         ),
+        ("turbofzn --steal -p 2 f", thieves, Input::File("f")),
         ("turbofzn --make 2", DEFAULTS, Input::Made(2)),
         ("turbofzn f --make +2000", DEFAULTS, Input::Made(2000)),
     ];
@@ -80,6 +88,8 @@ fn other_words_are_not_taken(rt: HostRuntime) -> Result<(), Fail> {
         "turbofzn --depth 17 f",
         "turbofzn --node-limit 1000000000001 f",
         "turbofzn --round-limit 18446744073709551616 f",
+        "turbofzn --steal=1 f",
+        "turbofzn --steal --steal f",
         "turbofzn --make 1",
         "turbofzn --make 2001 f",
     ];

@@ -1,19 +1,15 @@
-use Rattle.std.proofs.Common.{◌≡◌, ◌+◌, ◌<◌, [], length, true}
-use Rattle.std.specs.List.{All}
-use Rattle.tickets.specs.Seats.{ticket_parts, next_of, count_of}
-use Rattle.crew.specs.AtWork.{HaveRun, HaveRunSome, AreSeats, IsBack}
+use Rattle.std.proofs.Common.{◌≡◌, ◌++◌, ◌≤◌, ℕ, List, length, map, true, vec_capacity}
+use Rattle.std.specs.List.{All, flat_map}
+use Rattle.crew.specs.AtWork.{HaveRun, HaveRunSome, IsFirstSeat}
 use Rattle.crew.proofs.hiring.take_all.Given as goal
 
 abbrev pub invariant-loop-worker : goal.invariant-loop-worker
 invariant-loop-worker g l = record {
-  seats : AreSeats l.tickets (g.J.Job.fits l.job) g.J.Job.has_parts l.first l.seat;
-  parts : ticket_parts l.first + length l.workers.items ≡ 1024;
-  back : All (IsBack l.tickets (g.J.Job.fits l.job) g.J.Job.has_parts (g.J.Job.stands l.job)) l.workers.items;
-  run : HaveRun (g.J.Job.stands l.job) l.initial.first l.initial.seat [] → l.is_whole ≡ true → HaveRun (g.J.Job.stands l.job) l.first l.seat l.runs.items;
-  left : All (λ w. HaveRunSome (g.J.Job.stands l.job) w.tickets w.seat) l.initial.workers.items → All (λ w. HaveRunSome (g.J.Job.stands l.job) w.tickets w.seat) l.workers.items;
-  made : HaveRunSome (g.J.Job.stands l.job) l.initial.first l.initial.seat → All (λ w. HaveRunSome (g.J.Job.stands l.job) w.tickets w.seat) l.initial.workers.items → HaveRunSome (g.J.Job.stands l.job) l.first l.seat;
-  passed : l.is_whole ≡ true → length l.workers.items < length l.initial.workers.items → next_of l.first ≡ count_of l.tickets;
+  all : l.yielded ++ l.worker-iterator.rest.items ≡ l.fn.workers.items;
+  room : length l.fn.workers.items ≤ vec_capacity l.rights;
+  seat : IsFirstSeat (g.J.Job.fits l.job) g.J.Job.has_parts (length l.worker-iterator.rest.items) l.seat;
+  rights : l.rights.items ≡ map (λ worker. worker.right) l.yielded;
+  done : l.is_whole ≡ true → All (λ worker. worker.is_done ≡ true) l.yielded;
+  run : l.is_whole ≡ true → (drawn : g.row.N.Denot → List ℕ) → All (λ worker. HaveRun (g.J.Job.stands l.job) (drawn worker.right) worker.seat worker.runs.items) l.yielded → HaveRun (g.J.Job.stands l.job) (flat_map drawn l.rights.items) l.seat l.runs.items;
+  made : (drawn : g.row.N.Denot → List ℕ) → All (λ worker. HaveRunSome (g.J.Job.stands l.job) (drawn worker.right) worker.seat) l.yielded → HaveRunSome (g.J.Job.stands l.job) (flat_map drawn l.rights.items) l.seat;
 }
-
-abbrev pub decreases-loop-worker : goal.decreases-loop-worker
-decreases-loop-worker g l = length l.workers.items

@@ -1,10 +1,10 @@
 -- Hands that are being dealt.
-use Rattle.std.specs.Prelude.{ℕ, suc, ◌≡◌, ◌≢◌, ◌-◌, ◌≤◌, Bool, false, List, [], ◌∷◌, ◌++◌, map, flat_map, take, drop, slice_index_or, slice_set}
+use Rattle.std.specs.Prelude.{ℕ, ◌≡◌, ◌≢◌, ◌+◌, ◌-◌, ◌≤◌, Bool, false, List, [], ◌∷◌, ◌++◌, map, flat_map, length, take, drop, slice_index_or, slice_set}
 use Rattle.std.specs.List.{All}
 use Rattle.steal_crew.specs.declared.hand.Hand.{Hand}
 use Rattle.steal_crew.specs.Numbers.{AreSameNumbers, numbers_below, share}
 use Rattle.steal_crew.specs.Rights.{Right}
-use Rattle.steal_crew.specs.Hands.{Standing, AreWhole, lent_to, count_of, dealt_of, taken_of, drawn_of, is_done, own_view}
+use Rattle.steal_crew.specs.Hands.{Standing, standing_of, AreWhole, lent_to, rights_at, count_of, dealt_of, taken_of, drawn_of, is_done, own_view}
 
 -- it has taken and given nothing
 pub record IsUndrawn (hand : Hand) : Type 0 where
@@ -48,12 +48,16 @@ pub record AreBeingDealt (standings : List Standing) : Type 0 where
   pub few : (d : ℕ) → All (λ s. lent_to d s ≤ 1) standings
   pub dealt : All (λ s. AreSameNumbers (flat_map (λ t. t.dealt) standings) (numbers_below s.count)) standings
 
--- all but the rights of one hand and the parts are as before
-pub record AreSameBut (robber : ℕ) (before after : List Standing) : Type 0 where
-  pub count : map (λ s. s.count) after ≡ map (λ s. s.count) before
-  pub dealt : map (λ s. s.dealt) after ≡ map (λ s. s.dealt) before
-  pub others : (i : ℕ) (d : Standing) → i ≢ robber → (slice_index_or after i d).rights ≡ (slice_index_or before i d).rights
-
 -- all but one, from the next one on
 abbrev pub others_from : {A : Type 0} → ℕ → List A → List A
-others_from place xs = drop (suc place) xs ++ take place xs
+others_from place xs = drop (place + 1) xs ++ take place xs
+
+-- one hand has got a right at the deque of each of so many others, and the rights of all others stay
+pub record IsLending (robber passed : ℕ) (before after : List Hand) : Type 0 where
+  pub undrawn : All IsUndrawn after
+  pub dealing : AreBeingDealt (map standing_of after)
+  pub count : map count_of after ≡ map count_of before
+  pub dealt : map dealt_of after ≡ map dealt_of before
+  pub others : (i : ℕ) → i ≢ robber → rights_at i after ≡ rights_at i before
+  pub places : map (λ r. r.of) (rights_at robber after) ≡ take passed (others_from robber (numbers_below (length before)))
+  pub lists : map (λ r. r.dealt) (rights_at robber after) ≡ take passed (others_from robber (map dealt_of before))

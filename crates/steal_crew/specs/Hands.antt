@@ -1,5 +1,5 @@
 -- What contracts say of hands.
-use Rattle.std.specs.Prelude.{ℕ, ◌≡◌, ◌+◌, ◌<◌, ◌≤◌, ◌==◌, cond, Bool, List, ◌++◌, map, length, sum_by, flat_map, slice_index, slice_index_or}
+use Rattle.std.specs.Prelude.{ℕ, ◌≡◌, ◌+◌, ◌<◌, ◌≤◌, ◌==◌, cond, Bool, List, [], ◌++◌, map, length, sum_by, flat_map, slice_index, slice_index_or}
 use Rattle.std.specs.List.{All}
 use Rattle.std.specs.declared.alloc.Global.{Global}
 use Rattle.atomic_blocks.specs.Lent.{RowsId}
@@ -53,6 +53,14 @@ standing_of hand = record {
   dealt = (worker_view hand.own).dealt;
   rights = map right_of hand.others.items;
 }
+
+-- its rights at the deques of others, in the order in which it tries them
+abbrev pub rights_of : Hand → List Right
+rights_of hand = map right_of hand.others.items
+
+-- those of the hand at this place
+abbrev pub rights_at : ℕ → List Hand → List Right
+rights_at place hands = slice_index_or (map rights_of hands) place []
 
 -- the second is the first after some draws: what left the deques by its passes is what it gave
 pub record IsSameHand (before after : Hand) : Type 0 where

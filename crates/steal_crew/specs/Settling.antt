@@ -1,8 +1,8 @@
 -- Hands whose passes are given back.
-use Rattle.std.specs.Prelude.{ℕ, ◌≡◌, ◌<◌, List, [], map, flat_map, slice_index_or}
+use Rattle.std.specs.Prelude.{◌≡◌, List, map, flat_map}
 use Rattle.steal_crew.specs.declared.hand.Hand.{Hand}
 use Rattle.steal_crew.specs.Numbers.{AreSameNumbers}
-use Rattle.steal_crew.specs.Hands.{Standing, standing_of, AreWhole, count_of, dealt_of, taken_of, drawn_of, is_done}
+use Rattle.steal_crew.specs.Hands.{count_of, dealt_of, taken_of, drawn_of, is_done}
 
 -- What stays while hands give passes back to each other: what each was dealt and what it gave, and what all have taken
 pub record AreKept (before after : List Hand) : Type 0 where
@@ -11,7 +11,3 @@ pub record AreKept (before after : List Hand) : Type 0 where
   pub drawn : map drawn_of after ≡ map drawn_of before
   pub done : map is_done after ≡ map is_done before
   pub taken : AreSameNumbers (flat_map taken_of after) (flat_map taken_of before)
-
--- the hands below this place have rights at no other deque
-abbrev pub HaveGivenBack : ℕ → List Hand → Type 0
-HaveGivenBack m hands = (i : ℕ) (d : Standing) → i < m → (slice_index_or (map standing_of hands) i d).rights ≡ []

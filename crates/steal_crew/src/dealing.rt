@@ -6,8 +6,8 @@ ghost use Rattle.crossbeam_deque.specs.Handles.{SameWorker, worker_view};
 ghost use Rattle.steal_crew.specs.Numbers.{IsPart, numbers_below, share};
 ghost use Rattle.steal_crew.specs.Rule.{first_view, view_of};
 ghost use Rattle.steal_crew.specs.Rights.{right_of, taken_by, dealt_to};
-ghost use Rattle.steal_crew.specs.Hands.{AreHandsOfOneDeal, AreWhole, Standing, standing_of, count_of, dealt_of, drawn_of, is_done, own_view};
-ghost use Rattle.steal_crew.specs.Dealing.{IsUndrawn, IsFresh, AreFresh, AreBeingDealt, AreSameBut, less_one, lent, right_at, with_right};
+ghost use Rattle.steal_crew.specs.Hands.{AreHandsOfOneDeal, Standing, standing_of, rights_at, count_of, dealt_of, drawn_of, is_done, own_view};
+ghost use Rattle.steal_crew.specs.Dealing.{IsUndrawn, IsFresh, AreFresh, AreBeingDealt, less_one, lent, right_at, with_right};
 
 use crate::hand::Hand;
 use crate::steps::{Own, make, part, push};
@@ -127,16 +127,18 @@ fn place_after(place: usize, steps: usize, count: usize) -> usize
 fn lend_each(hands: &mut Vec<Hand>, robber: usize) -> Result<(), NoMemory>
     requires few { length hands.old.items ≤ 64 }
     requires robber { robber < length hands.old.items }
+    requires none { rights_at robber hands.old.items ≡ [] }
     requires undrawn { All IsUndrawn hands.old.items }
     requires dealing { AreBeingDealt (map standing_of hands.old.items) }
-    requires none { (d : Standing) → (slice_index_or (map standing_of hands.old.items) robber d).rights ≡ [] }
     ensures undrawn { All IsUndrawn hands.new.items }
     ensures dealing { OnOk result (AreBeingDealt (map standing_of hands.new.items)) }
-    ensures same { OnOk result (AreSameBut robber (map standing_of hands.old.items) (map standing_of hands.new.items)) }
+    ensures count { OnOk result (map count_of hands.new.items ≡ map count_of hands.old.items) }
+    ensures dealt { OnOk result (map dealt_of hands.new.items ≡ map dealt_of hands.old.items) }
+    ensures others { (i : ℕ) → i ≢ robber → OnOk result (rights_at i hands.new.items ≡ rights_at i hands.old.items) }
 {
     let count = hands.len();
-    for steps in 1..count {
-        lend(hands, robber, place_after(robber, steps, count))?;
+    for passed in 0..count - 1 {
+        lend(hands, robber, place_after(robber, passed + 1, count))?;
     }
     Ok(())
 }
@@ -144,11 +146,11 @@ fn lend_each(hands: &mut Vec<Hand>, robber: usize) -> Result<(), NoMemory>
 /// Each hand gets a right at the deque of each other.
 fn lend_all(hands: &mut Vec<Hand>) -> Result<(), NoMemory>
     requires few { length hands.old.items ≤ 64 }
+    requires none { (i : ℕ) → rights_at i hands.old.items ≡ [] }
     requires undrawn { All IsUndrawn hands.old.items }
     requires dealing { AreBeingDealt (map standing_of hands.old.items) }
-    requires none { All (λ s. s.rights ≡ []) (map standing_of hands.old.items) }
     ensures undrawn { All IsUndrawn hands.new.items }
-    ensures whole { OnOk result (AreWhole (map standing_of hands.new.items)) }
+    ensures dealing { OnOk result (AreBeingDealt (map standing_of hands.new.items)) }
     ensures count { OnOk result (map count_of hands.new.items ≡ map count_of hands.old.items) }
     ensures dealt { OnOk result (map dealt_of hands.new.items ≡ map dealt_of hands.old.items) }
 {

@@ -1,14 +1,14 @@
 //! Passes that are given back, and a last look at each deque.
 
-ghost use Rattle.std.specs.Prelude.{◌≡◌, ◌<◌, ◌≤◌, ◌++◌, ℕ, [], ◌∷◌, true, false, map, flat_map, length, slice_index_or, slice_set, IfSome, IfNone};
+ghost use Rattle.std.specs.Prelude.{◌≡◌, ◌≢◌, ◌<◌, ◌≤◌, ◌+◌, ◌++◌, ℕ, [], true, map, length, slice_index_or, option_to_list, IfNone};
 ghost use Rattle.std.specs.Bool.{OnTrue, OnFalse};
-ghost use Rattle.std.specs.List.{All, Any, list_all};
+ghost use Rattle.std.specs.List.{All, list_all};
 ghost use Rattle.tickets.specs.Counting.{IsEachOnce};
-ghost use Rattle.steal_crew.specs.Numbers.{AreSameNumbers, IsOnceAtMost};
+ghost use Rattle.steal_crew.specs.Numbers.{IsOnceAtMost};
 ghost use Rattle.steal_crew.specs.Rule.{IsAllTaken};
 ghost use Rattle.steal_crew.specs.Rights.{right_of, taken_by};
-ghost use Rattle.steal_crew.specs.Hands.{AreHandsOfOneDeal, AreWhole, Standing, standing_of, all_drawn, dealt_of, taken_of, drawn_of, is_done, own_view};
-ghost use Rattle.steal_crew.specs.Settling.{AreKept, HaveGivenBack};
+ghost use Rattle.steal_crew.specs.Hands.{AreHandsOfOneDeal, AreWhole, standing_of, rights_at, all_drawn, dealt_of, taken_of, drawn_of, is_done, own_view};
+ghost use Rattle.steal_crew.specs.Settling.{AreKept};
 
 use crate::hand::Hand;
 use crate::steps::{look, merge};
@@ -24,9 +24,8 @@ pub(crate) fn are_done(hands: &[Hand]) -> bool
 impl Hand {
     /// Gives up the last of its rights.
     fn release(&mut self) -> Option<Victim>
-        ensures none { IfNone result (self.new ≡ self.old) }
-        ensures no_right { IfNone result (self.old.others.items ≡ []) }
-        ensures rights { IfSome result (λ victim. self.old.others.items ≡ self.new.others.items ++ victim ∷ []) }
+        ensures none { IfNone result (self.old.others.items ≡ []) }
+        ensures others { self.old.others.items ≡ self.new.others.items ++ option_to_list result }
         ensures standing { standing_of self.new ≡ record (standing_of self.old) { rights = map right_of self.new.others.items } }
         ensures own { own_view self.new ≡ own_view self.old }
         ensures drawn { drawn_of self.new ≡ drawn_of self.old }
@@ -62,19 +61,36 @@ impl Hand {
     }
 }
 
+/// Gives the last pass that one hand has of another deque back to the hand whose deque it is, and says whether there was one.
+fn give_back_one(hands: &mut Vec<Hand>, place: usize) -> bool
+    requires place { place < length hands.old.items }
+    requires whole { AreWhole (map standing_of hands.old.items) }
+    ensures whole { AreWhole (map standing_of hands.new.items) }
+    ensures kept { AreKept hands.old.items hands.new.items }
+    ensures fewer { OnTrue result (length (rights_at place hands.new.items) < length (rights_at place hands.old.items)) }
+    ensures given { OnFalse result (rights_at place hands.new.items ≡ []) }
+    ensures others { (i : ℕ) → i ≢ place → rights_at i hands.new.items ≡ rights_at i hands.old.items }
+{
+    match hands[place].release() {
+        None => false,
+        Some(victim) => {
+            let of = victim.of as usize;
+            hands[of].take_in(victim);
+            true
+        }
+    }
+}
+
 /// Gives the passes that one hand has of other deques back to the hands whose deques they are.
 fn give_back(hands: &mut Vec<Hand>, place: usize)
     requires place { place < length hands.old.items }
     requires whole { AreWhole (map standing_of hands.old.items) }
     ensures whole { AreWhole (map standing_of hands.new.items) }
     ensures kept { AreKept hands.old.items hands.new.items }
-    ensures given { (d : Standing) → (slice_index_or (map standing_of hands.new.items) place d).rights ≡ [] }
-    ensures others { (i : ℕ) (d : Standing) → i ≢ place → (slice_index_or (map standing_of hands.new.items) i d).rights ≡ (slice_index_or (map standing_of hands.old.items) i d).rights }
+    ensures given { rights_at place hands.new.items ≡ [] }
+    ensures others { (i : ℕ) → i ≢ place → rights_at i hands.new.items ≡ rights_at i hands.old.items }
 {
-    while let Some(victim) = hands[place].release() {
-        let of = victim.of as usize;
-        hands[of].take_in(victim);
-    }
+    'passes: while give_back_one(hands, place) {}
 }
 
 /// Gives all passes back to the hands whose deques they are.
@@ -82,7 +98,7 @@ fn give_all_back(hands: &mut Vec<Hand>)
     requires { AreWhole (map standing_of hands.old.items) }
     ensures whole { AreWhole (map standing_of hands.new.items) }
     ensures kept { AreKept hands.old.items hands.new.items }
-    ensures given { HaveGivenBack (length hands.new.items) hands.new.items }
+    ensures given { (i : ℕ) → i < length hands.new.items → rights_at i hands.new.items ≡ [] }
 {
     for place in 0..hands.len() {
         give_back(hands, place);

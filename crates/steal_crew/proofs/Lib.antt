@@ -1,0 +1,10 @@
+pub mod ViewLaws
+pub mod Moves
+pub mod NumberLaws
+pub mod DrawLaws
+pub mod HandLemmas
+pub mod LendLaws
+pub mod GiveLaws
+pub mod SettleLaws
+pub mod EachLaws
+pub mod TakeLaws

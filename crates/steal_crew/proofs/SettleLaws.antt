@@ -1,0 +1,89 @@
+-- What is known once all passes are given back.
+use Rattle.std.proofs.Common.{ℕ, zero, suc, ◌≡◌, ◌+◌, ◌<◌, ◌≤◌, List, [], ◌∷◌, ◌++◌, length, map, get_or, cond, Bool, true, refl, sym, ap, ◌∙◌, subst, arith}
+use Rattle.std.specs.Prelude.{◌==◌, flat_map, sum_by}
+use Rattle.std.specs.List.{All}
+use Rattle.std.proofs.lemmas.List.{length-map, get_or-map}
+use Rattle.std.proofs.lemmas.Simd.{map-map}
+use Rattle.std.proofs.lemmas.List.Sums.{sum_by-append, sum_by-cons}
+use Rattle.std.proofs.lemmas.List.Folds.{flat_map-map}
+use Rattle.tickets.specs.Counting.{IsEachOnce}
+use Rattle.steal_crew.specs.Numbers.{AreSameNumbers, IsPart, IsOnceAtMost, numbers_below}
+use Rattle.steal_crew.specs.Rule.{IsAllTaken}
+use Rattle.steal_crew.specs.Rights.{Right, right_of, taken_by}
+use Rattle.steal_crew.specs.Hands.{Standing, standing_of, lent_to, parts_of, AreWhole, AreHandsOfOneDeal, count_of, dealt_of, taken_of, drawn_of, all_drawn, own_view, is_done, rights_of, rights_at}
+use Rattle.steal_crew.specs.Settling.{AreKept}
+use Rattle.steal_crew.specs.declared.hand.Hand.{Hand}
+use Rattle.steal_crew.specs.declared.victim.Victim.{Victim}
+use Rattle.steal_crew.proofs.NumberLaws.{each_of_same, once_of_part}
+use Rattle.steal_crew.proofs.HandLemmas.{counts_same}
+
+-- lists that a function of each hand gives, one after the other
+flat_of : (f : Hand → List ℕ) (before after : List Hand) → map f after ≡ map f before → flat_map f after ≡ flat_map f before
+flat_of f before after e = sym (flat_map-map (λ (x : List ℕ). x) f after) ∙ ap (flat_map (λ (x : List ℕ). x)) e ∙ flat_map-map (λ (x : List ℕ). x) f before
+
+pub kept_deal : (n : ℕ) (before after : List Hand) → length after ≡ length before → AreKept before after → AreWhole (map standing_of after) → AreHandsOfOneDeal n before → AreHandsOfOneDeal n after
+kept_deal n before after long kept whole deal = record {
+  some = let a = deal.some in omega arith;
+  count = counts_same n before after kept.count deal.count;
+  whole = whole;
+  dealt = record { weight = λ w. ap (sum_by w) (flat_of dealt_of before after kept.dealt) ∙ deal.dealt.weight w };
+  held = record { weight = λ w. ap (sum_by w) (flat_of drawn_of before after kept.drawn) ∙ deal.held.weight w ∙ sym (kept.taken.weight w) };
+}
+
+pub kept_length : (before after : List Hand) → AreKept before after → length after ≡ length before
+kept_length before after kept = let a = length-map after count_of in let b = length-map before count_of in let c : length (map count_of after) ≡ length (map count_of before) = ap length kept.count in omega arith
+
+abbrev HaveNoRights : List Hand → Type 0
+HaveNoRights hands = (i : ℕ) → i < length hands → rights_at i hands ≡ []
+
+no_victims : (h : Hand) → rights_of h ≡ [] → flat_map taken_by h.others.items ≡ []
+no_victims h e = none h.others.items e
+  where
+    none : (os : List Victim) → map right_of os ≡ [] → flat_map taken_by os ≡ []
+    none [] e = refl
+    none (v ∷ os) e = let l : length (map right_of (v ∷ os)) ≡ 0 = ap length e in absurd (omega arith)
+
+-- where no hand has rights, all parts of a deque are its hand's
+sum_of_none : (q : ℕ) (hands : List Hand) → HaveNoRights hands → sum_by (lent_to q) (map standing_of hands) ≡ 0
+sum_of_none q [] none = refl
+sum_of_none q (h ∷ hands) none =
+    let a = sum_by-cons (lent_to q) (standing_of h) (map standing_of hands) in
+    let b : lent_to q (standing_of h) ≡ 0 = ap (sum_by (λ (r : Right). cond (r.of == q) r.parts 0)) (none zero (omega arith)) in
+    let r = sum_of_none q hands (λ i lt. none (suc i) (omega arith)) in omega arith
+
+pub all_parts : (hands : List Hand) → HaveNoRights hands → AreWhole (map standing_of hands) → All (λ (h : Hand). (own_view h).parts ≡ 1024) hands
+all_parts hands none whole = λ k d lt.
+    let l = length-map hands standing_of in
+    let w = whole.parts k (omega arith) in
+    let s = sum_of_none k hands none in
+    let p : get_or (map (λ (t : Standing). t.parts) (map standing_of hands)) k 0 ≡ (own_view (get_or hands k d)).parts =
+    ap (λ (ps : List ℕ). get_or ps k 0) (map-map (λ (t : Standing). t.parts) standing_of hands) ∙ get_or-map (λ (h : Hand). (standing_of h).parts) hands k d 0 lt in
+    omega arith
+
+-- what the hands without rights have taken is among what was dealt to them
+taken_part : (w : ℕ → ℕ) (hands : List Hand) → HaveNoRights hands → sum_by w (flat_map taken_of hands) ≤ sum_by w (flat_map dealt_of hands)
+taken_part w [] none = omega arith
+taken_part w (h ∷ hands) none =
+    let a = sum_by-append w (taken_of h) (flat_map taken_of hands) in
+    let b = sum_by-append w (dealt_of h) (flat_map dealt_of hands) in
+    let c : sum_by w (taken_of h) ≡ sum_by w (own_view h).taken + 0 = sum_by-append w (own_view h).taken (flat_map taken_by h.others.items) ∙ ap (λ (xs : List ℕ). sum_by w (own_view h).taken + sum_by w xs) (no_victims h (none zero (omega arith))) in
+    let e = h.within.weight w in
+    let r = taken_part w hands (λ i lt. none (suc i) (omega arith)) in omega arith
+
+taken_all : (w : ℕ → ℕ) (hands : List Hand) → HaveNoRights hands → All (λ (h : Hand). AreSameNumbers (own_view h).taken (own_view h).dealt) hands → sum_by w (flat_map taken_of hands) ≡ sum_by w (flat_map dealt_of hands)
+taken_all w [] none all = refl
+taken_all w (h ∷ hands) none all =
+    let a = sum_by-append w (taken_of h) (flat_map taken_of hands) in
+    let b = sum_by-append w (dealt_of h) (flat_map dealt_of hands) in
+    let c : sum_by w (taken_of h) ≡ sum_by w (own_view h).taken + 0 = sum_by-append w (own_view h).taken (flat_map taken_by h.others.items) ∙ ap (λ (xs : List ℕ). sum_by w (own_view h).taken + sum_by w xs) (no_victims h (none zero (omega arith))) in
+    let e = (all zero h (omega arith)).weight w in
+    let r = taken_all w hands (λ i lt. none (suc i) (omega arith)) (λ k d lt. all (suc k) d (omega arith)) in omega arith
+
+pub once_drawn : (n : ℕ) (hands : List Hand) → HaveNoRights hands → AreHandsOfOneDeal n hands → IsOnceAtMost n (all_drawn hands)
+once_drawn n hands none deal = once_of_part n (all_drawn hands) (record { weight = λ w. let a = deal.held.weight w in let b = taken_part w hands none in let c = deal.dealt.weight w in omega arith })
+
+pub each_drawn : (n : ℕ) (hands : List Hand) → HaveNoRights hands → AreHandsOfOneDeal n hands → All (λ (h : Hand). AreSameNumbers (own_view h).taken (own_view h).dealt) hands → IsEachOnce n (all_drawn hands)
+each_drawn n hands none deal all = each_of_same n (all_drawn hands) (record { weight = λ w. deal.held.weight w ∙ taken_all w hands none all ∙ deal.dealt.weight w })
+
+pub drawn_kept : (before after : List Hand) → map drawn_of after ≡ map drawn_of before → all_drawn after ≡ all_drawn before
+drawn_kept before after e = flat_of drawn_of before after e

@@ -1,0 +1,6 @@
+pub mod Numbers
+pub mod Rule
+pub mod Rights
+pub mod Hands
+pub mod Dealing
+pub mod Settling

@@ -2,4 +2,5 @@ pub mod Filling
 pub mod Items
 mod Made
 mod Tickets
+mod HandLaws
 mod Hired

@@ -4,3 +4,4 @@ pub mod Crews
 pub mod Rights
 pub mod AtWork
 pub mod TicketRights
+pub mod HandRights

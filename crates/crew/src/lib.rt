@@ -3,6 +3,7 @@
 #![tactic(auto)]
 
 mod ends;
+mod hand_source;
 mod hiring;
 mod job;
 mod numbers;

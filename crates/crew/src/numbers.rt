@@ -5,6 +5,7 @@ ghost use Rattle.crew.specs.Ends.{AreEndsOf, AreSomeRuns};
 ghost use Rattle.crew.specs.Crews.{workers_of, steals_of};
 ghost use Rattle.crew.specs.AtWork.{IsRun, KeepsRuns};
 
+use crate::hand_source::deal_hands;
 use crate::job::Job;
 use crate::sourced::run_from;
 use crate::ticket_source::deal_tickets;
@@ -15,7 +16,8 @@ use list_of::ListOf;
 use std::alloc::Global;
 use std::thread::Threads;
 
-/// Has a crew run all numbers of a job, each once, and gives the ends of the runs in the order of the numbers. Each
+/// Has a crew run all numbers of a job, each once, and gives the ends of the runs in the order of the numbers. The workers
+/// draw the numbers by tickets, or steal them, as the crew is made; which it is changes nothing of what is promised. Each
 /// worker passes the gate, with how many times it has asked for a number before, and asks for the next, until none is
 /// left. One worker is run by the calling thread. Where memory was refused, to a run or here, all workers are taken in
 /// before that is answered.
@@ -50,6 +52,10 @@ pub fn run_numbers<
     ensures crew { workers_of crew.new ≡ workers_of crew.old }
     ensures steals { steals_of crew.new ≡ steals_of crew.old }
 {
+    if crew.steals() {
+        let dealt = deal_hands(alloc, count, crew.count())?;
+        return run_from(rt, alloc, crew, job, run, gate, seat, dealt);
+    }
     let dealt = deal_tickets(alloc, count, crew.count())?;
     run_from(rt, alloc, crew, job, run, gate, seat, dealt)
 }

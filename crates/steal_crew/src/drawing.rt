@@ -74,6 +74,7 @@ impl Hand {
         ensures same { IsSameHand self.old self.new }
         ensures drawn { drawn_of self.new ≡ with_drawn result (drawn_of self.old) }
         ensures below { IfSome result (λ k. k < count_of self.old) }
+        ensures few { length (drawn_of self.new) ≤ count_of self.old }
         ensures done { is_done self.new ≡ is_none result }
         ensures own_empty { IfNone result (F.fact (own_view self.old)) }
     {

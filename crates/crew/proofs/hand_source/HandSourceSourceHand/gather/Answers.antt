@@ -1,0 +1,16 @@
+use Rattle.crew.proofs.HandLaws.{hands_after, on_true_weaker}
+use Rattle.crew.proofs.hand_source.HandSourceSourceHand.gather.Goals as goal
+
+pub settle-requires : goal.settle-requires
+settle-requires c = (c.args.self.count, hands_after c.law_hands.ensures c.args.self.count c.args.rights.items c.requires.all)
+
+pub returns : goal.returns
+returns c =
+    let n = c.args.self.count in
+    let deal = hands_after c.law_hands.ensures n c.args.rights.items c.requires.all in
+    let once = c.settle.ensures.once n deal in
+    record {
+      once = once.once;
+      below = once.no_other;
+      each_once = on_true_weaker c.settle.result _ _ (λ each passed. each) (c.settle.ensures.all n deal);
+    }

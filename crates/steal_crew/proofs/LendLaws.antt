@@ -40,7 +40,7 @@ same_at f xs ys i d e h = let l = same_length f xs ys e in
 pub dealt_same : (ss ts : List Standing) → map (λ (s : Standing). s.dealt) ss ≡ map (λ (s : Standing). s.dealt) ts → flat_map (λ (s : Standing). s.dealt) ss ≡ flat_map (λ (s : Standing). s.dealt) ts
 dealt_same ss ts e = sym (flat_map-map (λ (x : List ℕ). x) (λ (s : Standing). s.dealt) ss) ∙ ap (flat_map (λ (x : List ℕ). x)) e ∙ flat_map-map (λ (x : List ℕ). x) (λ (s : Standing). s.dealt) ts
 
-right_stays : (ss ts : List Standing) (r : Right) → map (λ (s : Standing). s.deque) ts ≡ map (λ (s : Standing). s.deque) ss → IsRightAt ss r → IsRightAt ts r
+pub right_stays : (ss ts : List Standing) (r : Right) → map (λ (s : Standing). s.deque) ts ≡ map (λ (s : Standing). s.deque) ss → IsRightAt ss r → IsRightAt ts r
 right_stays ss ts r e h = let l = same_length (λ (s : Standing). s.deque) ts ss e in let p = h.place in record {
   place = omega arith;
   deque = λ d. h.deque d ∙ sym (same_at (λ (s : Standing). s.deque) ts ss r.of d e (omega arith));

@@ -47,17 +47,17 @@ module _ (hands : List Hand) (place of : ℕ) (old new : Hand) (v : Victim) (rel
   done_at = released.done ∙ ap is_done released.value
 
   pub returned_in : of < length hands
-  returned_in = right_in hands place of old new v released.place_in whole is last_at standing_at own_at drawn_at done_at
+  returned_in = right_in hands place of old new new v released.place_in whole is last_at standing_at own_at drawn_at done_at
 
   long : length (set hands place new) ≡ length hands
-  long = rest_long hands place of old new v released.place_in whole is last_at standing_at own_at drawn_at done_at
+  long = rest_long hands place of old new new v released.place_in whole is last_at standing_at own_at drawn_at done_at
 
   module _ (keeper after : Hand) where
     value_at : keeper ≡ get_or (set hands place new) of keeper → keeper ≡ get_or (set hands place new) of old
     value_at e = e ∙ any_default (set hands place new) of keeper old (let l = long in let r = returned_in in omega arith)
 
     pub returned_deque : keeper ≡ get_or (set hands place new) of keeper → (right_of v).deque ≡ (standing_of keeper).deque
-    returned_deque e = deque_at hands place of old new v released.place_in whole is last_at standing_at own_at drawn_at done_at ∙ ap (λ (h : Hand). (standing_of h).deque) (sym (value_at e))
+    returned_deque e = deque_at hands place of old new new v released.place_in whole is last_at standing_at own_at drawn_at done_at ∙ ap (λ (h : Hand). (standing_of h).deque) (sym (value_at e))
 
     module _ (taken : IsTakenIn (set hands place new) of keeper after v) where
       standing_there : standing_of after ≡ with_parts (standing_of (get_or (set hands place new) of old)) (right_of v).parts

@@ -1,6 +1,7 @@
 -- What is known once all passes are given back.
-use Rattle.std.proofs.Common.{ℕ, zero, suc, ◌≡◌, ◌≢◌, ◌+◌, ◌<◌, ◌≤◌, List, [], ◌∷◌, ◌++◌, length, map, get_or, set, cond, Bool, true, refl, sym, ap, ◌∙◌, subst, arith}
+use Rattle.std.proofs.Common.{ℕ, zero, suc, ◌≡◌, ◌≢◌, ◌+◌, ◌<◌, ◌≤◌, List, [], ◌∷◌, ◌++◌, length, map, get_or, set, cond, Bool, true, false, refl, sym, ap, ◌∙◌, subst, arith}
 use Rattle.std.specs.Prelude.{◌==◌, flat_map, sum_by}
+use Rattle.std.specs.Bool.{OnTrue}
 use Rattle.std.specs.List.{All, list_all}
 use Rattle.std.proofs.lemmas.List.{length-map, get_or-map, get_or-set_other}
 use Rattle.std.proofs.lemmas.Grind.{get_or-set_at}
@@ -145,3 +146,7 @@ module _ (n : ℕ) (old given looked : List Hand) (kept : AreKept old given) (wh
   settled_done fewer done =
       let all : list_all is_done given ≡ true = list_all-from_AllPass is_done given (λ k d lt. fewer k d lt (AllPass-from_list_all is_done looked done k d (let l = same_long in omega arith))) in
       sym (list_all-map (λ (b : Bool). b) is_done old) ∙ ap (list_all (λ (b : Bool). b)) (sym kept.done) ∙ list_all-map (λ (b : Bool). b) is_done given ∙ all
+
+pub on_true : {P : Type 0} (b : Bool) → (b ≡ true → P) → OnTrue b P
+on_true true f = f refl
+on_true false f = tt

@@ -1,9 +1,9 @@
 -- A hand gets a right at the deque of each other.
-use Rattle.std.proofs.Common.{ℕ, zero, suc, ◌≡◌, ◌≢◌, ◌+◌, ◌<◌, ◌≤◌, List, [], ◌∷◌, ◌++◌, length, map, take, get_or, set, cond, refl, sym, ap, ◌∙◌, subst, arith}
-use Rattle.std.specs.Prelude.{◌==◌, flat_map, sum_by}
+use Rattle.std.proofs.Common.{ℕ, zero, suc, ◌≡◌, ◌≢◌, ◌+◌, ◌<◌, ◌≤◌, List, [], ◌∷◌, ◌++◌, length, map, take, get_or, set, cond, refl, sym, ap, ◌∙◌, subst, arith, length-set}
+use Rattle.std.specs.Prelude.{◌==◌, flat_map, sum_by, Result, Ok, Err, OnOk}
 use Rattle.std.specs.List.{All}
 use Rattle.std.proofs.Math.ListN.{get_or-map as at_map}
-use Rattle.std.proofs.lemmas.List.{length-map, map-append, get_or-map, get_or-set_same, get_or-set_other, take_more}
+use Rattle.std.proofs.lemmas.List.{length-map, map-append, map-set, get_or-map, get_or-set_same, get_or-set_other, take_more}
 use Rattle.std.proofs.lemmas.Simd.{map-map}
 use Rattle.std.proofs.lemmas.List.Sums.{sum_by-append, sum_by-cons, sum_by_push, sum_by-take-le}
 use mathlib.Core.Logic.{dite}
@@ -11,7 +11,7 @@ use native.Mathlib.Decide.{dec_le}
 use Rattle.steal_crew.specs.Numbers.{AreSameNumbers, IsPart, numbers_below}
 use Rattle.steal_crew.specs.Rights.{Right, right_of, dealt_to}
 use Rattle.steal_crew.specs.Hands.{Standing, standing_of, lent_to, count_of, dealt_of, own_view, rights_of, rights_at}
-use Rattle.steal_crew.specs.Dealing.{IsUndrawn, AreBeingDealt, IsLending, lent, right_at, others_from}
+use Rattle.steal_crew.specs.Dealing.{IsUndrawn, AreBeingDealt, IsLending, less_one, with_right, lent, right_at, others_from}
 use Rattle.steal_crew.specs.declared.hand.Hand.{Hand}
 use Rattle.steal_crew.proofs.NumberLaws.{length-below, sum_by-flat_map}
 use Rattle.steal_crew.proofs.HandLemmas.{dealt_of_standings}
@@ -157,3 +157,22 @@ lending_none robber hands none undrawn dealing = record {
   places = ap (map (λ (r : Right). r.of)) none;
   lists = ap (map (λ (r : Right). r.dealt)) none;
 }
+
+-- a hand has lent, and another has got the right
+pub lent_hands : (hands : List Hand) (of robber : ℕ) (d : Standing) (giver given taker took : Hand) (right : Right) → of < length hands → robber < length hands
+    → giver ≡ get_or hands of giver → standing_of given ≡ less_one (standing_of giver) → right ≡ right_at of (standing_of giver)
+    → taker ≡ get_or (set hands of given) robber taker → standing_of took ≡ with_right (standing_of taker) right
+    → map standing_of (set (set hands of given) robber took) ≡ lent d (map standing_of hands) robber of
+lent_hands hands of robber d giver given taker took right of_in robber_in is_giver less is_right is_taker more =
+    let ss : List Standing = map standing_of hands in
+    let g : standing_of giver ≡ get_or ss of d = ap standing_of is_giver ∙ sym (get_or-map standing_of hands of giver d of_in) in
+    let m : map standing_of (set hands of given) ≡ set ss of (less_one (get_or ss of d)) = map-set standing_of hands of given ∙ ap (set ss of) (less ∙ ap less_one g) in
+    let t : standing_of taker ≡ get_or (set ss of (less_one (get_or ss of d))) robber d =
+    ap standing_of is_taker ∙ sym (get_or-map standing_of (set hands of given) robber taker d (let l = length-set hands of given in omega arith)) ∙ ap (λ (l : List Standing). get_or l robber d) m in
+    let w : standing_of took ≡ with_right (get_or (set ss of (less_one (get_or ss of d))) robber d) (right_at of (get_or ss of d)) =
+    more ∙ ap (λ (s : Standing). with_right s right) t ∙ ap (with_right (get_or (set ss of (less_one (get_or ss of d))) robber d)) (is_right ∙ ap (right_at of) g) in
+    map-set standing_of (set hands of given) robber took ∙ ap (λ (l : List Standing). set l robber (standing_of took)) m ∙ ap (set (set ss of (less_one (get_or ss of d))) robber) w
+
+pub on_ok : {A B : Type 0} {P Q : Type 0} (r : Result A B) → OnOk r P → (P → Q) → OnOk r Q
+on_ok (Ok a) p f = f p
+on_ok (Err b) p f = tt

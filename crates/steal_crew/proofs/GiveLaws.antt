@@ -116,7 +116,7 @@ pub kept_refl : (hands : List Hand) → AreKept hands hands
 kept_refl hands = record { count = refl; dealt = refl; drawn = refl; done = refl; taken = record { weight = λ w. refl } }
 
 pub kept_trans : (one two three : List Hand) → AreKept one two → AreKept two three → AreKept one three
-kept_trans one two three a b = record { count = b.count ∙ a.count; dealt = b.dealt ∙ a.dealt; drawn = b.drawn ∙ a.drawn; done = b.done ∙ a.done; taken = record { weight = λ w. b.taken.weight w ∙ a.taken.weight w } }
+kept_trans x y z a b = record { count = b.count ∙ a.count; dealt = b.dealt ∙ a.dealt; drawn = b.drawn ∙ a.drawn; done = b.done ∙ a.done; taken = record { weight = λ w. b.taken.weight w ∙ a.taken.weight w } }
 
 -- one hand in the place of another that was dealt and gave the same
 pub map_in_place : {Y : Type 0} (f : Hand → Y) (hands : List Hand) (place : ℕ) (h d : Hand) → f h ≡ f (get_or hands place d) → map f (set hands place h) ≡ map f hands

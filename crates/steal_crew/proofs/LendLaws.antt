@@ -40,7 +40,7 @@ same_at f xs ys i d e h = let l = same_length f xs ys e in
 pub dealt_same : (ss ts : List Standing) → map (λ (s : Standing). s.dealt) ss ≡ map (λ (s : Standing). s.dealt) ts → flat_map (λ (s : Standing). s.dealt) ss ≡ flat_map (λ (s : Standing). s.dealt) ts
 dealt_same ss ts e = sym (flat_map-map (λ (x : List ℕ). x) (λ (s : Standing). s.dealt) ss) ∙ ap (flat_map (λ (x : List ℕ). x)) e ∙ flat_map-map (λ (x : List ℕ). x) (λ (s : Standing). s.dealt) ts
 
-right_stays : (ss ts : List Standing) (r : Right) → map (λ (s : Standing). s.deque) ts ≡ map (λ (s : Standing). s.deque) ss → IsRightAt ss r → IsRightAt ts r
+pub right_stays : (ss ts : List Standing) (r : Right) → map (λ (s : Standing). s.deque) ts ≡ map (λ (s : Standing). s.deque) ss → IsRightAt ss r → IsRightAt ts r
 right_stays ss ts r e h = let l = same_length (λ (s : Standing). s.deque) ts ss e in let p = h.place in record {
   place = omega arith;
   deque = λ d. h.deque d ∙ sym (same_at (λ (s : Standing). s.deque) ts ss r.of d e (omega arith));
@@ -204,7 +204,7 @@ others-at xs r i o d lt few ahead around =
 pub at-below : (n i d : ℕ) → i < n → get_or (numbers_below n) i d ≡ i
 at-below zero i d h = absurd (omega arith)
 at-below (suc n) i d h = let l = length-below n in dite (ℕ_discrete i n)
-    (λ (e : i ≡ n). get_or-append_right (numbers_below n) (n ∷ []) n i d l (omega arith) ∙ ap (λ (j : ℕ). get_or (n ∷ []) j d) (omega arith) ∙ sym e)
+    (λ (e : i ≡ n). let z : i - n ≡ 0 = omega arith in get_or-append_right (numbers_below n) (n ∷ []) n i d l (omega arith) ∙ ap (λ (j : ℕ). get_or (n ∷ []) j d) z ∙ sym e)
     (λ (ne : i ≢ n). get_or_append_left (numbers_below n) (n ∷ []) d i (omega arith) ∙ at-below n i d (omega arith))
 
 none_lent : (q : ℕ) (rs : List Right) → times q (map (λ (r : Right). r.of) rs) ≡ 0 → sum_by (λ (r : Right). cond (r.of == q) r.parts 0) rs ≡ 0

@@ -8,3 +8,5 @@ pub mod GiveLaws
 pub mod SettleLaws
 pub mod EachLaws
 pub mod TakeLaws
+pub mod DealLaws
+pub mod ReturnLaws

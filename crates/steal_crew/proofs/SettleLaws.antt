@@ -1,11 +1,15 @@
 -- What is known once all passes are given back.
-use Rattle.std.proofs.Common.{ℕ, zero, suc, ◌≡◌, ◌+◌, ◌<◌, ◌≤◌, List, [], ◌∷◌, ◌++◌, length, map, get_or, cond, Bool, true, refl, sym, ap, ◌∙◌, subst, arith}
+use Rattle.std.proofs.Common.{ℕ, zero, suc, ◌≡◌, ◌≢◌, ◌+◌, ◌<◌, ◌≤◌, List, [], ◌∷◌, ◌++◌, length, map, get_or, set, cond, Bool, true, false, refl, sym, ap, ◌∙◌, subst, arith}
 use Rattle.std.specs.Prelude.{◌==◌, flat_map, sum_by}
-use Rattle.std.specs.List.{All}
-use Rattle.std.proofs.lemmas.List.{length-map, get_or-map}
+use Rattle.std.specs.Bool.{OnTrue}
+use Rattle.std.specs.List.{All, list_all}
+use Rattle.std.proofs.lemmas.List.{length-map, get_or-map, get_or-set_other}
+use Rattle.std.proofs.lemmas.Grind.{get_or-set_at}
+use mathlib.Core.Logic.{dite}
+use native.Mathlib.Decide.{ℕ_discrete}
 use Rattle.std.proofs.lemmas.Simd.{map-map}
-use Rattle.std.proofs.lemmas.List.Sums.{sum_by-append, sum_by-cons}
-use Rattle.std.proofs.lemmas.List.Folds.{flat_map-map}
+use Rattle.std.proofs.lemmas.List.Sums.{sum_by-append, sum_by-cons, AllPass-from_list_all, list_all-from_AllPass}
+use Rattle.std.proofs.lemmas.List.Folds.{flat_map-map, list_all-map}
 use Rattle.tickets.specs.Counting.{IsEachOnce}
 use Rattle.steal_crew.specs.Numbers.{AreSameNumbers, IsPart, IsOnceAtMost, numbers_below}
 use Rattle.steal_crew.specs.Rule.{IsAllTaken}
@@ -15,7 +19,8 @@ use Rattle.steal_crew.specs.Settling.{AreKept}
 use Rattle.steal_crew.specs.declared.hand.Hand.{Hand}
 use Rattle.steal_crew.specs.declared.victim.Victim.{Victim}
 use Rattle.steal_crew.proofs.NumberLaws.{each_of_same, once_of_part}
-use Rattle.steal_crew.proofs.HandLemmas.{counts_same}
+use Rattle.steal_crew.proofs.HandLemmas.{counts_same, map_standing}
+use Rattle.steal_crew.proofs.LendLaws.{any_default}
 
 -- lists that a function of each hand gives, one after the other
 flat_of : (f : Hand → List ℕ) (before after : List Hand) → map f after ≡ map f before → flat_map f after ≡ flat_map f before
@@ -87,3 +92,61 @@ each_drawn n hands none deal all = each_of_same n (all_drawn hands) (record { we
 
 pub drawn_kept : (before after : List Hand) → map drawn_of after ≡ map drawn_of before → all_drawn after ≡ all_drawn before
 drawn_kept before after e = flat_of drawn_of before after e
+
+-- one hand's deque is looked at
+module _ (hands : List Hand) (place : ℕ) (old new : Hand) (place_in : place < length hands) (value : old ≡ get_or hands place old) where
+  pub looked_done : (is_done new ≡ true → is_done old ≡ true) → (i : ℕ) (d : Hand) → is_done (get_or (set hands place new) i d) ≡ true → is_done (get_or hands i d) ≡ true
+  looked_done fewer i d e = dite (ℕ_discrete i place)
+      (λ (at : i ≡ place).
+      let a : get_or (set hands place new) i d ≡ new = get_or-set_at hands place i new d at place_in in
+      let b = fewer (ap is_done (sym a) ∙ e) in
+      ap (λ (j : ℕ). is_done (get_or hands j d)) at ∙ ap is_done (any_default hands place d old place_in ∙ sym value) ∙ b)
+      (λ (ne : i ≢ place). ap is_done (sym (get_or-set_other hands place i new d ne)) ∙ e)
+
+  pub looked_empty : (is_done new ≡ true → IsAllTaken (own_view old)) → own_view new ≡ own_view old
+      → ((i : ℕ) (d : Hand) → i < place → is_done (get_or hands i d) ≡ true → IsAllTaken (own_view (get_or hands i d)))
+      → (i : ℕ) (d : Hand) → i < place + 1 → is_done (get_or (set hands place new) i d) ≡ true → IsAllTaken (own_view (get_or (set hands place new) i d))
+  looked_empty here same before i d lt e = dite (ℕ_discrete i place)
+      (λ (at : i ≡ place).
+      let a : get_or (set hands place new) i d ≡ new = get_or-set_at hands place i new d at place_in in
+      subst (λ (h : Hand). IsAllTaken (own_view h)) (sym a) (subst IsAllTaken (sym same) (here (ap is_done (sym a) ∙ e))))
+      (λ (ne : i ≢ place).
+      let a : get_or (set hands place new) i d ≡ get_or hands i d = get_or-set_other hands place i new d ne in
+      subst (λ (h : Hand). IsAllTaken (own_view h)) (sym a) (before i d (omega arith) (ap is_done (sym a) ∙ e)))
+
+-- all looks
+module _ (n : ℕ) (old given looked : List Hand) (kept : AreKept old given) (whole : AreWhole (map standing_of given)) (none : HaveNoRights given)
+    (standings : map standing_of looked ≡ map standing_of given) (taken : map taken_of looked ≡ map taken_of given) (drawn : map drawn_of looked ≡ map drawn_of given) (deal : AreHandsOfOneDeal n old) where
+  given_deal : AreHandsOfOneDeal n given
+  given_deal = kept_deal n old given (kept_length old given kept) kept whole deal
+
+  same_long : length looked ≡ length given
+  same_long = let a = length-map looked standing_of in let b = length-map given standing_of in let e : length (map standing_of looked) ≡ length (map standing_of given) = ap length standings in omega arith
+
+  pub settled_deal : AreHandsOfOneDeal n looked
+  settled_deal = record {
+    some = let a = given_deal.some in let l = same_long in omega arith;
+    count = counts_same n given looked (map_standing (λ (s : Standing). s.count) given looked standings) given_deal.count;
+    whole = subst AreWhole (sym standings) whole;
+    dealt = record { weight = λ w. ap (sum_by w) (flat_of dealt_of given looked (map_standing (λ (s : Standing). s.dealt) given looked standings)) ∙ given_deal.dealt.weight w };
+    held = record { weight = λ w. ap (sum_by w) (flat_of drawn_of given looked drawn) ∙ given_deal.held.weight w ∙ sym (ap (sum_by w) (flat_of taken_of given looked taken)) };
+  }
+
+  pub settled_once : IsOnceAtMost n (all_drawn old)
+  settled_once = subst (IsOnceAtMost n) (drawn_kept old given kept.drawn) (once_drawn n given none given_deal)
+
+  none_looked : HaveNoRights looked
+  none_looked = λ i lt. ap (λ (l : List (List Right)). get_or l i []) (map_standing (λ (s : Standing). s.rights) given looked standings) ∙ none i (let l = same_long in omega arith)
+
+  pub settled_all : All (λ (h : Hand). is_done h ≡ true → IsAllTaken (own_view h)) looked → list_all is_done looked ≡ true → IsEachOnce n (all_drawn old)
+  settled_all empty done = subst (IsEachOnce n) (drawn_kept given looked drawn ∙ drawn_kept old given kept.drawn)
+      (each_drawn n looked none_looked settled_deal (λ k d lt. empty k d lt (AllPass-from_list_all is_done looked done k d lt) (all_parts looked none_looked settled_deal.whole k d lt)))
+
+  pub settled_done : ((i : ℕ) (d : Hand) → i < length given → is_done (get_or looked i d) ≡ true → is_done (get_or given i d) ≡ true) → list_all is_done looked ≡ true → list_all is_done old ≡ true
+  settled_done fewer done =
+      let all : list_all is_done given ≡ true = list_all-from_AllPass is_done given (λ k d lt. fewer k d lt (AllPass-from_list_all is_done looked done k d (let l = same_long in omega arith))) in
+      sym (list_all-map (λ (b : Bool). b) is_done old) ∙ ap (list_all (λ (b : Bool). b)) (sym kept.done) ∙ list_all-map (λ (b : Bool). b) is_done given ∙ all
+
+pub on_true : {P : Type 0} (b : Bool) → (b ≡ true → P) → OnTrue b P
+on_true true f = f refl
+on_true false f = tt

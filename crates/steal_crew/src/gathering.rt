@@ -7,6 +7,7 @@ ghost use Rattle.steal_crew.specs.Hands.{AreHandsOfOneDeal, all_drawn, count_of,
 
 use crate::hand::Hand;
 use crate::settling::{are_done, settle};
+use tickets::law_counting;
 
 /// Some hand isn't done: its last answer wasn't that it found no number.
 #[derive(Drop)]
@@ -64,5 +65,6 @@ pub fn gather(hands: Vec<Hand>) -> Result<Vec<u32>, NotDone>
     if !settle(&mut hands) {
         return Err(NotDone { hands });
     }
+    law_counting();
     Ok(join_lists(hands))
 }

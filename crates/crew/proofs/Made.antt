@@ -1,5 +1,5 @@
 -- Some runs that were made with seats, as seats are taken in and as numbers are drawn.
-use Rattle.std.proofs.Common.{◌≡◌, ℕ, ◌+◌, List, [], ◌∷◌, ◌++◌, ◌<◌, ◌≤◌, Bool, true, false, Some, refl, subst, sym, ap, ◌∙◌, cond, arith}
+use Rattle.std.proofs.Common.{◌≡◌, ℕ, ◌+◌, List, [], ◌∷◌, ◌++◌, ◌≤◌, Bool, true, false, Some, refl, subst, sym, ap, ◌∙◌, cond, arith}
 use Rattle.std.proofs.lemmas.List.{map-append}
 use Rattle.std.proofs.lemmas.List.Sums.{sum_by-append}
 use Rattle.std.specs.Bool.{OnTrue}

@@ -1,7 +1,7 @@
 -- A worker before, between and after its runs, and who hired it. Each definition takes what the job says of seats (`fits`,
 -- `has_parts`), of what a worker keeps (`owns`) and of runs (`stands`), and what the source of the numbers says of rights
 -- (`is_right`, `drawn`, `has_passed`).
-use Rattle.std.specs.Prelude.{ℕ, ◌≡◌, ◌≤◌, ◌+◌, List, [], ◌∷◌, ◌++◌, true, false, Result, IfOk, OnErr}
+use Rattle.std.specs.Prelude.{ℕ, ◌≡◌, ◌≤◌, ◌+◌, List, [], ◌∷◌, ◌++◌, true, Result, IfOk, OnErr}
 use Rattle.interval.specs.declared.NoMemory.{NoMemory}
 use Rattle.tickets.specs.Counting.{times}
 use Rattle.crew.specs.declared.worker.Worker.{Worker}

@@ -51,5 +51,8 @@ module _ (hand : Hand) (v : View) (os : List Victim) (found : Option ℕ) (dealt
   pub take_room : length (drawn_of hand) + length (option_to_list found) ≤ count_of hand
   take_room = let a = length_of_part (count_of hand) (with_drawn found (drawn_of hand)) part in let b = length-drawn found (drawn_of hand) in omega arith
 
+  pub take_few : length (with_drawn found (drawn_of hand)) ≤ count_of hand
+  take_few = length_of_part (count_of hand) (with_drawn found (drawn_of hand)) part
+
   pub take_found : IfSome found (λ k. k < count_of hand)
   take_found = below_found found (count_of hand) (drawn_of hand) part

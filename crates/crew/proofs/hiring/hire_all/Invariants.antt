@@ -1,4 +1,4 @@
-use Rattle.std.proofs.Common.{◌≡◌, ◌++◌, ◌≤◌, [], length, map, vec_len, vec_capacity}
+use Rattle.std.proofs.Common.{◌≡◌, ◌++◌, ◌≤◌, [], length, map, vec_capacity}
 use Rattle.std.specs.List.{All}
 use Rattle.crew.specs.AtWork.{IsFirstSeat, IsHired}
 use Rattle.crew.proofs.hiring.hire_all.Given as goal

@@ -1,4 +1,4 @@
-use Rattle.std.proofs.Common.{◌≡◌, ◌+◌, arith}
+use Rattle.std.proofs.Common.{◌+◌, arith}
 use Rattle.crew.proofs.Made.{some_joined}
 use Rattle.crew.proofs.hiring.take_in.Goals as goal
 

@@ -1,4 +1,4 @@
-use Rattle.std.proofs.Common.{◌≡◌, ◌+◌, ◌++◌, [], ◌∷◌, ap, sym, ◌∙◌, arith}
+use Rattle.std.proofs.Common.{◌≡◌, ◌++◌, ◌∷◌, ap, sym, ◌∙◌, arith}
 use Rattle.std.proofs.lemmas.List.{flat_map_more}
 use Rattle.tickets.specs.Seats.{IsTicketSeatOf, ticket_parts, numbers_drawn}
 use Rattle.crew.proofs.Items.{all_next, taken_more}

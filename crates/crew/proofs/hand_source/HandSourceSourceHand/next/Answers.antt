@@ -1,4 +1,4 @@
-use Rattle.std.proofs.Common.{ℕ, ◌≡◌, ◌<◌, ◌∙◌, ap, subst, sym, arith}
+use Rattle.std.proofs.Common.{◌<◌, ◌∙◌, ap, subst, arith}
 use Rattle.std.specs.Prelude.{IfSome}
 use Rattle.crew.proofs.HandLaws.{fewer_left, done_of}
 use Rattle.crew.proofs.hand_source.HandSourceSourceHand.next.Goals as goal

@@ -1,4 +1,4 @@
-use Rattle.std.proofs.Common.{rules, ◌≡◌, ◌++◌, ◌<◌, ◌≤◌, [], ◌∷◌, ap, sym, subst, ◌∙◌, arith, length, length-append}
+use Rattle.std.proofs.Common.{◌≡◌, subst, arith}
 use Rattle.std.specs.List.{All}
 use Rattle.tickets.specs.Seats.{IsTicketSeatOf, next_of, count_of}
 use Rattle.crew.proofs.Items.{all_front, all_last}

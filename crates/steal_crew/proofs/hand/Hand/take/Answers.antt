@@ -1,11 +1,11 @@
-use Rattle.std.proofs.Common.{◌++◌, List, ℕ, subst, sym, arith}
+use Rattle.std.proofs.Common.{◌++◌, List, ℕ, ap, length, subst, sym, arith}
 use Rattle.std.specs.Prelude.{flat_map}
 use Rattle.crossbeam_deque.specs.Handles.{worker_view}
 use Rattle.steal_crew.specs.Numbers.{IsPart, numbers_below}
 use Rattle.steal_crew.specs.Rights.{dealt_to, taken_by}
 use Rattle.steal_crew.specs.Hands.{drawn_of}
 use Rattle.steal_crew.proofs.DrawLaws.{drawn_alike}
-use Rattle.steal_crew.proofs.TakeLaws.{take_below, take_room, take_found}
+use Rattle.steal_crew.proofs.TakeLaws.{take_below, take_room, take_few, take_found}
 use Rattle.steal_crew.proofs.hand.Hand.take.Goals as goal
 
 pub note-requires : goal.note-requires
@@ -24,3 +24,9 @@ pub returns-clause-below : goal.returns-clause-below
 returns-clause-below g c =
     let f = c.find-found in
     take_found c.args.self.now (worker_view f.new.own) f.new.others.items f.result f.ensures.dealt f.ensures.within f.ensures.rights f.ensures.taken
+
+pub returns-clause-few : goal.returns-clause-few
+returns-clause-few g c =
+    let f = c.find-found in
+    let a = take_few c.args.self.now (worker_view f.new.own) f.new.others.items f.result f.ensures.dealt f.ensures.within f.ensures.rights f.ensures.taken in
+    let b = ap length c.note.ensures.drawn in omega arith

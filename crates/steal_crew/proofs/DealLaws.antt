@@ -1,8 +1,7 @@
 -- Hands that were dealt their shares and have no rights yet.
-use Rattle.std.proofs.Common.{ℕ, zero, suc, ◌≡◌, ◌+◌, ◌%◌, ◌<◌, ◌≤◌, List, [], ◌∷◌, ◌++◌, length, map, get_or, cond, Bool, true, false, not, refl, sym, ap, ◌∙◌, subst, arith}
-use Rattle.std.specs.Prelude.{◌==◌, flat_map, sum_by, filter}
+use Rattle.std.proofs.Common.{ℕ, zero, suc, ◌≡◌, ◌+◌, ◌%◌, ◌<◌, ◌≤◌, List, [], ◌∷◌, ◌++◌, length, map, get_or, cond, not, refl, sym, ap, ◌∙◌, subst, arith}
+use Rattle.std.specs.Prelude.{◌==◌, flat_map, sum_by}
 use Rattle.std.specs.List.{All}
-use Rattle.std.proofs.Math.ListN.{get_or-map as at_map}
 use Rattle.std.proofs.lemmas.List.{length-map, map-append, get_or-map}
 use Rattle.std.proofs.lemmas.Simd.{map-map}
 use Rattle.std.proofs.lemmas.List.Sums.{sum_by-append, sum_by-cons}
@@ -12,8 +11,8 @@ use Rattle.std.proofs.lemmas.List.Elements.{All-append}
 use Rattle.steal_crew.specs.Numbers.{AreSameNumbers, IsPart, numbers_below, share}
 use Rattle.steal_crew.specs.Rule.{view_of}
 use Rattle.steal_crew.specs.Rights.{Right, right_of, taken_by, dealt_to}
-use Rattle.steal_crew.specs.Hands.{Standing, standing_of, lent_to, IsRightAt, AreWhole, AreHandsOfOneDeal, count_of, dealt_of, taken_of, drawn_of, all_drawn, own_view, is_done, rights_of, rights_at}
-use Rattle.steal_crew.specs.Dealing.{IsUndrawn, IsFresh, AreFresh, AreBeingDealt}
+use Rattle.steal_crew.specs.Hands.{Standing, standing_of, lent_to, IsRightAt, AreHandsOfOneDeal, count_of, dealt_of, taken_of, drawn_of, own_view, rights_of, rights_at}
+use Rattle.steal_crew.specs.Dealing.{IsUndrawn, AreFresh, AreBeingDealt}
 use Rattle.steal_crew.specs.declared.deque.View.{View}
 use Rattle.steal_crew.specs.declared.victim.Victim.{Victim}
 use Rattle.steal_crew.specs.declared.hand.Hand.{Hand}

@@ -1,23 +1,22 @@
 -- What stays as passes are given back.
-use Rattle.std.proofs.Common.{ℕ, zero, suc, ◌≡◌, ◌≢◌, ◌+◌, ◌-◌, ◌<◌, ◌≤◌, List, [], ◌∷◌, ◌++◌, length, map, get_or, set, Bool, true, false, cond, refl, sym, ap, ◌∙◌, subst, arith, eq-eqb, ne_eqb, length-append}
+use Rattle.std.proofs.Common.{ℕ, zero, suc, ◌≡◌, ◌≢◌, ◌+◌, ◌<◌, List, [], ◌∷◌, ◌++◌, length, map, get_or, set, Bool, cond, refl, sym, ap, ◌∙◌, subst, arith, eq-eqb, ne_eqb, length-append}
 use Rattle.std.specs.Prelude.{◌==◌, flat_map, sum_by}
 use Rattle.std.specs.List.{All}
 use Rattle.std.proofs.Math.ListN.{get_or-map as at_map}
 use Rattle.std.proofs.lemmas.List.{length-map, map-append, map-set, get_or-map, get_or-set_same, get_or-set_other, get_or_append_left}
 use Rattle.std.proofs.lemmas.Grind.{get_or-set_at, flat_map-append}
 use Rattle.std.proofs.Math.Seq.{map-set_same}
-use Rattle.std.proofs.lemmas.List.Sums.{sum_by-append, sum_by-cons, sum_by_push, sum_by-set}
+use Rattle.std.proofs.lemmas.List.Sums.{sum_by-append, sum_by_push, sum_by-set}
 use mathlib.Core.Logic.{dite}
-use native.Mathlib.Decide.{ℕ_discrete, dec_le}
-use Rattle.steal_crew.specs.Numbers.{AreSameNumbers, IsPart, numbers_below}
-use Rattle.steal_crew.specs.Rights.{Right, right_of, taken_by, dealt_to}
+use native.Mathlib.Decide.{ℕ_discrete}
+use Rattle.steal_crew.specs.Rights.{Right, right_of, taken_by}
 use Rattle.steal_crew.specs.Hands.{Standing, standing_of, lent_to, parts_of, IsRightAt, AreWhole, count_of, dealt_of, taken_of, drawn_of, is_done, own_view, rights_of, rights_at}
 use Rattle.steal_crew.specs.Settling.{AreKept}
 use Rattle.steal_crew.specs.declared.deque.View.{View}
 use Rattle.steal_crew.specs.declared.hand.Hand.{Hand}
 use Rattle.steal_crew.specs.declared.victim.Victim.{Victim}
 use Rattle.steal_crew.proofs.NumberLaws.{sum_by-flat_map}
-use Rattle.steal_crew.proofs.LendLaws.{same_length, same_at, right_stays, any_default}
+use Rattle.steal_crew.proofs.LendLaws.{same_length, same_at, right_stays}
 
 abbrev pub with_rights : Standing → List Right → Standing
 with_rights s rs = record s { rights = rs }

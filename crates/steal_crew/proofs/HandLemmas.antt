@@ -1,5 +1,5 @@
 -- What stays as hands draw.
-use Rattle.std.proofs.Common.{ℕ, zero, suc, ◌≡◌, ◌+◌, ◌<◌, ◌≤◌, List, [], ◌∷◌, ◌++◌, length, map, refl, sym, ap, ◌∙◌, subst, arith}
+use Rattle.std.proofs.Common.{ℕ, zero, suc, ◌≡◌, ◌+◌, ◌<◌, List, [], ◌∷◌, length, map, refl, sym, ap, ◌∙◌, subst, arith}
 use Rattle.std.proofs.lemmas.List.{length-map}
 use Rattle.std.proofs.lemmas.Simd.{map-map}
 use Rattle.std.specs.Prelude.{flat_map, sum_by, slice_index_or}
@@ -8,7 +8,6 @@ use Rattle.std.proofs.lemmas.List.Sums.{sum_by-append}
 use Rattle.std.proofs.lemmas.List.Folds.{flat_map-map}
 use Rattle.std.proofs.lemmas.List.Elements.{All-map}
 use Rattle.std.proofs.Math.ListN.{get_or-map}
-use Rattle.steal_crew.specs.Numbers.{AreSameNumbers, numbers_below}
 use Rattle.steal_crew.specs.Hands.{Standing, standing_of, IsSameHand, AreHandsOfOneDeal, AreWhole, count_of, dealt_of, taken_of, drawn_of, all_drawn}
 use Rattle.steal_crew.specs.declared.hand.Hand.{Hand}
 

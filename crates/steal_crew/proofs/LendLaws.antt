@@ -1,22 +1,21 @@
 -- What stays as rights are given, over what stays of the hands as they draw.
 use Rattle.std.proofs.Common.{ℕ, zero, suc, ◌≡◌, ◌≢◌, ◌+◌, ◌-◌, ◌<◌, ◌≤◌, List, [], ◌∷◌, ◌++◌, length, map, take, drop, get_or, set, Bool, true, false, cond, refl, sym, ap, ◌∙◌, subst, arith, eq-eqb, ne_eqb, length-append, length-drop}
-use Rattle.std.specs.Prelude.{◌==◌, flat_map, sum_by, slice_index, slice_index_or}
+use Rattle.std.specs.Prelude.{◌==◌, flat_map, sum_by}
 use Rattle.std.specs.List.{All}
 use Rattle.std.proofs.lemmas.List.{length-map, map-set, get_or-map, get_or-set_same, get_or-set_other, get_or-drop, get_or-take, get_or_append_left, get_or-append_right, take_more}
 use Rattle.std.proofs.lemmas.Grind.{get_or-set_at}
 use Rattle.std.proofs.Math.Seq.{map-set_same}
 use Rattle.std.proofs.lemmas.List.Sums.{sum_by-append, sum_by-cons, sum_by_push, sum_by-take-le, sum_by-take-drop, sum_by-drop_more, sum_by-set}
 use Rattle.std.proofs.lemmas.List.Folds.{flat_map-map}
-use Rattle.std.proofs.lemmas.List.Elements.{All-append, All-set, All-map}
+use Rattle.std.proofs.lemmas.List.Elements.{All-append, All-set}
 use mathlib.Core.Logic.{dite}
 use native.Mathlib.Decide.{ℕ_discrete, dec_le}
 use Rattle.tickets.specs.Counting.{times}
-use Rattle.steal_crew.specs.Numbers.{AreSameNumbers, IsPart, numbers_below}
+use Rattle.steal_crew.specs.Numbers.{AreSameNumbers, numbers_below}
 use Rattle.steal_crew.specs.Rights.{Right}
-use Rattle.steal_crew.specs.Hands.{Standing, lent_to, parts_of, IsRightAt, AreWhole}
+use Rattle.steal_crew.specs.Hands.{Standing, lent_to, parts_of, IsRightAt}
 use Rattle.steal_crew.specs.Dealing.{AreBeingDealt, less_one, with_right, right_at, lent, others_from}
-use Rattle.steal_crew.proofs.NumberLaws.{times-below, length-below, sum_by-flat_map}
-use Rattle.steal_crew.proofs.HandLemmas.{all_of_map}
+use Rattle.steal_crew.proofs.NumberLaws.{times-below, length-below}
 
 pub any_default : {X : Type 0} (xs : List X) (i : ℕ) (d e : X) → i < length xs → get_or xs i d ≡ get_or xs i e
 any_default [] i d e h = absurd (omega arith)

@@ -1,5 +1,5 @@
 -- Each kind of step keeps the rule of a deque.
-use Rattle.std.proofs.Common.{◌≡◌, ◌≢◌, ℕ, zero, suc, ◌+◌, ◌≤◌, ◌<◌, List, [], ◌∷◌, ◌++◌, length, set, sym, refl, ap, ◌∙◌, subst, ⊎_elim, arith}
+use Rattle.std.proofs.Common.{◌≡◌, ◌≢◌, ℕ, zero, suc, ◌+◌, ◌≤◌, ◌<◌, List, [], ◌∷◌, ◌++◌, set, sym, refl, ap, ◌∙◌, subst, ⊎_elim, arith}
 use mathlib.Core.Option.{some, some-injective, some-ne-none}
 use lib.ListN.{get_elem?}
 use Rattle.crossbeam_deque.specs.Tasks.{Pushes, Takes, Learns, Forks, Merges}
@@ -7,8 +7,8 @@ use Rattle.crossbeam_deque.proofs.Lists.{at_set, at_snoc}
 use Rattle.steal_crew.specs.declared.deque.View.{View}
 use Rattle.std.specs.List.{sum_by}
 use Rattle.std.proofs.lemmas.List.Sums.{sum_by-append}
-use Rattle.steal_crew.specs.Numbers.{AreSameNumbers, IsPart}
-use Rattle.steal_crew.specs.Rule.{taken_weight, total_parts, Knows, Lawful, first_view, spent_view, view_of, pushed, Took, took, IsAllTaken, Looked, looked, one_less, one_part, joined}
+use Rattle.steal_crew.specs.Numbers.{IsPart}
+use Rattle.steal_crew.specs.Rule.{taken_weight, total_parts, Knows, Lawful, first_view, spent_view, view_of, pushed, took, IsAllTaken, looked, one_less, one_part, joined}
 use Rattle.steal_crew.proofs.ViewLaws.{total-set, total-snoc, two_of_total, taken-set, taken-snoc, part_of_taken, all_in_one, AreSpentEmpty}
 
 at_here : (views : List View) (id : ℕ) (v u : View) → get_elem? views id ≡ some v → get_elem? (set views id u) id ≡ some u

@@ -1,6 +1,6 @@
 -- What lists of numbers weigh.
-use Rattle.std.proofs.Common.{ℕ, zero, suc, ◌≡◌, ◌≢◌, ◌+◌, ◌-◌, ◌*◌, ◌/◌, ◌%◌, ◌<◌, ◌≤◌, List, [], ◌∷◌, ◌++◌, length, Bool, true, false, cond, refl, sym, ap, ◌∙◌, subst, lt_of_not-le, arith, eq-eqb, ne_eqb}
-use Rattle.std.specs.Prelude.{◌==◌, filter, flat_map, sum_by, Option, Some, None, option_to_list}
+use Rattle.std.proofs.Common.{ℕ, zero, suc, ◌≡◌, ◌≢◌, ◌+◌, ◌-◌, ◌*◌, ◌/◌, ◌%◌, ◌<◌, ◌≤◌, List, [], ◌∷◌, ◌++◌, length, Bool, true, false, cond, refl, sym, ap, ◌∙◌, lt_of_not-le, arith, eq-eqb, ne_eqb}
+use Rattle.std.specs.Prelude.{◌==◌, flat_map, sum_by, Option, Some, None, option_to_list}
 use Rattle.std.proofs.lemmas.List.Sums.{sum_by-append, sum_by-cons, sum_by_push}
 use Rattle.std.proofs.lemmas.List.Elements.{filter-append}
 use Rattle.std.proofs.Math.Nat.{add-mul-mod_self_left, div-add-mod, mul-suc, mod-eq_of_lt, mod-lt}

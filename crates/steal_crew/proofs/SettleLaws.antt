@@ -1,5 +1,5 @@
 -- What is known once all passes are given back.
-use Rattle.std.proofs.Common.{ℕ, zero, suc, ◌≡◌, ◌≢◌, ◌+◌, ◌<◌, ◌≤◌, List, [], ◌∷◌, ◌++◌, length, map, get_or, set, cond, Bool, true, false, refl, sym, ap, ◌∙◌, subst, arith}
+use Rattle.std.proofs.Common.{ℕ, zero, suc, ◌≡◌, ◌≢◌, ◌+◌, ◌<◌, ◌≤◌, List, [], ◌∷◌, length, map, get_or, set, cond, Bool, true, false, refl, sym, ap, ◌∙◌, subst, arith}
 use Rattle.std.specs.Prelude.{◌==◌, flat_map, sum_by}
 use Rattle.std.specs.Bool.{OnTrue}
 use Rattle.std.specs.List.{All, list_all}
@@ -11,10 +11,10 @@ use Rattle.std.proofs.lemmas.Simd.{map-map}
 use Rattle.std.proofs.lemmas.List.Sums.{sum_by-append, sum_by-cons, AllPass-from_list_all, list_all-from_AllPass}
 use Rattle.std.proofs.lemmas.List.Folds.{flat_map-map, list_all-map}
 use Rattle.tickets.specs.Counting.{IsEachOnce}
-use Rattle.steal_crew.specs.Numbers.{AreSameNumbers, IsPart, IsOnceAtMost, numbers_below}
+use Rattle.steal_crew.specs.Numbers.{AreSameNumbers, IsOnceAtMost}
 use Rattle.steal_crew.specs.Rule.{IsAllTaken}
 use Rattle.steal_crew.specs.Rights.{Right, right_of, taken_by}
-use Rattle.steal_crew.specs.Hands.{Standing, standing_of, lent_to, parts_of, AreWhole, AreHandsOfOneDeal, count_of, dealt_of, taken_of, drawn_of, all_drawn, own_view, is_done, rights_of, rights_at}
+use Rattle.steal_crew.specs.Hands.{Standing, standing_of, lent_to, AreWhole, AreHandsOfOneDeal, count_of, dealt_of, taken_of, drawn_of, all_drawn, own_view, is_done, rights_of, rights_at}
 use Rattle.steal_crew.specs.Settling.{AreKept}
 use Rattle.steal_crew.specs.declared.hand.Hand.{Hand}
 use Rattle.steal_crew.specs.declared.victim.Victim.{Victim}

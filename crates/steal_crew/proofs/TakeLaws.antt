@@ -1,12 +1,12 @@
 -- What a hand has after it has looked for a number.
-use Rattle.std.proofs.Common.{ℕ, zero, suc, ◌≡◌, ◌+◌, ◌<◌, ◌≤◌, List, [], ◌∷◌, ◌++◌, length, map, set, get_or, refl, sym, ap, ◌∙◌, subst, arith, length-append}
+use Rattle.std.proofs.Common.{ℕ, ◌≡◌, ◌+◌, ◌<◌, ◌≤◌, List, [], ◌∷◌, ◌++◌, length, map, set, get_or, sym, ap, ◌∙◌, subst, arith, length-append}
 use Rattle.std.specs.Prelude.{flat_map, sum_by, Option, Some, None, IfSome, option_to_list}
-use Rattle.std.proofs.lemmas.List.Sums.{sum_by-append, sum_by-set}
+use Rattle.std.proofs.lemmas.List.Sums.{sum_by-set}
 use Rattle.std.proofs.lemmas.List.Folds.{flat_map-map}
 use Rattle.std.proofs.Math.Seq.{map-set_same}
 use Rattle.tickets.specs.Seats.{with_drawn}
 use Rattle.steal_crew.specs.Numbers.{AreSameNumbers, IsPart, numbers_below}
-use Rattle.steal_crew.specs.Rights.{Right, right_of, taken_by, dealt_to}
+use Rattle.steal_crew.specs.Rights.{right_of, taken_by, dealt_to}
 use Rattle.steal_crew.specs.Hands.{count_of, drawn_of, taken_of, own_view, rights_of}
 use Rattle.steal_crew.specs.declared.deque.View.{View}
 use Rattle.steal_crew.specs.declared.victim.Victim.{Victim}

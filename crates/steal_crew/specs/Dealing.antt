@@ -1,5 +1,5 @@
 -- Hands that are being dealt.
-use Rattle.std.specs.Prelude.{ℕ, ◌≡◌, ◌≢◌, ◌+◌, ◌-◌, ◌≤◌, Bool, false, List, [], ◌∷◌, ◌++◌, map, flat_map, length, take, drop, slice_index_or, slice_set}
+use Rattle.std.specs.Prelude.{ℕ, ◌≡◌, ◌≢◌, ◌+◌, ◌-◌, ◌≤◌, false, List, [], ◌∷◌, ◌++◌, map, flat_map, length, take, drop, slice_index_or, slice_set}
 use Rattle.std.specs.List.{All}
 use Rattle.steal_crew.specs.declared.hand.Hand.{Hand}
 use Rattle.steal_crew.specs.Numbers.{AreSameNumbers, numbers_below, share}

@@ -1,4 +1,4 @@
-use Rattle.std.proofs.Common.{List, map, ◌∙◌, ap, subst, sym, arith}
+use Rattle.std.proofs.Common.{map, ◌∙◌, ap, subst, sym, arith}
 use Rattle.std.specs.List.{All}
 use Rattle.steal_crew.specs.Hands.{dealt_of}
 use Rattle.steal_crew.specs.Dealing.{IsFresh}

@@ -1,4 +1,4 @@
-use Rattle.std.proofs.Common.{ℕ, ◌≡◌, ◌+◌, ◌<◌, ◌≤◌, List, [], ◌∷◌, length, arith}
+use Rattle.std.proofs.Common.{◌+◌, ◌<◌, List, [], ◌∷◌, length, arith}
 use Rattle.steal_crew.specs.Hands.{standing_of}
 use Rattle.steal_crew.specs.declared.hand.Hand.{Hand}
 use Rattle.steal_crew.proofs.EachLaws.{lend_parts, lend_part, lending}

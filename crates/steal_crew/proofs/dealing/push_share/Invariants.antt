@@ -1,4 +1,4 @@
-use Rattle.std.proofs.Common.{◌≡◌, ◌<◌, ◌≤◌, ◌+◌, ◌-◌, ◌%◌, [], min}
+use Rattle.std.proofs.Common.{◌≡◌, ◌≤◌, ◌+◌, ◌-◌, ◌%◌, [], min}
 use Rattle.crossbeam_deque.specs.Handles.{SameWorker, worker_view}
 use Rattle.steal_crew.specs.Numbers.{share}
 use Rattle.steal_crew.specs.Rule.{view_of}

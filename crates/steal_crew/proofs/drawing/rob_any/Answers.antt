@@ -1,7 +1,7 @@
-use Rattle.std.proofs.Common.{ℕ, ◌<◌, ◌≡◌, List, [], ◌∷◌, ◌++◌, length, map, ◌∙◌, ap, subst, sym, arith}
+use Rattle.std.proofs.Common.{ℕ, ◌≡◌, List, [], ◌∷◌, ◌++◌, length, map, ◌∙◌, ap, subst, arith}
 use Rattle.std.proofs.Math.Seq.{map-set_same}
 use Rattle.std.proofs.lemmas.List.{length-map}
-use Rattle.std.specs.Prelude.{Option, flat_map, Some, None, slice_set}
+use Rattle.std.specs.Prelude.{Option, flat_map, Some, slice_set}
 use Rattle.tickets.specs.Seats.{with_drawn}
 use Rattle.steal_crew.specs.Numbers.{AreSameNumbers}
 use Rattle.steal_crew.specs.Rights.{right_of, taken_by}

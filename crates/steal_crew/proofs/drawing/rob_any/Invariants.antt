@@ -1,5 +1,4 @@
 use Rattle.std.proofs.Common.{◌≡◌, map, flat_map}
-use Rattle.steal_crew.specs.Numbers.{AreSameNumbers}
 use Rattle.steal_crew.specs.Rights.{right_of, taken_by}
 use Rattle.steal_crew.proofs.drawing.rob_any.Given as goal
 

@@ -1,6 +1,6 @@
-use Rattle.std.proofs.Common.{ℕ, ◌≡◌, List, length, ◌∙◌, ap, sym, subst, arith}
+use Rattle.std.proofs.Common.{◌≡◌, length, ◌∙◌, ap, sym, subst, arith}
 use Rattle.tickets.specs.Counting.{IsEachOnce}
-use Rattle.steal_crew.specs.Hands.{all_drawn, count_of}
+use Rattle.steal_crew.specs.Hands.{all_drawn}
 use Rattle.steal_crew.proofs.SettleLaws.{drawn_kept}
 use Rattle.steal_crew.proofs.gathering.gather.Goals as goal
 

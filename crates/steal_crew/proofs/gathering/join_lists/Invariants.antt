@@ -1,5 +1,4 @@
 use Rattle.std.proofs.Common.{◌≡◌, ◌≤◌, ◌++◌, length, vec_capacity}
-use Rattle.std.specs.Prelude.{flat_map}
 use Rattle.steal_crew.specs.Hands.{all_drawn}
 use Rattle.steal_crew.proofs.gathering.join_lists.Given as goal
 

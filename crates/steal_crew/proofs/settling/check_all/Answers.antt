@@ -1,6 +1,5 @@
-use Rattle.std.proofs.Common.{ℕ, ◌<◌, List, ◌++◌, length, ◌∙◌, ap, arith}
+use Rattle.std.proofs.Common.{◌<◌, ◌++◌, length, ◌∙◌, ap, arith}
 use Rattle.std.specs.Prelude.{flat_map}
-use Rattle.std.proofs.lemmas.List.{length-map}
 use Rattle.steal_crew.specs.Rights.{taken_by}
 use Rattle.steal_crew.specs.Hands.{standing_of, own_view, taken_of, drawn_of}
 use Rattle.steal_crew.specs.declared.deque.View.{View}

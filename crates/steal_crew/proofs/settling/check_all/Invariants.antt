@@ -1,4 +1,4 @@
-use Rattle.std.proofs.Common.{◌≡◌, ◌<◌, ℕ, map, length, true, slice_index_or}
+use Rattle.std.proofs.Common.{◌≡◌, ◌<◌, ℕ, map, true, slice_index_or}
 use Rattle.steal_crew.specs.Rule.{IsAllTaken}
 use Rattle.steal_crew.specs.Hands.{standing_of, own_view, taken_of, drawn_of, is_done}
 use Rattle.steal_crew.specs.declared.hand.Hand.{Hand}

@@ -1,5 +1,5 @@
 use Rattle.std.proofs.Common.{refl, arith}
-use Rattle.steal_crew.proofs.ReturnLaws.{IsReleased, IsTakenIn, returned_in, returned_deque, returned_whole, returned_kept, returned_others, returned_fewer, no_more_whole, no_more_kept, no_more_others, no_more_given}
+use Rattle.steal_crew.proofs.ReturnLaws.{returned_in, returned_deque, returned_whole, returned_kept, returned_others, returned_fewer, no_more_whole, no_more_kept, no_more_others, no_more_given}
 use Rattle.steal_crew.proofs.settling.give_back_one.Goals as goal
 
 pub index_mut-requires-in-Some : goal.index_mut-requires-in-Some

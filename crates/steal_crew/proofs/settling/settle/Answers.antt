@@ -1,7 +1,6 @@
-use Rattle.std.proofs.Common.{Bool, true, ◌≡◌, List, sym, ap, ◌∙◌}
+use Rattle.std.proofs.Common.{◌≡◌, sym, ap, ◌∙◌}
 use Rattle.std.specs.List.{list_all}
 use Rattle.steal_crew.specs.Hands.{is_done}
-use Rattle.steal_crew.specs.declared.hand.Hand.{Hand}
 use Rattle.steal_crew.proofs.SettleLaws.{settled_deal, settled_once, settled_all, settled_done, on_true}
 use Rattle.steal_crew.proofs.settling.settle.Goals as goal
 

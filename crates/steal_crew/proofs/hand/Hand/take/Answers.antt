@@ -3,8 +3,6 @@ use Rattle.std.specs.Prelude.{flat_map}
 use Rattle.crossbeam_deque.specs.Handles.{worker_view}
 use Rattle.steal_crew.specs.Numbers.{IsPart, numbers_below}
 use Rattle.steal_crew.specs.Rights.{dealt_to, taken_by}
-use Rattle.steal_crew.specs.Hands.{drawn_of}
-use Rattle.steal_crew.proofs.DrawLaws.{drawn_alike}
 use Rattle.steal_crew.proofs.TakeLaws.{take_below, take_room, take_few, take_found}
 use Rattle.steal_crew.proofs.hand.Hand.take.Goals as goal
 

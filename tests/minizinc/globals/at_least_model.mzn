@@ -1,0 +1,6 @@
+% Two places or more have 1.
+include "globals.mzn";
+int: n;
+array[1..n] of var 1..n: x;
+constraint at_least(2, x, 1);
+solve satisfy;

@@ -1,0 +1,12 @@
+% A way from the first place to the last, and its length.
+include "globals.mzn";
+int: n;
+int: edges = 2 * n - 3;
+array[1..edges] of int: from = [ if e < n then e else e - n + 1 endif | e in 1..edges ];
+array[1..edges] of int: to = [ if e < n then e + 1 else e - n + 3 endif | e in 1..edges ];
+array[1..edges] of int: weight = [ 1 + e mod 3 | e in 1..edges ];
+array[1..n] of var bool: has_node;
+array[1..edges] of var bool: has_edge;
+var 0..2 * n: length_of;
+constraint bounded_path(n, edges, from, to, weight, 1, n, has_node, has_edge, length_of);
+solve satisfy;

@@ -1,0 +1,7 @@
+% The same, and what it costs.
+include "globals.mzn";
+int: n;
+array[1..3] of var 1..n: x;
+var 0..2 * n: cost;
+constraint cost_mdd(x, 5, [1, 2, 2, 3, 3], 7, [1, 1, 2, 2, 3, 4, 5], [{1}, 2..n, {1}, {2}, {1, 3}, {3}, 1..n], [1, 2, 1, 0, 2, 1, 3], [2, 3, 4, 5, 4, 0, 0], cost);
+solve satisfy;

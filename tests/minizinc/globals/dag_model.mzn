@@ -1,0 +1,10 @@
+% Directed ways without a round trip.
+include "globals.mzn";
+int: n;
+int: edges = 2 * n - 3;
+array[1..edges] of int: from = [ if e < n then e else e - n + 1 endif | e in 1..edges ];
+array[1..edges] of int: to = [ if e < n then e + 1 else (e + 1) mod n + 1 endif | e in 1..edges ];
+array[1..n] of var bool: has_node;
+array[1..edges] of var bool: has_edge;
+constraint dag(from, to, has_node, has_edge);
+solve satisfy;

@@ -1,0 +1,7 @@
+% One list before the other.
+include "globals.mzn";
+int: n;
+array[1..n] of var 1..3: x;
+array[1..n] of var 1..3: y;
+constraint lex_less(x, y);
+solve satisfy;

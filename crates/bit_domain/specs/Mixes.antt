@@ -1,10 +1,10 @@
 -- Mixes: for each variable a domain, of at most 64 numbers as the bits of a word, or of all numbers from a low to a high.
 -- (Finite domains as bit sets, beside intervals.)
-use Rattle.std.specs.Prelude.{◌≡◌, ◌≢◌, ℕ, ℤ, zero, suc, pos, ◌+◌, ◌-◌, ◌^◌, ◌+ℤ◌, ◌-ℤ◌, ◌≤◌, ◌<◌, ◌≤ℤ◌, ◌↔◌, Bool, ◌&&◌, List, [], ◌∷◌, length, map, sum, nat_eq, int_le, slice_index, slice_index_or, slice_set, unsigned_abs, if◌then◌else◌}
+use Rattle.std.specs.Prelude.{◌≡◌, ℕ, ℤ, pos, ◌+◌, ◌-◌, ◌^◌, ◌+ℤ◌, ◌-ℤ◌, ◌≤◌, ◌<◌, ◌≤ℤ◌, ◌&&◌, List, [], ◌∷◌, length, map, int_le, slice_index_or, unsigned_abs, if◌then◌else◌}
 use Rattle.std.specs.Int.{bit_at}
-use Rattle.std.specs.List.{filter, range_with_len, sum_by}
 use Rattle.interval.specs.Limits.{IsBound, box_limit}
-use Rattle.interval.specs.Boxes.{Bounds, IsInRange, IsProper, IsInside}
+use Rattle.interval.specs.Boxes.{Bounds, IsProper}
+use Rattle.bit_domain.specs.Bits.{members, IsSubset}
 use Rattle.bit_domain.specs.declared.dom.Dom.{Dom}
 use Rattle.bit_domain.specs.declared.dom.Dom.TheVariants.{Bits, Pair}
 
@@ -14,10 +14,6 @@ use Rattle.bit_domain.specs.declared.dom.Dom.TheVariants.{Bits, Pair}
 abbrev pub Has : Dom → ℤ → Type 0
 Has (Bits base set) z = (i : ℕ) × (bit_at set i ≡ 1) × (z ≡ base +ℤ pos i)
 Has (Pair low high) z = (low ≤ℤ z) × (z ≤ℤ high)
-
--- the places of the bits that are set, rising
-unfoldable pub members : ℕ → List ℕ
-members set = filter (λ i. nat_eq (bit_at set i) 1) (range_with_len 0 64)
 
 -- the numbers of a set of bits, rising
 abbrev pub values_from : ℤ → ℕ → List ℤ
@@ -48,10 +44,6 @@ abbrev pub IsDomInRange : Dom → Type 0
 IsDomInRange (Bits base set) =
     IsBound base × (set < 2 ^ 64) × ((i : ℕ) → bit_at set i ≡ 1 → IsBound (base +ℤ pos i))
 IsDomInRange (Pair low high) = IsBound low × IsBound high
-
--- the one set has no number that the other hasn't
-abbrev pub IsSubset : ℕ → ℕ → Type 0
-IsSubset inner outer = (i : ℕ) → bit_at inner i ≤ bit_at outer i
 
 -- a domain is inside another of its kind: bits over the same base, where each number of the one is one of the other, and
 -- pairs as the pairs of boxes

@@ -6,6 +6,7 @@ ghost use Rattle.bit_domain.specs.declared.dom.Dom.TheVariants.{Bits};
 ghost use Rattle.bit_domain.specs.Mixes.{ends_of, hull_of, values_from, IsDomInRange};
 
 use crate::Dom;
+use crate::bits::{greatest, least};
 
 /// The least number; 1 where there are bits and none is set.
 pub fn least_of(dom: Dom) -> i64
@@ -32,6 +33,7 @@ pub fn greatest_of(dom: Dom) -> i64
 }
 
 /// The least number of a set over a base; 1 of an empty one.
+#[tactic(auto, unfolding(interval::specs::Limits::bound_limit, interval::specs::Limits::largest_number))]
 fn least_from(base: i64, set: u64) -> i64
     requires { IsDomInRange (Bits base set) }
     ensures value { result ≡ (ends_of (values_from base set)).0 }
@@ -40,11 +42,13 @@ fn least_from(base: i64, set: u64) -> i64
     if set == 0 {
         1
     } else {
-        base + set.trailing_zeros() as i64
+        let member = least(set);
+        base + member as i64
     }
 }
 
 /// The greatest number of a set over a base; 0 of an empty one.
+#[tactic(auto, unfolding(interval::specs::Limits::bound_limit, interval::specs::Limits::largest_number))]
 fn greatest_from(base: i64, set: u64) -> i64
     requires { IsDomInRange (Bits base set) }
     ensures value { result ≡ (ends_of (values_from base set)).1 }
@@ -53,6 +57,7 @@ fn greatest_from(base: i64, set: u64) -> i64
     if set == 0 {
         0
     } else {
-        base + (63 - set.leading_zeros()) as i64
+        let member = greatest(set);
+        base + member as i64
     }
 }

@@ -1,6 +1,7 @@
 //! Domains as bits or bounds, and the values that kernels drop from them.
 #![tactic(auto)]
 
+mod bits;
 mod dom;
 mod ends;
 mod mix;

@@ -1,9 +1,9 @@
 //! Mixes of domains.
 
-ghost use Rattle.std.specs.Prelude.{◌≡◌, ◌<◌, length, slice_set, IfOk};
-ghost use Rattle.interval.specs.Limits.{IsBound, box_limit};
+ghost use Rattle.std.specs.Prelude.{◌≡◌, ◌<◌, ◌^◌, ◌+◌, ◌-◌, ◌+ℤ◌, ◌≤ℤ◌, ◌&&◌, pos, int_le, length, slice_set, IfOk};
+ghost use Rattle.interval.specs.Limits.{IsBound};
 ghost use Rattle.interval.specs.Boxes.{low_of, high_of};
-ghost use Rattle.bit_domain.specs.Mixes.{dom_between, dom_of, hull, hull_of, mix_of, IsDomInRange, IsMixInRange};
+ghost use Rattle.bit_domain.specs.Mixes.{dom_between, dom_of, hull, mix_of, IsDomInRange, IsMixInRange};
 
 use crate::Dom;
 use crate::ends::{greatest_of, least_of};
@@ -107,20 +107,60 @@ fn doms_of(alloc: Global, b: &BoxOf) -> Result<Vec<Dom>, AllocError>
 }
 
 /// The domain of the numbers from `low` to `high`.
-#[tactic(auto, unfolding(interval::specs::Limits::bound_limit, interval::specs::Limits::largest_number))]
 fn between(low: i64, high: i64) -> Dom
     requires low_in_range { IsBound low }
     requires high_in_range { IsBound high }
-    ensures value { result ≡ dom_between low high }
-    ensures in_range { IsDomInRange result }
+    ensures { result ≡ dom_between low high }
 {
-    if low <= high && high <= low + 63 {
-        let more = (high - low) as u32;
-        Dom::Bits {
-            base: low,
-            set: u64::MAX >> (63 - more),
-        }
+    if is_short(low, high) {
+        short_between(low, high)
     } else {
         Dom::Pair { low, high }
     }
+}
+
+/// Whether there is at least one number from `low` to `high`, and at most 64.
+#[tactic(auto, unfolding(interval::specs::Limits::bound_limit, interval::specs::Limits::largest_number))]
+fn is_short(low: i64, high: i64) -> bool
+    requires low_in_range { IsBound low }
+    requires high_in_range { IsBound high }
+    ensures { result ≡ (int_le low high && int_le high (low +ℤ pos 63)) }
+{
+    low <= high && high <= low + 63
+}
+
+/// The domain of the numbers from `low` to `high`, as bits.
+fn short_between(low: i64, high: i64) -> Dom
+    requires low_in_range { IsBound low }
+    requires high_in_range { IsBound high }
+    requires some { low ≤ℤ high }
+    requires short { high ≤ℤ (low +ℤ pos 63) }
+    ensures { result ≡ dom_between low high }
+{
+    let last = distance(low, high);
+    Dom::Bits {
+        base: low,
+        set: first_numbers(last),
+    }
+}
+
+/// How far `high` is from `low`.
+#[tactic(auto, unfolding(interval::specs::Limits::bound_limit, interval::specs::Limits::largest_number))]
+fn distance(low: i64, high: i64) -> u32
+    requires low_in_range { IsBound low }
+    requires high_in_range { IsBound high }
+    requires some { low ≤ℤ high }
+    requires short { high ≤ℤ (low +ℤ pos 63) }
+    ensures value { low +ℤ pos result ≡ high }
+    ensures small { result < 64 }
+{
+    (high - low) as u32
+}
+
+/// The set of the numbers from 0 to `last`.
+fn first_numbers(last: u32) -> u64
+    requires { last < 64 }
+    ensures { result ≡ 2 ^ (last + 1) - 1 }
+{
+    u64::MAX >> (63 - last)
 }

@@ -1,5 +1,5 @@
 -- The least and the greatest member of a set.
-use Rattle.std.proofs.Common.{ℕ, suc, ◌≡◌, ◌≢◌, ◌+◌, ◌-◌, ◌*◌, ◌/◌, ◌%◌, ◌^◌, ◌<◌, ◌≤◌, arith, subst, ap, w64}
+use Rattle.std.proofs.Common.{ℕ, suc, ◌≡◌, ◌≢◌, ◌-◌, ◌/◌, ◌%◌, ◌^◌, ◌<◌, ◌≤◌, arith, subst, ap, w64}
 use Rattle.std.specs.Int.{bit_at}
 use lib.Count.{count_leading_zeros, count_trailing_zeros}
 use Rattle.std.proofs.lemmas.Nat.{leading_top, div_below, le-div, pow_pos}

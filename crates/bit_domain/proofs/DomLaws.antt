@@ -1,5 +1,5 @@
 -- The ends of a domain's numbers.
-use Rattle.std.proofs.Common.{ℕ, ◌≡◌, ◌≢◌, ◌+◌, ◌-◌, ◌^◌, ◌<◌, ◌≤◌, Bool, true, false, ◌&&◌, List, [], ◌∷◌, length, map, get_or, ℤ, pos, ◌+ℤ◌, ◌-ℤ◌, ◌≤ℤ◌, refl, sym, ap, ◌∙◌, subst, arith, w64, to_z, of_z}
+use Rattle.std.proofs.Common.{ℕ, ◌≡◌, ◌≢◌, ◌+◌, ◌-◌, ◌^◌, ◌<◌, ◌≤◌, Bool, true, false, ◌&&◌, List, [], ◌∷◌, length, map, ℤ, pos, ◌+ℤ◌, ◌-ℤ◌, ◌≤ℤ◌, refl, sym, ap, ◌∙◌, subst, arith, w64, to_z, of_z}
 use Rattle.std.specs.Prelude.{unsigned_abs, if◌then◌else◌}
 use Rattle.std.specs.Int.RustNames.{int_le}
 use Rattle.std.specs.Int.{bit_at}
@@ -8,12 +8,12 @@ use Rattle.std.proofs.lemmas.Int.{ints, by_lt_z}
 use Rattle.std.proofs.lemmas.Bool.{and_parts, and_from}
 use Rattle.std.proofs.lemmas.List.{get_or-map, length-map}
 use Rattle.std.proofs.lemmas.Nat.Bits.{bit_at_ones, bit_at_ones_above}
-use Rattle.bit_domain.specs.Bits.{members, IsLeast, IsGreatest}
+use Rattle.bit_domain.specs.Bits.{IsLeast, IsGreatest}
 use Rattle.interval.specs.Limits.{IsBound, largest_number, bound_limit, box_limit}
 use Rattle.interval.specs.Boxes.{Bounds, low_of, high_of, IsInRange}
 use Rattle.bit_domain.specs.declared.dom.Dom.{Dom}
 use Rattle.bit_domain.specs.declared.dom.Dom.TheVariants.{Bits, Pair}
-use Rattle.bit_domain.specs.Mixes.{values_from, last_of, ends_of, dom_between, mix_of, dom_of, IsDomInRange, IsMixInRange}
+use Rattle.bit_domain.specs.Mixes.{values_from, last_of, ends_of, dom_between, mix_of, IsDomInRange, IsMixInRange}
 use Rattle.bit_domain.proofs.BitLaws.{least_is}
 use Rattle.bit_domain.proofs.MemberLaws.{by_bool, members_none, members_some, members_last}
 

@@ -1,4 +1,4 @@
-//! Domains as bits or bounds, and the values that kernels drop from them.
+//! The numbers that are left for the variables of a model: sets of few as bits, the others between two bounds.
 #![tactic(auto)]
 
 mod bits;

@@ -1,5 +1,5 @@
 -- The number at the greatest member.
-use Rattle.std.proofs.Common.{◌≡◌, ℤ, ◌∙◌, sym, ap}
+use Rattle.std.proofs.Common.{ℤ, ◌∙◌, sym, ap}
 use Rattle.bit_domain.proofs.DomLaws.{no_ends, greatest_end, coded_sum}
 use Rattle.bit_domain.proofs.ends.greatest_from.Goals as goal
 

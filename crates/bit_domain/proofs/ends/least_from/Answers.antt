@@ -1,5 +1,5 @@
 -- The number at the least member.
-use Rattle.std.proofs.Common.{◌≡◌, ℤ, ◌∙◌, sym, ap}
+use Rattle.std.proofs.Common.{ℤ, ◌∙◌, sym, ap}
 use Rattle.bit_domain.proofs.DomLaws.{no_ends, least_end, coded_sum}
 use Rattle.bit_domain.proofs.ends.least_from.Goals as goal
 

@@ -1,5 +1,5 @@
 -- Bits over the low, one for each number.
-use Rattle.std.proofs.Common.{◌≡◌, ◌∙◌, sym, pos, ◌+ℤ◌}
+use Rattle.std.proofs.Common.{◌∙◌, sym, pos, ◌+ℤ◌}
 use Rattle.bit_domain.specs.declared.dom.Dom.TheVariants.{Bits}
 use Rattle.bit_domain.proofs.DomLaws.{short_between, coded}
 use Rattle.bit_domain.proofs.mix.short_between.Goals as goal

@@ -1,0 +1,117 @@
+-- The ends of a domain's numbers.
+use Rattle.std.proofs.Common.{ℕ, ◌≡◌, ◌≢◌, ◌+◌, ◌-◌, ◌^◌, ◌<◌, ◌≤◌, Bool, true, false, ◌&&◌, List, [], ◌∷◌, length, map, ℤ, pos, ◌+ℤ◌, ◌-ℤ◌, ◌≤ℤ◌, refl, sym, ap, ◌∙◌, subst, arith, w64, to_z, of_z}
+use Rattle.std.specs.Prelude.{unsigned_abs, if◌then◌else◌}
+use Rattle.std.specs.Int.RustNames.{int_le}
+use Rattle.std.specs.Int.{bit_at}
+use Rattle.std.proofs.Math.Pow.{pow_mono}
+use Rattle.std.proofs.lemmas.Int.{ints, by_lt_z}
+use Rattle.std.proofs.lemmas.Bool.{and_parts, and_from}
+use Rattle.std.proofs.lemmas.List.{get_or-map, length-map}
+use Rattle.std.proofs.lemmas.Nat.Bits.{bit_at_ones, bit_at_ones_above}
+use Rattle.bit_domain.specs.Bits.{IsLeast, IsGreatest}
+use Rattle.interval.specs.Limits.{IsBound, largest_number, bound_limit, box_limit}
+use Rattle.interval.specs.Boxes.{Bounds, low_of, high_of, IsInRange}
+use Rattle.bit_domain.specs.declared.dom.Dom.{Dom}
+use Rattle.bit_domain.specs.declared.dom.Dom.TheVariants.{Bits, Pair}
+use Rattle.bit_domain.specs.Mixes.{values_from, last_of, ends_of, dom_between, mix_of, IsDomInRange, IsMixInRange}
+use Rattle.bit_domain.proofs.BitLaws.{least_is}
+use Rattle.bit_domain.proofs.MemberLaws.{by_bool, members_none, members_some, members_last}
+
+ends_last : (z : ℤ) (zs : List ℤ) → 0 < length zs → (ends_of zs).1 ≡ last_of z zs
+unfolding ends_of last_of
+ends_last z [] some = absurd (omega arith)
+ends_last z (y ∷ ys) some = refl
+
+pub no_ends : (base : ℤ) (set : ℕ) → set ≡ 0 → ends_of (values_from base set) ≡ (pos 1, pos 0)
+unfolding ends_of
+no_ends base set e =
+    ap (λ (n : ℕ). ends_of (values_from base n)) e ∙ ap (λ (xs : List ℕ). ends_of (map (λ i. base +ℤ pos i) xs)) members_none
+
+pub least_end : (base : ℤ) (set i : ℕ) → IsLeast set i → (ends_of (values_from base set)).0 ≡ base +ℤ pos i
+unfolding ends_of
+least_end base set i least = ap (λ (xs : List ℕ). (ends_of (map (λ j. base +ℤ pos j) xs)).0) (members_some set i least)
+
+some_values : (base : ℤ) (set i : ℕ) → IsLeast set i → 0 < length (values_from base set)
+some_values base set i least =
+    let e = ap (λ (xs : List ℕ). length (map (λ j. base +ℤ pos j) xs)) (members_some set i least) in
+    subst (λ (n : ℕ). 0 < n) (sym e) (omega arith)
+
+pub greatest_end : (base : ℤ) (set i : ℕ) → set ≢ 0 → set < 2 ^ 64 → IsGreatest set i → (ends_of (values_from base set)).1 ≡ base +ℤ pos i
+greatest_end base set i some short greatest =
+    ends_last (pos 0) (values_from base set) (some_values base set _ (least_is set some short))
+    ∙ members_last (λ j. base +ℤ pos j) set i (pos 0) greatest
+
+-- the set of the first n + 1 numbers
+pub full_least : (n : ℕ) → IsLeast (2 ^ (n + 1) - 1) 0
+full_least n = record { small = omega arith; inside = bit_at_ones (n + 1) 0 (omega arith); below = λ j less. absurd (omega arith) }
+
+pub full_greatest : (n : ℕ) → n < 64 → IsGreatest (2 ^ (n + 1) - 1) n
+full_greatest n small = record { small = small; inside = bit_at_ones (n + 1) n (omega arith); above = λ j more. bit_at_ones_above (n + 1) j (omega arith) }
+
+-- ---- domains between two numbers
+
+-- a number of a set is read in 64 bits as it is
+pub coded_sum : (base : ℤ) (i : ℕ) → IsBound base → i < 64 → to_z w64 (of_z w64 (to_z w64 (of_z w64 base) +ℤ to_z w64 i)) ≡ base +ℤ pos i
+unfolding bound_limit largest_number
+coded_sum base i bound small = omega (arith, ints)
+
+pub coded : (z : ℤ) → IsBound z → to_z w64 (of_z w64 z) ≡ z
+unfolding bound_limit largest_number
+coded z bound = omega (arith, ints)
+
+full_numbers : (low high : ℤ) (n i : ℕ) → IsBound low → IsBound high → low +ℤ pos n ≡ high → bit_at (2 ^ (n + 1) - 1) i ≡ 1 → IsBound (low +ℤ pos i)
+unfolding bound_limit largest_number
+full_numbers low high n i from to e inside = by_lt_z (pos n) (pos i)
+    (λ more. let none = bit_at_ones_above (n + 1) i (omega (arith, ints)) in absurd (omega arith))
+    (λ le. omega (arith, ints))
+
+full_short : (n : ℕ) → n < 64 → 2 ^ (n + 1) - 1 < 2 ^ 64
+full_short n small = let p : 2 ^ (n + 1) ≤ 2 ^ 64 = pow_mono {i = n + 1} {j = 64} (omega arith) in omega arith
+
+-- at most 64 numbers from low on are within the range where the low and the last of them are
+full_in_range : (low high : ℤ) (n : ℕ) → IsBound low → IsBound high → low +ℤ pos n ≡ high → n < 64 → IsDomInRange (Bits low (2 ^ (n + 1) - 1))
+full_in_range low high n from to e small = (from, full_short n small, λ i inside. full_numbers low high n i from to e inside)
+
+abbrev is_short : ℤ → ℤ → Bool
+is_short low high = int_le low high && int_le high (low +ℤ pos 63)
+
+-- what the test of two numbers says
+pub short_parts : (low high : ℤ) (t : Bool) → t ≡ is_short low high → t ≡ true → (low ≤ℤ high) × (high ≤ℤ (low +ℤ pos 63))
+short_parts low high t e is =
+    let parts = and_parts (int_le low high) (int_le high (low +ℤ pos 63)) (sym e ∙ is) in
+    let p = parts.0 in
+    let q = parts.1 in
+    (omega (arith, ints), omega (arith, ints))
+
+pub short_between : (low high : ℤ) (n : ℕ) → low +ℤ pos n ≡ high → n < 64 → dom_between low high ≡ Bits low (2 ^ (n + 1) - 1)
+short_between low high n e small =
+    let p : true ≡ int_le low high = omega (arith, ints) in
+    let q : true ≡ int_le high (low +ℤ pos 63) = omega (arith, ints) in
+    let width : unsigned_abs (high -ℤ low) ≡ n = omega (arith, ints) in
+    let short : is_short low high ≡ true = and_from (int_le low high) (int_le high (low +ℤ pos 63)) (sym p) (sym q) in
+    let whole : Dom = Bits low (2 ^ (unsigned_abs (high -ℤ low) + 1) - 1) in
+    ap (λ (b : Bool). if b then whole else Pair low high) short ∙ ap (λ (k : ℕ). Bits low (2 ^ (k + 1) - 1)) width
+
+pub between_in_range : (low high : ℤ) → IsBound low → IsBound high → IsDomInRange (dom_between low high)
+between_in_range low high from to =
+    let whole : Dom = Bits low (2 ^ (unsigned_abs (high -ℤ low) + 1) - 1) in
+    by_bool (is_short low high)
+    (λ (e : is_short low high ≡ true).
+    let parts = and_parts (int_le low high) (int_le high (low +ℤ pos 63)) e in
+    let p = parts.0 in
+    let q = parts.1 in
+    let width : low +ℤ pos (unsigned_abs (high -ℤ low)) ≡ high = omega (arith, ints) in
+    let small : unsigned_abs (high -ℤ low) < 64 = omega (arith, ints) in
+    subst (λ (b : Bool). IsDomInRange (if b then whole else Pair low high)) (sym e) (full_in_range low high (unsigned_abs (high -ℤ low)) from to width small))
+    (λ (e : is_short low high ≡ false). subst (λ (b : Bool). IsDomInRange (if b then whole else Pair low high)) (sym e) (from, to))
+
+pub mix_in_range : (b : Bounds) → IsInRange b → IsMixInRange (mix_of b)
+mix_in_range b range = record {
+  short = subst (λ (n : ℕ). n ≤ box_limit) (sym same) range.short;
+  doms = λ v h. let inside : v < length b = subst (λ (n : ℕ). v < n) same h in
+      subst IsDomInRange (sym (get_or-map (λ p. dom_between p.0 p.1) b v (pos 0, pos 0) (Pair (pos 0) (pos 0)) inside))
+      (between_in_range (low_of b v) (high_of b v) (range.lows v inside) (range.highs v inside));
+}
+  where
+    same : length (mix_of b) ≡ length b
+    same = length-map b (λ p. dom_between p.0 p.1)

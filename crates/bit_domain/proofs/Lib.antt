@@ -1,0 +1,3 @@
+mod BitLaws
+mod MemberLaws
+mod DomLaws

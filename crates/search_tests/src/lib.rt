@@ -22,3 +22,5 @@ mod paths;
 mod posts;
 #[cfg(test)]
 mod searches;
+#[cfg(test)]
+mod stealing;

@@ -1,13 +1,11 @@
-//! Numbers that hands take from their own deques and then from each other's, by one thread and by two.
+//! Numbers that hands take from their own deques and then from each other's.
 
-ghost use Rattle.std.specs.Prelude.{◌≡◌, ◌<◌, ℕ, length, IfOk};
-ghost use Rattle.steal_crew.specs.Hands.{AreHandsOfOneDeal, IsSameHand};
+ghost use Rattle.std.specs.Prelude.{◌≡◌, ◌<◌, ℕ, length};
+ghost use Rattle.steal_crew.specs.Hands.{AreHandsOfOneDeal};
 
-use std::alloc::AllocError;
 use std::marker::Brand;
 use std::process::Abort;
 use std::test::Fail;
-use std::thread::{Threads, for_each_mut};
 use steal_crew::{Hand, deal, gather, law_hands};
 
 /// Has the hand at this place take a number.
@@ -116,54 +114,5 @@ fn of_no_numbers_none_is_taken(rt: HostRuntime) -> Result<(), Fail> {
     assert_takes(&rt, &mut hands, 0, &[]);
     assert_takes(&rt, &mut hands, 1, &[]);
     assert!(rt; are(gathered(hands), &[]));
-    Ok(())
-}
-
-/// Takes numbers until none is left, or a thousand.
-fn take_all(hand: &mut Hand)
-    ensures { IsSameHand hand.old hand.new }
-{
-    law_hands();
-    for _ in 0..1001 {
-        if hand.take::<Brand>().is_none() {
-            break;
-        }
-    }
-}
-
-/// Has both hands take numbers, each in a thread of its own.
-fn take_side_by_side<R: Threads + Sync>(rt: &R, hands: &mut Vec<Hand>)
-    requires { (n : ℕ) × AreHandsOfOneDeal n hands.old.items }
-    ensures { (n : ℕ) × AreHandsOfOneDeal n hands.new.items }
-{
-    law_hands();
-    for_each_mut(
-        rt,
-        hands.as_mut_slice(),
-        2,
-        &|_, hand: &mut Hand|
-            ensures { IsSameHand hand.entry.now hand.exit.now }
-        { take_all(hand) },
-    );
-}
-
-/// Whether these are the numbers from 0 on, each once.
-fn are_all(numbers: Option<Vec<u32>>, count: usize) -> Result<bool, AllocError> {
-    let Some(mut numbers) = numbers else {
-        return Ok(false);
-    };
-    numbers.sort()?;
-    Ok(numbers.len() == count
-        && numbers
-            .iter()
-            .enumerate()
-            .all(|(place, number)| *number as usize == place))
-}
-
-#[test]
-fn two_threads_take_each_number_once(rt: HostRuntime) -> Result<(), Fail> {
-    let mut hands = deal(rt.alloc(), 1000, 2)?;
-    take_side_by_side(&rt, &mut hands);
-    assert!(rt; are_all(gathered(hands), 1000)?);
     Ok(())
 }

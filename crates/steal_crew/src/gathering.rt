@@ -65,6 +65,7 @@ pub fn gather(hands: Vec<Hand>) -> Result<Vec<u32>, NotDone>
     if !settle(&mut hands) {
         return Err(NotDone { hands });
     }
+    // As many numbers were drawn as there are, so they fit into the room of the first hand.
     law_counting();
     Ok(join_lists(hands))
 }

@@ -23,7 +23,7 @@ pub struct Hand {
     ghost fifo: { worker_flavor own ≡ 0 },
     ghost live: { 1 ≤ (worker_view own).parts },
     ghost within: { IsPart (worker_view own).taken (worker_view own).dealt } by { Prim.hlevel props },
-    // What it gave, and what may be left in the deques, are among the numbers of the deal.
+    // What it gave, and what was dealt to its deques less what it took there, are together among the numbers of the deal.
     ghost below: { IsPart (drawn.items ++ ((worker_view own).dealt ++ flat_map dealt_to others.items)) (numbers_below count ++ ((worker_view own).taken ++ flat_map taken_by others.items)) } by { Prim.hlevel props },
     ghost room: { count ≤ vec_capacity drawn },
 }

@@ -1,0 +1,11 @@
+pub mod OrderLaws
+pub mod DistanceLaws
+pub mod MixLaws
+pub mod Moves
+pub mod Parting
+pub mod Seating
+pub mod Stepping
+pub mod Making
+pub mod Joining
+pub mod Appending
+pub mod Closing

@@ -1,0 +1,18 @@
+use Rattle.std.proofs.Common.{ap, subst}
+use Rattle.std.specs.Prelude.{min}
+use Rattle.mix_store.specs.declared.table.WordKind.{WordKind}
+use Rattle.mix_store.specs.Order.{join_of}
+use Rattle.mix_store.specs.Rule.{Notes}
+use Rattle.mix_store.proofs.Moves.{tells}
+use Rattle.mix_store.proofs.steps.lower.Goals as goal
+
+pub fetch_min-requires : goal.fetch_min-requires
+unfolding join_of
+fetch_min-requires c =
+    let me = c.args.place.now.me in
+    let r = c.requires in
+    (r.table, r.inside, tells c.args.table.now.shared.table_id.slots c.args.place.now.id c.args.k c.args.word me (λ n. min n c.args.word) r.ready r.word (λ n. ap (λ (kind : WordKind). join_of kind n c.args.word) r.kind))
+
+pub returns-clause-seen : goal.returns-clause-seen
+unfolding join_of
+returns-clause-seen c = subst (λ (kind : WordKind). Notes c.args.place.now.me.0 c.args.k (join_of kind c.fetch_min.result c.args.word) c.fetch_min.new.seat.me.0) c.requires.kind c.fetch_min.ensures.2.1

@@ -1,20 +1,21 @@
 -- The ends of a domain's numbers.
 use Rattle.std.proofs.Common.{ℕ, ◌≡◌, ◌≢◌, ◌+◌, ◌-◌, ◌^◌, ◌<◌, ◌≤◌, Bool, true, false, ◌&&◌, List, [], ◌∷◌, length, map, ℤ, pos, ◌+ℤ◌, ◌-ℤ◌, ◌≤ℤ◌, refl, sym, ap, ◌∙◌, subst, arith, w64, to_z, of_z}
-use Rattle.std.specs.Prelude.{unsigned_abs, if◌then◌else◌}
+use Rattle.std.specs.Prelude.{◌↔◌, unsigned_abs, if◌then◌else◌}
 use Rattle.std.specs.Int.RustNames.{int_le}
 use Rattle.std.specs.Int.{bit_at}
+use lib.Count.{count_leading_zeros, count_trailing_zeros}
 use Rattle.std.proofs.Math.Pow.{pow_mono}
 use Rattle.std.proofs.lemmas.Int.{ints, by_lt_z}
 use Rattle.std.proofs.lemmas.Bool.{and_parts, and_from}
 use Rattle.std.proofs.lemmas.List.{get_or-map, length-map}
-use Rattle.std.proofs.lemmas.Nat.Bits.{bit_at_ones, bit_at_ones_above}
+use Rattle.std.proofs.lemmas.Nat.Bits.{bit_at-zero, bit_at_ones, bit_at_ones_above}
 use Rattle.bit_domain.specs.Bits.{IsLeast, IsGreatest}
 use Rattle.interval.specs.Limits.{IsBound, largest_number, bound_limit, box_limit}
 use Rattle.interval.specs.Boxes.{Bounds, low_of, high_of, IsInRange}
 use Rattle.bit_domain.specs.declared.dom.Dom.{Dom}
 use Rattle.bit_domain.specs.declared.dom.Dom.TheVariants.{Bits, Pair}
-use Rattle.bit_domain.specs.Mixes.{values_from, last_of, ends_of, dom_between, mix_of, IsDomInRange, IsMixInRange}
-use Rattle.bit_domain.proofs.BitLaws.{least_is}
+use Rattle.bit_domain.specs.Mixes.{Has, values_from, last_of, ends_of, dom_between, hull_of, mix_of, IsDomInRange, IsMixInRange}
+use Rattle.bit_domain.proofs.BitLaws.{least_is, greatest_is}
 use Rattle.bit_domain.proofs.MemberLaws.{by_bool, members_none, members_some, members_last}
 
 ends_last : (z : ℤ) (zs : List ℤ) → 0 < length zs → (ends_of zs).1 ≡ last_of z zs
@@ -115,3 +116,112 @@ mix_in_range b range = record {
   where
     same : length (mix_of b) ≡ length b
     same = length-map b (λ p. dom_between p.0 p.1)
+
+-- ---- what the domain between two numbers is
+
+full_some : (n : ℕ) → 2 ^ (n + 1) - 1 ≢ 0
+full_some n e =
+    let one = bit_at_ones (n + 1) 0 (omega arith) in
+    let none = ap (λ (k : ℕ). bit_at k 0) e ∙ bit_at-zero 0 in
+    omega arith
+
+full_hull : (low high : ℤ) (n : ℕ) → low +ℤ pos n ≡ high → n < 64 → ends_of (values_from low (2 ^ (n + 1) - 1)) ≡ (low, high)
+full_hull low high n e small =
+    let none : low +ℤ pos 0 ≡ low = omega (arith, ints) in
+    let least = least_end low (2 ^ (n + 1) - 1) 0 (full_least n) ∙ none in
+    let greatest = greatest_end low (2 ^ (n + 1) - 1) n (full_some n) (full_short n small) (full_greatest n small) ∙ e in
+    (λ i. (least i, greatest i))
+
+pub hull_between : (low high : ℤ) → hull_of (dom_between low high) ≡ (low, high)
+hull_between low high =
+    let whole : Dom = Bits low (2 ^ (unsigned_abs (high -ℤ low) + 1) - 1) in
+    by_bool (is_short low high)
+    (λ (e : is_short low high ≡ true).
+    let parts = short_parts low high true (sym e) refl in
+    let p = parts.0 in
+    let q = parts.1 in
+    let width : low +ℤ pos (unsigned_abs (high -ℤ low)) ≡ high = omega (arith, ints) in
+    let small : unsigned_abs (high -ℤ low) < 64 = omega (arith, ints) in
+    ap (λ (b : Bool). hull_of (if b then whole else Pair low high)) e ∙ full_hull low high (unsigned_abs (high -ℤ low)) width small)
+    (λ (e : is_short low high ≡ false). ap (λ (b : Bool). hull_of (if b then whole else Pair low high)) e)
+
+full_has : (low high z : ℤ) (n : ℕ) → low +ℤ pos n ≡ high → Has (Bits low (2 ^ (n + 1) - 1)) z → (low ≤ℤ z) × (z ≤ℤ high)
+full_has low high z n e h =
+    let i = h.0 in
+    let inside = h.1 in
+    let place = h.2 in
+    by_lt_z (pos n) (pos i)
+    (λ more. let none = bit_at_ones_above (n + 1) i (omega (arith, ints)) in absurd (omega arith))
+    (λ le. (omega (arith, ints), omega (arith, ints)))
+
+has_full : (low high z : ℤ) (n : ℕ) → low +ℤ pos n ≡ high → low ≤ℤ z → z ≤ℤ high → Has (Bits low (2 ^ (n + 1) - 1)) z
+has_full low high z n e p q = (unsigned_abs (z -ℤ low), bit_at_ones (n + 1) (unsigned_abs (z -ℤ low)) (omega (arith, ints)), omega (arith, ints))
+
+pub has_between : (low high z : ℤ) → Has (dom_between low high) z ↔ ((low ≤ℤ z) × (z ≤ℤ high))
+has_between low high z =
+    let whole : Dom = Bits low (2 ^ (unsigned_abs (high -ℤ low) + 1) - 1) in
+    let P : Bool → Type 0 = λ b. Has (if b then whole else Pair low high) z ↔ ((low ≤ℤ z) × (z ≤ℤ high)) in
+    by_bool (is_short low high)
+    (λ (e : is_short low high ≡ true).
+    let parts = short_parts low high true (sym e) refl in
+    let p = parts.0 in
+    let q = parts.1 in
+    let width : low +ℤ pos (unsigned_abs (high -ℤ low)) ≡ high = omega (arith, ints) in
+    subst P (sym e) (full_has low high z (unsigned_abs (high -ℤ low)) width, λ r. has_full low high z (unsigned_abs (high -ℤ low)) width r.0 r.1))
+    (λ (e : is_short low high ≡ false). subst P (sym e) (λ h. h, λ h. h))
+
+-- ---- the hull and the numbers of a domain
+
+least_up_to : (set i l : ℕ) → IsLeast set l → bit_at set i ≡ 1 → l ≤ i
+least_up_to set i l least inside = by_lt_z (pos i) (pos l)
+    (λ less. let none = least.below i (omega (arith, ints)) in absurd (omega arith))
+    (λ le. omega (arith, ints))
+
+greatest_from : (set i g : ℕ) → IsGreatest set g → bit_at set i ≡ 1 → i ≤ g
+greatest_from set i g greatest inside = by_lt_z (pos g) (pos i)
+    (λ more. let none = greatest.above i (omega (arith, ints)) in absurd (omega arith))
+    (λ le. omega (arith, ints))
+
+some_in : (set i : ℕ) → bit_at set i ≡ 1 → set ≢ 0
+some_in set i inside e =
+    let none = ap (λ (k : ℕ). bit_at k i) e ∙ bit_at-zero i in
+    omega arith
+
+in_order : (y base z : ℤ) (i j : ℕ) → y ≡ base +ℤ pos i → z ≡ base +ℤ pos j → i ≤ j → y ≤ℤ z
+in_order y base z i j e f le = omega (arith, ints)
+
+not_crossed : (p : ℤ × ℤ) → p ≡ (pos 1, pos 0) → p.0 ≤ℤ p.1 → ⊥
+not_crossed p e proper =
+    let first = ap (λ (q : ℤ × ℤ). q.0) e in
+    let last = ap (λ (q : ℤ × ℤ). q.1) e in
+    omega (arith, ints)
+
+within_ends : (base : ℤ) (set : ℕ) (z : ℤ) → set < 2 ^ 64 → Has (Bits base set) z → ((ends_of (values_from base set)).0 ≤ℤ z) × (z ≤ℤ (ends_of (values_from base set)).1)
+within_ends base set z short h =
+    let i = h.0 in
+    let inside = h.1 in
+    let place = h.2 in
+    let some = some_in set i inside in
+    let l = count_trailing_zeros 64 set in
+    let g = 63 - count_leading_zeros 64 set in
+    let first : (ends_of (values_from base set)).0 ≡ base +ℤ pos l = least_end base set l (least_is set some short) in
+    let last : (ends_of (values_from base set)).1 ≡ base +ℤ pos g = greatest_end base set g some short (greatest_is set some short) in
+    let low : l ≤ i = least_up_to set i l (least_is set some short) inside in
+    let high : i ≤ g = greatest_from set i g (greatest_is set some short) inside in
+    (in_order (ends_of (values_from base set)).0 base z l i first place low, in_order z base (ends_of (values_from base set)).1 i g place last high)
+
+has_ends : (base : ℤ) (set : ℕ) → set < 2 ^ 64 → (ends_of (values_from base set)).0 ≤ℤ (ends_of (values_from base set)).1
+    → Has (Bits base set) (ends_of (values_from base set)).0 × Has (Bits base set) (ends_of (values_from base set)).1
+has_ends base set short proper =
+    let some : set ≢ 0 = (λ e. not_crossed (ends_of (values_from base set)) (no_ends base set e) proper) in
+    let least = least_is set some short in
+    let greatest = greatest_is set some short in
+    ((count_trailing_zeros 64 set, least.inside, least_end base set _ least), (63 - count_leading_zeros 64 set, greatest.inside, greatest_end base set _ some short greatest))
+
+pub within_hull : (d : Dom) (z : ℤ) → IsDomInRange d → Has d z → ((hull_of d).0 ≤ℤ z) × (z ≤ℤ (hull_of d).1)
+within_hull (Bits base set) z range h = within_ends base set z range.1 h
+within_hull (Pair low high) z range h = h
+
+pub has_hull : (d : Dom) → IsDomInRange d → (hull_of d).0 ≤ℤ (hull_of d).1 → Has d (hull_of d).0 × Has d (hull_of d).1
+has_hull (Bits base set) range proper = has_ends base set range.1 proper
+has_hull (Pair low high) range proper = ((omega (arith, ints), proper), (proper, omega (arith, ints)))

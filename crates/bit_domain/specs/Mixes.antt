@@ -3,7 +3,7 @@
 use Rattle.std.specs.Prelude.{◌≡◌, ℕ, ℤ, pos, ◌+◌, ◌-◌, ◌^◌, ◌+ℤ◌, ◌-ℤ◌, ◌≤◌, ◌<◌, ◌≤ℤ◌, ◌&&◌, List, [], ◌∷◌, length, map, int_le, slice_index_or, unsigned_abs, if◌then◌else◌}
 use Rattle.std.specs.Int.{bit_at}
 use Rattle.interval.specs.Limits.{IsBound, box_limit}
-use Rattle.interval.specs.Boxes.{Bounds, IsProper}
+use Rattle.interval.specs.Boxes.{Bounds}
 use Rattle.bit_domain.specs.Bits.{members, IsSubset}
 use Rattle.bit_domain.specs.declared.dom.Dom.{Dom}
 use Rattle.bit_domain.specs.declared.dom.Dom.TheVariants.{Bits, Pair}
@@ -53,11 +53,6 @@ IsInsideDom (Pair a b) (Pair c d) = (c ≤ℤ a) × (b ≤ℤ d)
 IsInsideDom (Bits b s) (Pair c d) = ⊥
 IsInsideDom (Pair a b) (Bits c t) = ⊥
 
--- how many numbers are left beside one
-abbrev pub weight_at : Dom → ℕ
-weight_at (Bits base set) = length (members set) - 1
-weight_at (Pair low high) = unsigned_abs (high -ℤ low)
-
 -- the domain of the numbers from low to high: bits over the low, where there are at least one and at most 64
 abbrev pub dom_between : ℤ → ℤ → Dom
 dom_between low high =
@@ -88,16 +83,7 @@ pub record IsMixInRange (m : Mix) : Type 0 where
   pub short : length m ≤ box_limit
   pub doms : (v : ℕ) → v < length m → IsDomInRange (dom_of m v)
 
--- some number is left for each variable
-abbrev pub IsProperMix : Mix → Type 0
-IsProperMix m = IsProper (hull m)
-
 -- each domain of the inner mix is inside that of the outer
 pub record IsInsideMix (inner outer : Mix) : Type 0 where
   pub same_length : length inner ≡ length outer
   pub doms : (v : ℕ) → v < length outer → IsInsideDom (dom_of inner v) (dom_of outer v)
-
--- how many numbers the domains of a proper mix have beside one for each variable
-unfoldable pub weight_of : Mix → ℕ
-weight_of [] = 0
-weight_of (d ∷ m) = weight_at d + weight_of m

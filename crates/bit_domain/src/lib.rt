@@ -4,7 +4,9 @@
 mod bits;
 mod dom;
 mod ends;
+mod laws;
 mod mix;
 
 pub use dom::Dom;
+pub use laws::{law_between, law_hull};
 pub use mix::MixOf;

@@ -153,11 +153,13 @@ fn are_all(numbers: Option<Vec<u32>>, count: usize) -> Result<bool, AllocError> 
         return Ok(false);
     };
     numbers.sort()?;
-    Ok(numbers.len() == count
-        && numbers
-            .iter()
-            .enumerate()
-            .all(|(place, number)| *number as usize == place))
+    Ok(
+        numbers.len() == count
+            && numbers
+                .iter()
+                .enumerate()
+                .all(|(place, number)| *number as usize == place),
+    )
 }
 
 #[test]

@@ -46,7 +46,11 @@ const GOALS: &[(&str, &str, &str)] = &[
     ("turbofzn -p 1 --steal m.fzn", SUMS, SUMS_ANSWER),
     ("turbofzn -p 2 --steal m.fzn", SUMS, SUMS_ANSWER),
     ("turbofzn -p 8 --steal m.fzn", SUMS, SUMS_ANSWER),
-    ("turbofzn -p 1 --steal --node-limit 1000 m.fzn", SUMS, SUMS_ANSWER),
+    (
+        "turbofzn -p 1 --steal --node-limit 1000 m.fzn",
+        SUMS,
+        SUMS_ANSWER,
+    ),
     ("turbofzn -p 64 --depth 2 --steal m.fzn", SUMS, SUMS_ANSWER),
     ("turbofzn -p 64 --depth 16 --steal m.fzn", SUMS, SUMS_ANSWER),
     (

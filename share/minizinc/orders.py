@@ -5,9 +5,9 @@ usage: orders.py [-j N] [--time SECONDS] [--nodes N] [--program PATH] [--write F
 
 The orders: the text's own solve item; the most constrained variables first; who goes before whom first; a random order,
 another one each round. Each is the text with another solve item. Round after round each order is given four times as many nodes;
-the first order of that list that ends in a round is taken, so -j (how many run at a time, 2 if left out) changes no byte while no --time is spent. The cost of
-the best plan is handed on between rounds, as one constraint more. When time is up, or on Ctrl-C, the best plan that was found
-is written without the mark `==========`.
+the first order of that list that ends in a round is taken, so -j (how many run at a time, 2 if left out) changes no byte while
+no --time is spent. The cost of the best plan is handed on between rounds, as one constraint more. When time is up, or on Ctrl-C,
+the best plan that was found is written without the mark `==========`.
 
 Standard output has the answer; standard error the solve item that won, and what the answer is proved of. --write FOLDER writes the
 four texts in place of solving them. Exit status: 0 with an answer, that of turbofzn where it refuses, 70 where an answer is wrong.

@@ -162,6 +162,22 @@ fn keep_answers_for_the_seat_and_not_for_the_word(rt: HostRuntime) -> Result<(),
 
 #[test]
 #[tactic(auto, unfolding(interval::specs::Limits::bound_limit, interval::specs::Limits::largest_number))]
+fn a_load_tells_what_another_seat_told(rt: HostRuntime) -> Result<(), Fail> {
+    let (store, mut first) = two(rt.alloc())?;
+    let mut second = split(rt.alloc(), &store, &mut first)?;
+    assert!(rt; keep(&store, &mut first, 0b11));
+    assert!(rt; at_least(&store, &mut first, 4));
+    assert!(rt; at_most(&store, &mut first, 6));
+    assert_eq!(rt; bits(&store, &mut second), 0b11);
+    assert_eq!(rt;
+        (least(&store, &mut second), greatest(&store, &mut second)),
+        (4, 6)
+    );
+    Ok(())
+}
+
+#[test]
+#[tactic(auto, unfolding(interval::specs::Limits::bound_limit, interval::specs::Limits::largest_number))]
 fn a_seat_takes_in_what_another_has_seen(rt: HostRuntime) -> Result<(), Fail> {
     let (store, mut first) = two(rt.alloc())?;
     let mut second = split(rt.alloc(), &store, &mut first)?;

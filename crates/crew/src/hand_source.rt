@@ -1,6 +1,6 @@
 //! Numbers that are dealt to hands, which steal from each other.
 
-ghost use Rattle.std.specs.Prelude.{◌≡◌, ◌≤◌, ℕ, [], length, flat_map, IfOk};
+ghost use Rattle.std.specs.Prelude.{◌≡◌, ◌≤◌, ℕ, [], true, length, flat_map, IfOk};
 ghost use Rattle.std.specs.Bool.{OnTrue};
 ghost use Rattle.std.specs.List.{All};
 ghost use Rattle.tickets.specs.Counting.{times, IsEachOnce};
@@ -11,7 +11,6 @@ ghost use Rattle.crew.specs.HandRights.{numbers_dealt, IsHandOf, HasNoneLeft, ha
 use crate::source::{Dealt, Source};
 use interval::NoMemory;
 use std::alloc::Global;
-use std::marker::Brand;
 use steal_crew::{Hand, deal, law_hands, settle};
 
 /// What the hands were dealt.
@@ -38,7 +37,7 @@ impl Source<Hand> for HandSource {
 
     fn next(&self, right: &mut Hand) -> Option<u32> {
         law_hands();
-        right.take::<Brand>()
+        right.take()
     }
 
     fn gather(self, rights: Vec<Hand>) -> bool
@@ -47,6 +46,7 @@ impl Source<Hand> for HandSource {
         ensures once { (k : ℕ) → times k (flat_map drawn_of rights.items) ≤ 1 }
         ensures below { (k : ℕ) → numbers_dealt self ≤ k → times k (flat_map drawn_of rights.items) ≡ 0 }
         ensures each_once { OnTrue result (All (HasNoneLeft self) rights.items → IsEachOnce (numbers_dealt self) (flat_map drawn_of rights.items)) }
+        ensures full { All (HasNoneLeft self) rights.items → IsEachOnce (numbers_dealt self) (flat_map drawn_of rights.items) → result ≡ true }
     {
         law_hands();
         let mut hands = rights;

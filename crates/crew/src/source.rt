@@ -15,7 +15,7 @@ pub struct Dealt<Q, N> {
 /// all rights of a source are dealt with it. The source says what it means that a right drew numbers, and that rights are
 /// those that were dealt.
 pub trait Source<N> {
-    ghost use Rattle.std.specs.Prelude.{ℕ, ◌≡◌, ◌<◌, ◌≤◌, List, All, flat_map, IfSome, IfNone};
+    ghost use Rattle.std.specs.Prelude.{ℕ, ◌≡◌, ◌<◌, ◌≤◌, true, List, All, flat_map, IfSome, IfNone};
     ghost use Rattle.std.specs.Bool.{OnTrue};
     ghost use Rattle.tickets.specs.Counting.{times, IsEachOnce};
     ghost use Rattle.tickets.specs.Seats.{with_drawn};
@@ -52,11 +52,13 @@ pub trait Source<N> {
         ensures fewer { IfSome result (λ k. most_left self.now right.new < most_left self.now right.old) }
         ensures passed { IfNone result (has_passed self.now right.new) };
 
-    /// Takes back all rights, and says whether each number was drawn, if each right has found none left.
+    /// Takes back all rights, and says whether each number was drawn, if each right has found none left. So it was, if each
+    /// right has found none left and each number was drawn.
     fn gather(self, rights: Vec<N>) -> bool
         requires rights { All (is_right self) rights.items }
         requires all { AreDrawn (are_dealt self) same rights.items }
         ensures once { (k : ℕ) → times k (flat_map drawn rights.items) ≤ 1 }
         ensures below { (k : ℕ) → count self ≤ k → times k (flat_map drawn rights.items) ≡ 0 }
-        ensures each_once { OnTrue result (All (has_passed self) rights.items → IsEachOnce (count self) (flat_map drawn rights.items)) };
+        ensures each_once { OnTrue result (All (has_passed self) rights.items → IsEachOnce (count self) (flat_map drawn rights.items)) }
+        ensures full { All (has_passed self) rights.items → IsEachOnce (count self) (flat_map drawn rights.items) → result ≡ true };
 }

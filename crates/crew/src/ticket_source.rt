@@ -1,6 +1,6 @@
 //! Numbers drawn by tickets.
 
-ghost use Rattle.std.specs.Prelude.{◌≡◌, ◌+◌, ◌++◌, ◌≤◌, ℕ, [], length, sum_by, flat_map, IfOk};
+ghost use Rattle.std.specs.Prelude.{◌≡◌, ◌+◌, ◌++◌, ◌≤◌, ℕ, [], true, length, sum_by, flat_map, IfOk};
 ghost use Rattle.std.specs.Bool.{OnTrue};
 ghost use Rattle.std.specs.List.{All};
 ghost use Rattle.tickets.specs.Counting.{times, IsEachOnce};
@@ -38,6 +38,7 @@ impl Source<TicketSeat> for Tickets {
         ensures once { (k : ℕ) → times k (flat_map numbers_drawn rights.items) ≤ 1 }
         ensures below { (k : ℕ) → count_of self ≤ k → times k (flat_map numbers_drawn rights.items) ≡ 0 }
         ensures each_once { OnTrue result (All (HasPassedTickets self) rights.items → IsEachOnce (count_of self) (flat_map numbers_drawn rights.items)) }
+        ensures full { All (HasPassedTickets self) rights.items → IsEachOnce (count_of self) (flat_map numbers_drawn rights.items) → result ≡ true }
     {
         let mut others = rights;
         match others.pop() {

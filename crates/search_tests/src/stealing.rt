@@ -3,7 +3,6 @@
 ghost use Rattle.std.specs.Prelude.{◌≡◌, ◌<◌, ℕ, length};
 ghost use Rattle.steal_crew.specs.Hands.{AreHandsOfOneDeal};
 
-use std::marker::Brand;
 use std::process::Abort;
 use std::test::Fail;
 use steal_crew::{Hand, deal, gather, law_hands};
@@ -16,7 +15,7 @@ fn take_at(hands: &mut Vec<Hand>, place: usize) -> Option<u32>
     ensures deal { (n : ℕ) × AreHandsOfOneDeal n hands.new.items }
 {
     law_hands();
-    hands[place].take::<Brand>()
+    hands[place].take()
 }
 
 /// The hand at this place gives these numbers, and then none.

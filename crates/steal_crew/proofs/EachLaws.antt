@@ -3,6 +3,7 @@ use Rattle.std.proofs.Common.{ℕ, ◌≡◌, ◌≢◌, ◌+◌, ◌<◌, ◌�
 use Rattle.std.specs.Prelude.{flat_map, sum_by, Result, Ok, Err, OnOk}
 use Rattle.std.specs.List.{All}
 use Rattle.std.proofs.Math.ListN.{get_or-map as at_map}
+use Rattle.std.proofs.Math.Seq.{take-length}
 use Rattle.std.proofs.lemmas.List.{length-map, map-append, map-set, get_or-map, get_or-set_same, get_or-set_other, take_more}
 use Rattle.std.proofs.lemmas.Simd.{map-map}
 use Rattle.std.proofs.lemmas.List.Sums.{sum_by-append, sum_by-cons, sum_by_push, sum_by-take-le}
@@ -157,6 +158,16 @@ lending_none robber hands none undrawn dealing = record {
   places = ap (map (λ (r : Right). r.of)) none;
   lists = ap (map (λ (r : Right). r.dealt)) none;
 }
+
+-- a right for each other hand
+pub lent_all : (before : List Hand) (robber passed : ℕ) (now : List Hand) → IsLending robber passed before now → robber < length before → passed + 1 ≡ length before
+    → map (λ (r : Right). r.of) (rights_at robber now) ≡ others_from robber (numbers_below (length before))
+lent_all before robber passed now lending lt all =
+    let os : List ℕ = others_from robber (numbers_below (length before)) in
+    let n = length-below (length before) in
+    let l = others-length (numbers_below (length before)) robber (omega arith) in
+    let e : passed ≡ length os = omega arith in
+    lending.places ∙ ap (λ (i : ℕ). take i os) e ∙ take-length os
 
 -- a hand has lent, and another has got the right
 pub lent_hands : (hands : List Hand) (of robber : ℕ) (d : Standing) (giver given taker took : Hand) (right : Right) → of < length hands → robber < length hands

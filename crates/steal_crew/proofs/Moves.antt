@@ -1,5 +1,5 @@
 -- Each kind of step keeps the rule of a deque.
-use Rattle.std.proofs.Common.{◌≡◌, ◌≢◌, ℕ, zero, suc, ◌+◌, ◌≤◌, ◌<◌, List, [], ◌∷◌, ◌++◌, set, sym, refl, ap, ◌∙◌, subst, ⊎_elim, arith}
+use Rattle.std.proofs.Common.{◌≡◌, ◌≢◌, ℕ, zero, suc, ◌+◌, ◌≤◌, ◌<◌, List, [], ◌∷◌, ◌++◌, length, set, sym, refl, ap, ◌∙◌, subst, ⊎_elim, arith}
 use mathlib.Core.Option.{some, some-injective, some-ne-none}
 use lib.ListN.{get_elem?}
 use Rattle.crossbeam_deque.specs.Tasks.{Pushes, Takes, Learns, Forks, Merges}
@@ -9,6 +9,7 @@ use Rattle.std.specs.List.{sum_by}
 use Rattle.std.proofs.lemmas.List.Sums.{sum_by-append}
 use Rattle.steal_crew.specs.Numbers.{IsPart}
 use Rattle.steal_crew.specs.Rule.{taken_weight, total_parts, Knows, Lawful, first_view, spent_view, view_of, pushed, took, IsAllTaken, looked, one_less, one_part, joined}
+use Rattle.steal_crew.proofs.NumberLaws.{weight-ones}
 use Rattle.steal_crew.proofs.ViewLaws.{total-set, total-snoc, two_of_total, taken-set, taken-snoc, part_of_taken, all_in_one, AreSpentEmpty}
 
 at_here : (views : List View) (id : ℕ) (v u : View) → get_elem? views id ≡ some v → get_elem? (set views id u) id ≡ some u
@@ -81,7 +82,7 @@ takes port v live xs items views nonempty short law at = (more_taken v xs, recor
           let b = counted k in let c = (law.each port v at).live live k in omega arith;
     }
 
-all_taken : (port : ℕ) (v : View) → 1 ≤ v.parts → (items : List ℕ) (views : List View) → Lawful items views → get_elem? views port ≡ some v → items ≡ [] → IsAllTaken v
+pub all_taken : (port : ℕ) (v : View) → 1 ≤ v.parts → (items : List ℕ) (views : List View) → Lawful items views → get_elem? views port ≡ some v → items ≡ [] → IsAllTaken v
 all_taken port v live items views law at none all = record {
   weight = λ k.
       let spent : AreSpentEmpty views = λ j u there gone. (law.each j u there).spent gone in
@@ -90,10 +91,19 @@ all_taken port v live items views law at none all = record {
       let c : sum_by k items ≡ sum_by k [] = ap (sum_by k) none in omega arith;
 }
 
+not_none : (items : List ℕ) → items ≢ [] → 1 ≤ length items
+not_none [] ne = absurd (ne refl)
+not_none (x ∷ items) ne = omega arith
+
 pub learns : (port : ℕ) (v : View) → 1 ≤ v.parts → Learns Lawful port v (looked v)
 learns port v live items views law at = record {
   within = record { weight = λ k. let a = part_of_taken k views port v at in let b = (law.each port v at).live live k in omega arith };
   all = λ none. all_taken port v live items views law at none;
+  some = λ more.
+      let a = part_of_taken (λ (x : ℕ). 1) views port v at in
+      let b = (law.each port v at).live live (λ (x : ℕ). 1) in
+      let c = weight-ones items in let d = weight-ones v.taken in let e = weight-ones v.dealt in
+      let f = not_none items more in omega arith;
 }
 
 pub forks : (port : ℕ) (v : View) → 1 < v.parts → Forks Lawful port v (one_less v) (one_part v)

@@ -11,14 +11,14 @@ use Rattle.std.proofs.lemmas.Simd.{map-map}
 use Rattle.std.proofs.lemmas.List.Sums.{sum_by-append, sum_by-cons, AllPass-from_list_all, list_all-from_AllPass}
 use Rattle.std.proofs.lemmas.List.Folds.{flat_map-map, list_all-map}
 use Rattle.tickets.specs.Counting.{IsEachOnce}
-use Rattle.steal_crew.specs.Numbers.{AreSameNumbers, IsOnceAtMost}
-use Rattle.steal_crew.specs.Rule.{IsAllTaken}
+use Rattle.steal_crew.specs.Numbers.{AreSameNumbers, IsOnceAtMost, numbers_below}
+use Rattle.steal_crew.specs.Rule.{IsAllTaken, IsSomeLeft}
 use Rattle.steal_crew.specs.Rights.{Right, right_of, taken_by}
 use Rattle.steal_crew.specs.Hands.{Standing, standing_of, lent_to, AreWhole, AreHandsOfOneDeal, count_of, dealt_of, taken_of, drawn_of, all_drawn, own_view, is_done, rights_of, rights_at}
 use Rattle.steal_crew.specs.Settling.{AreKept}
 use Rattle.steal_crew.specs.declared.hand.Hand.{Hand}
 use Rattle.steal_crew.specs.declared.victim.Victim.{Victim}
-use Rattle.steal_crew.proofs.NumberLaws.{each_of_same, once_of_part}
+use Rattle.steal_crew.proofs.NumberLaws.{each_of_same, once_of_part, weight-ones, length-below}
 use Rattle.steal_crew.proofs.HandLemmas.{counts_same, map_standing}
 use Rattle.steal_crew.proofs.LendLaws.{any_default}
 
@@ -84,6 +84,24 @@ taken_all w (h ∷ hands) none all =
     let e = (all zero h (omega arith)).weight w in
     let r = taken_all w hands (λ i lt. none (suc i) (omega arith)) (λ k d lt. all (suc k) d (omega arith)) in omega arith
 
+-- where they have taken as many numbers as were dealt to them, each has taken as many as were dealt to it
+none_left : (hands : List Hand) → HaveNoRights hands → sum_by (λ (x : ℕ). 1) (flat_map dealt_of hands) ≤ sum_by (λ (x : ℕ). 1) (flat_map taken_of hands) → (k : ℕ) (d : Hand) → k < length hands → ¬ (IsSomeLeft (own_view (get_or hands k d)))
+none_left [] none all k d lt left = absurd (omega arith)
+none_left (h ∷ hands) none all zero d lt left =
+    let a = sum_by-append (λ (x : ℕ). 1) (taken_of h) (flat_map taken_of hands) in
+    let b = sum_by-append (λ (x : ℕ). 1) (dealt_of h) (flat_map dealt_of hands) in
+    let c : sum_by (λ (x : ℕ). 1) (taken_of h) ≡ sum_by (λ (x : ℕ). 1) (own_view h).taken + 0 = sum_by-append (λ (x : ℕ). 1) (own_view h).taken (flat_map taken_by h.others.items) ∙ ap (λ (xs : List ℕ). sum_by (λ (x : ℕ). 1) (own_view h).taken + sum_by (λ (x : ℕ). 1) xs) (no_victims h (none zero (omega arith))) in
+    let e = h.within.weight (λ (x : ℕ). 1) in
+    let r = taken_part (λ (x : ℕ). 1) hands (λ i lt. none (suc i) (omega arith)) in
+    let p = weight-ones (own_view h).dealt in let q = weight-ones (own_view h).taken in absurd (omega arith)
+none_left (h ∷ hands) none all (suc k) d lt left =
+    let a = sum_by-append (λ (x : ℕ). 1) (taken_of h) (flat_map taken_of hands) in
+    let b = sum_by-append (λ (x : ℕ). 1) (dealt_of h) (flat_map dealt_of hands) in
+    let c : sum_by (λ (x : ℕ). 1) (taken_of h) ≡ sum_by (λ (x : ℕ). 1) (own_view h).taken + 0 = sum_by-append (λ (x : ℕ). 1) (own_view h).taken (flat_map taken_by h.others.items) ∙ ap (λ (xs : List ℕ). sum_by (λ (x : ℕ). 1) (own_view h).taken + sum_by (λ (x : ℕ). 1) xs) (no_victims h (none zero (omega arith))) in
+    let e = h.within.weight (λ (x : ℕ). 1) in
+    let r = taken_part (λ (x : ℕ). 1) hands (λ i lt. none (suc i) (omega arith)) in
+    none_left hands (λ i lt. none (suc i) (omega arith)) (omega arith) k d (omega arith) left
+
 pub once_drawn : (n : ℕ) (hands : List Hand) → HaveNoRights hands → AreHandsOfOneDeal n hands → IsOnceAtMost n (all_drawn hands)
 once_drawn n hands none deal = once_of_part n (all_drawn hands) (record { weight = λ w. let a = deal.held.weight w in let b = taken_part w hands none in let c = deal.dealt.weight w in omega arith })
 
@@ -92,6 +110,14 @@ each_drawn n hands none deal all = each_of_same n (all_drawn hands) (record { we
 
 pub drawn_kept : (before after : List Hand) → map drawn_of after ≡ map drawn_of before → all_drawn after ≡ all_drawn before
 drawn_kept before after e = flat_of drawn_of before after e
+
+either : {P : Type 0} (b : Bool) → (b ≡ true → P) → (b ≡ false → P) → P
+either true on off = on refl
+either false on off = off refl
+
+is_true : (b : Bool) → ¬ (b ≡ false) → b ≡ true
+is_true true off = refl
+is_true false off = absurd (off refl)
 
 -- one hand's deque is looked at
 module _ (hands : List Hand) (place : ℕ) (old new : Hand) (place_in : place < length hands) (value : old ≡ get_or hands place old) where
@@ -113,6 +139,20 @@ module _ (hands : List Hand) (place : ℕ) (old new : Hand) (place_in : place < 
       (λ (ne : i ≢ place).
       let a : get_or (set hands place new) i d ≡ get_or hands i d = get_or-set_other hands place i new d ne in
       subst (λ (h : Hand). IsAllTaken (own_view h)) (sym a) (before i d (omega arith) (ap is_done (sym a) ∙ e)))
+
+  pub looked_some : (first : List Hand) → (is_done old ≡ true → is_done new ≡ false → IsSomeLeft (own_view old)) → own_view new ≡ own_view old
+      → ((i : ℕ) (d : Hand) → is_done (get_or first i d) ≡ true → is_done (get_or hands i d) ≡ false → IsSomeLeft (own_view (get_or hands i d)))
+      → (i : ℕ) (d : Hand) → is_done (get_or first i d) ≡ true → is_done (get_or (set hands place new) i d) ≡ false → IsSomeLeft (own_view (get_or (set hands place new) i d))
+  looked_some first here same before i d was e = dite (ℕ_discrete i place)
+      (λ (at : i ≡ place).
+      let a : get_or (set hands place new) i d ≡ new = get_or-set_at hands place i new d at place_in in
+      let b : get_or hands i d ≡ old = ap (λ (j : ℕ). get_or hands j d) at ∙ any_default hands place d old place_in ∙ sym value in
+      subst (λ (h : Hand). IsSomeLeft (own_view h)) (sym a) (subst IsSomeLeft (sym same) (either (is_done old)
+      (λ (on : is_done old ≡ true). here on (ap is_done (sym a) ∙ e))
+      (λ (off : is_done old ≡ false). subst (λ (h : Hand). IsSomeLeft (own_view h)) b (before i d was (ap is_done b ∙ off))))))
+      (λ (ne : i ≢ place).
+      let a : get_or (set hands place new) i d ≡ get_or hands i d = get_or-set_other hands place i new d ne in
+      subst (λ (h : Hand). IsSomeLeft (own_view h)) (sym a) (before i d was (ap is_done (sym a) ∙ e)))
 
 -- all looks
 module _ (n : ℕ) (old given looked : List Hand) (kept : AreKept old given) (whole : AreWhole (map standing_of given)) (none : HaveNoRights given)
@@ -141,6 +181,18 @@ module _ (n : ℕ) (old given looked : List Hand) (kept : AreKept old given) (wh
   pub settled_all : All (λ (h : Hand). is_done h ≡ true → IsAllTaken (own_view h)) looked → list_all is_done looked ≡ true → IsEachOnce n (all_drawn old)
   settled_all empty done = subst (IsEachOnce n) (drawn_kept given looked drawn ∙ drawn_kept old given kept.drawn)
       (each_drawn n looked none_looked settled_deal (λ k d lt. empty k d lt (AllPass-from_list_all is_done looked done k d lt) (all_parts looked none_looked settled_deal.whole k d lt)))
+
+  pub settled_complete : ((i : ℕ) (d : Hand) → i < length given → is_done (get_or given i d) ≡ true → is_done (get_or looked i d) ≡ false → IsSomeLeft (own_view (get_or looked i d)))
+      → list_all is_done old ≡ true → length (all_drawn old) ≡ n → list_all is_done looked ≡ true
+  settled_complete some done all =
+      let given_done : list_all is_done given ≡ true = sym (list_all-map (λ (b : Bool). b) is_done given) ∙ ap (list_all (λ (b : Bool). b)) kept.done ∙ list_all-map (λ (b : Bool). b) is_done old ∙ done in
+      let a = settled_deal.held.weight (λ (x : ℕ). 1) in
+      let b = settled_deal.dealt.weight (λ (x : ℕ). 1) in
+      let c : length (all_drawn looked) ≡ length (all_drawn old) = ap length (drawn_kept given looked drawn ∙ drawn_kept old given kept.drawn) in
+      let e = weight-ones (all_drawn looked) in let f = weight-ones (numbers_below n) in let g = length-below n in
+      list_all-from_AllPass is_done looked (λ k d lt. is_true (is_done (get_or looked k d))
+      (λ (off : is_done (get_or looked k d) ≡ false). none_left looked none_looked (omega arith) k d lt
+      (some k d (let l = same_long in omega arith) (AllPass-from_list_all is_done given given_done k d (let l = same_long in omega arith)) off)))
 
   pub settled_done : ((i : ℕ) (d : Hand) → i < length given → is_done (get_or looked i d) ≡ true → is_done (get_or given i d) ≡ true) → list_all is_done looked ≡ true → list_all is_done old ≡ true
   settled_done fewer done =

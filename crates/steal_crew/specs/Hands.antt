@@ -3,7 +3,7 @@ use Rattle.std.specs.Prelude.{ℕ, ◌≡◌, ◌+◌, ◌<◌, ◌≤◌, ◌==
 use Rattle.std.specs.List.{All}
 use Rattle.std.specs.declared.alloc.Global.{Global}
 use Rattle.atomic_blocks.specs.Lent.{RowsId}
-use Rattle.crossbeam_deque.specs.Handles.{worker_deque, worker_port, worker_view}
+use Rattle.crossbeam_deque.specs.Handles.{worker_deque, worker_view}
 use Rattle.steal_crew.specs.declared.deque.View.{View}
 use Rattle.steal_crew.specs.declared.hand.Hand.{Hand}
 use Rattle.steal_crew.specs.Numbers.{AreSameNumbers, numbers_below}
@@ -29,12 +29,9 @@ dealt_of hand = (worker_view hand.own).dealt
 abbrev pub taken_of : Hand → List ℕ
 taken_of hand = (worker_view hand.own).taken ++ flat_map taken_by hand.others.items
 
--- what its pass of its own deque knows, and that pass's number
+-- what its pass of its own deque knows
 abbrev pub own_view : Hand → View
 own_view hand = worker_view hand.own
-
-abbrev pub own_port : Hand → ℕ
-own_port hand = worker_port hand.own
 
 -- what stays as a hand draws: how many numbers were dealt, its own deque with its share of the parts and what was dealt to it,
 -- and its rights at the deques of others

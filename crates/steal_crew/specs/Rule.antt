@@ -1,5 +1,5 @@
 -- The rule of a deque of numbers and of what the views of its passes know, kept by every step of every pass.
-use Rattle.std.specs.Prelude.{ℕ, ◌≡◌, ◌+◌, ◌-◌, ◌≤◌, List, [], ◌∷◌, ◌++◌, sum_by}
+use Rattle.std.specs.Prelude.{ℕ, ◌≡◌, ◌≢◌, ◌+◌, ◌-◌, ◌<◌, ◌≤◌, List, [], ◌∷◌, ◌++◌, length, sum_by}
 use mathlib.Core.Option.{some}
 use lib.ListN.{get_elem?}
 use Rattle.steal_crew.specs.declared.deque.View.{View}
@@ -50,10 +50,15 @@ took v xs after = Took v xs after
 abbrev pub IsAllTaken : View → Type 0
 IsAllTaken v = v.parts ≡ 1024 → AreSameNumbers v.taken v.dealt
 
+-- fewer numbers were taken than were dealt
+abbrev pub IsSomeLeft : View → Type 0
+IsSomeLeft v = length v.taken < length v.dealt
+
 -- What a look at the deque tells, which found these numbers in it
 pub record Looked (v : View) (items : List ℕ) : Type 0 where
   pub within : IsPart v.taken v.dealt
   pub all : items ≡ [] → IsAllTaken v
+  pub some : items ≢ [] → IsSomeLeft v
 
 abbrev pub looked : View → List ℕ → Type 0
 looked v items = Looked v items

@@ -7,7 +7,7 @@ ghost use Rattle.steal_crew.specs.Numbers.{IsPart, numbers_below, share};
 ghost use Rattle.steal_crew.specs.Rule.{first_view, view_of};
 ghost use Rattle.steal_crew.specs.Rights.{right_of, taken_by, dealt_to};
 ghost use Rattle.steal_crew.specs.Hands.{AreHandsOfOneDeal, Standing, standing_of, rights_at, count_of, dealt_of, drawn_of, is_done, own_view};
-ghost use Rattle.steal_crew.specs.Dealing.{IsUndrawn, IsFresh, AreFresh, AreBeingDealt, less_one, lent, right_at, with_right};
+ghost use Rattle.steal_crew.specs.Dealing.{IsUndrawn, IsFresh, AreFresh, AreBeingDealt, less_one, lent, right_at, with_right, others_from};
 
 use crate::hand::Hand;
 use crate::steps::{Own, make, part, push};
@@ -134,6 +134,7 @@ fn lend_each(hands: &mut Vec<Hand>, robber: usize) -> Result<(), NoMemory>
     ensures dealing { OnOk result (AreBeingDealt (map standing_of hands.new.items)) }
     ensures count { OnOk result (map count_of hands.new.items ≡ map count_of hands.old.items) }
     ensures dealt { OnOk result (map dealt_of hands.new.items ≡ map dealt_of hands.old.items) }
+    ensures rights { OnOk result (map (λ r. r.of) (rights_at robber hands.new.items) ≡ others_from robber (numbers_below (length hands.old.items))) }
     ensures others { (i : ℕ) → i ≢ robber → OnOk result (rights_at i hands.new.items ≡ rights_at i hands.old.items) }
 {
     let count = hands.len();
@@ -153,6 +154,7 @@ fn lend_all(hands: &mut Vec<Hand>) -> Result<(), NoMemory>
     ensures dealing { OnOk result (AreBeingDealt (map standing_of hands.new.items)) }
     ensures count { OnOk result (map count_of hands.new.items ≡ map count_of hands.old.items) }
     ensures dealt { OnOk result (map dealt_of hands.new.items ≡ map dealt_of hands.old.items) }
+    ensures rights { (i : ℕ) → i < length hands.old.items → OnOk result (map (λ r. r.of) (rights_at i hands.new.items) ≡ others_from i (numbers_below (length hands.old.items))) }
 {
     for robber in 0..hands.len() {
         lend_each(hands, robber)?;
@@ -160,14 +162,16 @@ fn lend_all(hands: &mut Vec<Hand>) -> Result<(), NoMemory>
     Ok(())
 }
 
-/// Deals the numbers below n to so many hands: hand w gets those that leave the rest w by the number of workers, rising. Each
-/// hand has room for all of them. NoMemory where memory is refused.
+/// Deals the numbers below n to so many hands: hand w gets those that leave the rest w by the number of workers, rising, and a
+/// right at the deque of each other hand, from the next one on. Each hand has room for all numbers. NoMemory where memory is
+/// refused.
 pub fn deal(alloc: Global, n: u32, workers: u32) -> Result<Vec<Hand>, NoMemory>
     requires some { 1 ≤ workers }
     requires few { workers ≤ 64 }
     ensures hands { IfOk result (λ hands. AreHandsOfOneDeal n hands.items) }
     ensures length { IfOk result (λ hands. length hands.items ≡ workers) }
     ensures shares { IfOk result (λ hands. map dealt_of hands.items ≡ map (share n workers) (numbers_below workers)) }
+    ensures rights { IfOk result (λ hands. (i : ℕ) → i < workers → map (λ r. r.of) (rights_at i hands.items) ≡ others_from i (numbers_below workers)) }
     ensures drawn { IfOk result (λ hands. All (λ hand. drawn_of hand ≡ []) hands.items) }
     ensures idle { IfOk result (λ hands. All (λ hand. is_done hand ≡ false) hands.items) }
 {

@@ -2,7 +2,6 @@
 
 use crossbeam_deque::protocol::{Join, Lesson, Outcome, Protocol, Split};
 use std::collections::LinkedList;
-use std::marker::{Brand, PhantomData};
 
 /// What a pass of a deque knows. No value of it is made.
 pub struct View {
@@ -76,30 +75,13 @@ impl Join<View> for Merges {
     ghost spent = { spent_view };
 }
 
-/// What a hand tells of its own deque where it finds no number, for contracts alone. The caller names a fact that follows of a
-/// lawful deque at a moment when it is empty; so a hand that didn't look there has none to tell.
-pub trait Fact {
-    ghost use Rattle.steal_crew.specs.declared.deque.View.{View};
+/// A pop.
+pub struct Pops;
 
-    ghost fact: { View → Type 0 };
-}
-
-/// A caller that wants to know nothing.
-impl Fact for Brand {
-    ghost use Rattle.std.specs.Prelude.{⊤};
-
-    ghost fact = { λ v. ⊤ };
-}
-
-/// A pop that tells the fact where it finds nothing.
-pub struct PopsOr<F> {
-    named: PhantomData<F>,
-}
-
-impl<F: Fact> Outcome<u32, View> for PopsOr<F> {
-    ghost use Rattle.steal_crew.specs.Rule.{took};
+impl Outcome<u32, View> for Pops {
+    ghost use Rattle.steal_crew.specs.Rule.{took, IsAllTaken};
 
     ghost then = { took };
 
-    ghost empty = { F.fact };
+    ghost empty = { IsAllTaken };
 }

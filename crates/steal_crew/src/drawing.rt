@@ -1,15 +1,13 @@
 //! Drawing numbers.
 
 ghost use Rattle.std.specs.Prelude.{◌≡◌, ◌<◌, ◌≤◌, ◌+◌, ◌++◌, ℕ, map, flat_map, length, vec_capacity, is_none, option_to_list, IfSome, IfNone};
-ghost use Rattle.crossbeam_deque.specs.Handles.{SameWorker, worker_flavor, worker_port, worker_view};
-ghost use Rattle.crossbeam_deque.specs.Tasks.{Finds};
+ghost use Rattle.crossbeam_deque.specs.Handles.{SameWorker, worker_flavor, worker_view};
 ghost use Rattle.tickets.specs.Seats.{with_drawn};
 ghost use Rattle.steal_crew.specs.Numbers.{AreSameNumbers, IsPart};
-ghost use Rattle.steal_crew.specs.Rule.{Lawful};
+ghost use Rattle.steal_crew.specs.Rule.{IsAllTaken};
 ghost use Rattle.steal_crew.specs.Rights.{right_of, taken_by};
-ghost use Rattle.steal_crew.specs.Hands.{IsSameHand, count_of, drawn_of, is_done, own_view, own_port};
+ghost use Rattle.steal_crew.specs.Hands.{IsSameHand, count_of, drawn_of, is_done, own_view};
 
-use crate::deque::Fact;
 use crate::hand::Hand;
 use crate::steps::{Own, pop, steal};
 use crate::victim::Victim;
@@ -36,20 +34,19 @@ fn rob_any(others: &mut Vec<Victim>) -> Option<u32>
 }
 
 /// Takes the first own number, and where there is none tries the others.
-fn find<F: Fact>(own: &mut Own, others: &mut Vec<Victim>) -> Option<u32>
+fn find(own: &mut Own, others: &mut Vec<Victim>) -> Option<u32>
     requires flavor { worker_flavor own.old ≡ 0 }
     requires live { 1 ≤ (worker_view own.old).parts }
     requires within { IsPart (worker_view own.old).taken (worker_view own.old).dealt }
-    requires fact { Finds Lawful (worker_port own.old) (worker_view own.old) (F.fact (worker_view own.old)) }
     ensures same { SameWorker own.old own.new }
     ensures parts { (worker_view own.new).parts ≡ (worker_view own.old).parts }
     ensures dealt { (worker_view own.new).dealt ≡ (worker_view own.old).dealt }
     ensures within { IsPart (worker_view own.new).taken (worker_view own.new).dealt }
     ensures rights { map right_of others.new.items ≡ map right_of others.old.items }
     ensures taken { AreSameNumbers ((worker_view own.new).taken ++ flat_map taken_by others.new.items) (with_drawn result ((worker_view own.old).taken ++ flat_map taken_by others.old.items)) }
-    ensures fact { IfNone result (F.fact (worker_view own.old)) }
+    ensures all { IfNone result (IsAllTaken (worker_view own.old)) }
 {
-    if let Some(number) = pop::<F>(own) {
+    if let Some(number) = pop(own) {
         return Some(number);
     }
     rob_any(others)
@@ -69,16 +66,15 @@ fn note(drawn: &mut Vec<u32>, found: Option<u32>)
 impl Hand {
     /// Draws the first of its own numbers, or where its own deque is empty one of the others', each of which it tries once, in
     /// order from the next hand on. None only where its own deque was empty at one moment of this call. It takes no memory.
-    pub fn take<F: Fact>(&mut self) -> Option<u32>
-        requires { Finds Lawful (own_port self.old) (own_view self.old) (F.fact (own_view self.old)) }
+    pub fn take(&mut self) -> Option<u32>
         ensures same { IsSameHand self.old self.new }
         ensures drawn { drawn_of self.new ≡ with_drawn result (drawn_of self.old) }
         ensures below { IfSome result (λ k. k < count_of self.old) }
         ensures few { length (drawn_of self.new) ≤ count_of self.old }
         ensures done { is_done self.new ≡ is_none result }
-        ensures own_empty { IfNone result (F.fact (own_view self.old)) }
+        ensures own_empty { IfNone result (IsAllTaken (own_view self.old)) }
     {
-        let found = find::<F>(&mut self.own, &mut self.others);
+        let found = find(&mut self.own, &mut self.others);
         note(&mut self.drawn, found);
         self.is_done = found.is_none();
         found

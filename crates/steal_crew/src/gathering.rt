@@ -1,6 +1,6 @@
 //! All that was drawn.
 
-ghost use Rattle.std.specs.Prelude.{◌≡◌, ◌<◌, ◌≤◌, ◌+◌, ◌++◌, ℕ, [], true, false, map, flat_map, length, vec_capacity, IfOk, IfErr, OnOk, Err};
+ghost use Rattle.std.specs.Prelude.{◌≡◌, ◌<◌, ◌≤◌, ◌+◌, ◌++◌, ℕ, [], true, false, map, flat_map, length, vec_capacity, IsOk, IfOk, IfErr, OnOk, Err};
 ghost use Rattle.std.specs.List.{All, list_all};
 ghost use Rattle.tickets.specs.Counting.{IsEachOnce};
 ghost use Rattle.steal_crew.specs.Hands.{AreHandsOfOneDeal, all_drawn, count_of, drawn_of, is_done};
@@ -47,12 +47,14 @@ fn join_lists(hands: Vec<Hand>) -> Vec<u32>
 }
 
 /// All that the hands of a deal have drawn, one list after the other: each number once. NotDone with the hands where one of them
-/// hasn't answered yet that it found no number. It takes no memory, as the first list has room for all.
+/// hasn't answered yet that it found no number, or a number wasn't drawn, and nowhere else. It takes no memory, as the first list
+/// has room for all.
 pub fn gather(hands: Vec<Hand>) -> Result<Vec<u32>, NotDone>
     requires { (n : ℕ) × AreHandsOfOneDeal n hands.items }
     ensures all { (n : ℕ) → AreHandsOfOneDeal n hands.items → IfOk result (λ numbers. IsEachOnce n numbers.items) }
     ensures lists { IfOk result (λ numbers. numbers.items ≡ all_drawn hands.items) }
     ensures done { OnOk result (list_all is_done hands.items ≡ true) }
+    ensures complete { (n : ℕ) → AreHandsOfOneDeal n hands.items → list_all is_done hands.items ≡ true → IsEachOnce n (all_drawn hands.items) → IsOk result }
     ensures at_once { list_all is_done hands.items ≡ false → result ≡ Err (record { hands = hands }) }
     ensures not_done { IfErr result (λ left. list_all is_done left.hands.items ≡ false) }
     ensures deal { (n : ℕ) → AreHandsOfOneDeal n hands.items → IfErr result (λ left. AreHandsOfOneDeal n left.hands.items) }

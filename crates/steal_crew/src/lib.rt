@@ -13,7 +13,7 @@ mod steps;
 mod victim;
 
 pub use dealing::deal;
-pub use deque::{Fact, View};
+pub use deque::View;
 pub use gathering::{NotDone, gather};
 pub use hand::Hand;
 pub use laws::law_hands;

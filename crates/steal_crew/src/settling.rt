@@ -1,11 +1,11 @@
 //! Passes that are given back, and a last look at each deque.
 
-ghost use Rattle.std.specs.Prelude.{◌≡◌, ◌≢◌, ◌<◌, ◌≤◌, ◌+◌, ◌++◌, ℕ, [], true, map, length, slice_index_or, option_to_list, IfNone};
+ghost use Rattle.std.specs.Prelude.{◌≡◌, ◌≢◌, ◌<◌, ◌≤◌, ◌+◌, ◌++◌, ℕ, [], true, false, map, length, slice_index_or, option_to_list, IfNone};
 ghost use Rattle.std.specs.Bool.{OnTrue, OnFalse};
 ghost use Rattle.std.specs.List.{All, list_all};
 ghost use Rattle.tickets.specs.Counting.{IsEachOnce};
 ghost use Rattle.steal_crew.specs.Numbers.{IsOnceAtMost};
-ghost use Rattle.steal_crew.specs.Rule.{IsAllTaken};
+ghost use Rattle.steal_crew.specs.Rule.{IsAllTaken, IsSomeLeft};
 ghost use Rattle.steal_crew.specs.Rights.{right_of, taken_by};
 ghost use Rattle.steal_crew.specs.Hands.{AreHandsOfOneDeal, AreWhole, standing_of, rights_at, all_drawn, dealt_of, taken_of, drawn_of, is_done, own_view};
 ghost use Rattle.steal_crew.specs.Settling.{AreKept};
@@ -13,6 +13,7 @@ ghost use Rattle.steal_crew.specs.Settling.{AreKept};
 use crate::hand::Hand;
 use crate::steps::{look, merge};
 use crate::victim::Victim;
+use tickets::law_counting;
 
 /// Whether each hand has answered that it found no number, and none since.
 pub(crate) fn are_done(hands: &[Hand]) -> bool
@@ -55,6 +56,7 @@ impl Hand {
         ensures drawn { drawn_of self.new ≡ drawn_of self.old }
         ensures done { is_done self.new ≡ true → is_done self.old ≡ true }
         ensures empty { is_done self.new ≡ true → IsAllTaken (own_view self.old) }
+        ensures some { is_done self.old ≡ true → is_done self.new ≡ false → IsSomeLeft (own_view self.old) }
     {
         let is_empty = look(&mut self.own);
         self.is_done = self.is_done && is_empty;
@@ -113,6 +115,7 @@ fn check_all(hands: &mut Vec<Hand>)
     ensures drawn { map drawn_of hands.new.items ≡ map drawn_of hands.old.items }
     ensures done { (i : ℕ) (d : Hand) → i < length hands.old.items → is_done (slice_index_or hands.new.items i d) ≡ true → is_done (slice_index_or hands.old.items i d) ≡ true }
     ensures empty { All (λ hand. is_done hand ≡ true → IsAllTaken (own_view hand)) hands.new.items }
+    ensures some { (i : ℕ) (d : Hand) → i < length hands.old.items → is_done (slice_index_or hands.old.items i d) ≡ true → is_done (slice_index_or hands.new.items i d) ≡ false → IsSomeLeft (own_view (slice_index_or hands.new.items i d)) }
 {
     for place in 0..hands.len() {
         hands[place].check();
@@ -120,7 +123,8 @@ fn check_all(hands: &mut Vec<Hand>)
 }
 
 /// Gives all passes back to the hands whose deques they are, and looks at each deque once: a hand whose deque still holds a
-/// number isn't done any more. Answers whether all hands are done, and so all numbers drawn. What was drawn stays as it is,
+/// number isn't done any more. Answers whether all hands are done, and so all numbers drawn: so it is where each hand had answered
+/// that it found no number, and each number was drawn. What was drawn stays as it is,
 /// and the hands are those of the deal, but each has only its own numbers left to take.
 pub fn settle(hands: &mut Vec<Hand>) -> bool
     requires { (n : ℕ) × AreHandsOfOneDeal n hands.old.items }
@@ -128,9 +132,11 @@ pub fn settle(hands: &mut Vec<Hand>) -> bool
     ensures drawn { map drawn_of hands.new.items ≡ map drawn_of hands.old.items }
     ensures once { (n : ℕ) → AreHandsOfOneDeal n hands.old.items → IsOnceAtMost n (all_drawn hands.old.items) }
     ensures all { (n : ℕ) → AreHandsOfOneDeal n hands.old.items → OnTrue result (IsEachOnce n (all_drawn hands.old.items)) }
+    ensures complete { (n : ℕ) → AreHandsOfOneDeal n hands.old.items → list_all is_done hands.old.items ≡ true → IsEachOnce n (all_drawn hands.old.items) → result ≡ true }
     ensures answer { result ≡ list_all is_done hands.new.items }
     ensures done { OnTrue result (list_all is_done hands.old.items ≡ true) }
 {
+    law_counting();
     give_all_back(hands);
     check_all(hands);
     are_done(hands)

@@ -1,13 +1,12 @@
 //! Single steps on a deque.
 
 ghost use Rattle.std.specs.Prelude.{◌≡◌, ◌<◌, ◌≤◌, ◌+◌, ◌∷◌, ◌++◌, [], IfOk, OnOk, MatchOption};
-ghost use Rattle.std.specs.Bool.{OnTrue};
-ghost use Rattle.crossbeam_deque.specs.Handles.{view, IsPassOf, SamePass, SameWorker, worker_deque, worker_flavor, worker_port, worker_view, stealer_deque, stealer_flavor};
-ghost use Rattle.crossbeam_deque.specs.Tasks.{Finds};
+ghost use Rattle.std.specs.Bool.{OnTrue, OnFalse};
+ghost use Rattle.crossbeam_deque.specs.Handles.{view, IsPassOf, SamePass, SameWorker, worker_deque, worker_flavor, worker_view, stealer_deque, stealer_flavor};
 ghost use Rattle.steal_crew.specs.Numbers.{IsPart};
-ghost use Rattle.steal_crew.specs.Rule.{Lawful, first_view, pushed, took, IsAllTaken, one_less, one_part, joined};
+ghost use Rattle.steal_crew.specs.Rule.{first_view, pushed, took, IsAllTaken, IsSomeLeft, one_less, one_part, joined};
 
-use crate::deque::{Fact, Looks, Merges, Parts, PopsOr, Pushes, Rule, Steals, View};
+use crate::deque::{Looks, Merges, Parts, Pops, Pushes, Rule, Steals, View};
 use crossbeam_deque::{Pass, Steal, Stealer, Worker};
 use interval::NoMemory;
 use std::alloc::{AllocError, Global};
@@ -36,17 +35,16 @@ pub(crate) fn push(own: &mut Own, number: u32) -> Result<(), NoMemory>
     }
 }
 
-/// Takes the first number, or tells what follows where there was none.
-pub(crate) fn pop<F: Fact>(own: &mut Own) -> Option<u32>
+/// Takes the first number.
+pub(crate) fn pop(own: &mut Own) -> Option<u32>
     requires flavor { worker_flavor own.old ≡ 0 }
     requires live { 1 ≤ (worker_view own.old).parts }
-    requires fact { Finds Lawful (worker_port own.old) (worker_view own.old) (F.fact (worker_view own.old)) }
     ensures same { SameWorker own.old own.new }
     ensures taken { MatchOption result
-        ((worker_view own.new ≡ worker_view own.old) × F.fact (worker_view own.old))
+        ((worker_view own.new ≡ worker_view own.old) × IsAllTaken (worker_view own.old))
         (λ x. took (worker_view own.old) (x ∷ []) (worker_view own.new)) }
 {
-    own.pop_as::<PopsOr<F>>()
+    own.pop_as::<Pops>()
 }
 
 /// Tries once to take the first number of another's deque.
@@ -96,6 +94,7 @@ pub(crate) fn look(own: &mut Own) -> bool
     ensures view { worker_view own.new ≡ worker_view own.old }
     ensures within { IsPart (worker_view own.old).taken (worker_view own.old).dealt }
     ensures all { OnTrue result (IsAllTaken (worker_view own.old)) }
+    ensures some { OnFalse result (IsSomeLeft (worker_view own.old)) }
 {
     own.len_as::<Looks>() == 0
 }

@@ -1,4 +1,6 @@
-use Rattle.std.proofs.Common.{◌∙◌, arith}
+use Rattle.std.proofs.Common.{ℕ, ap, ◌∙◌, arith}
+use Rattle.steal_crew.specs.Numbers.{numbers_below}
+use Rattle.steal_crew.specs.Dealing.{others_from}
 use Rattle.steal_crew.proofs.DealLaws.{fresh_long, fresh_none, fresh_dealing, dealt_deal, after_long}
 use Rattle.steal_crew.proofs.dealing.deal.Goals as goal
 
@@ -21,3 +23,8 @@ returns-clause-length c =
     let e = c.in_ok-lend_all.ensures in
     after_long c.args.n c.args.workers c.requires.some c.in_ok-hands.hands.items c.in_ok-hands.ensures c.lend_all.new.hands.items e.undrawn e.dealing e.count e.dealt
     ∙ fresh_long c.args.n c.args.workers c.requires.some c.in_ok-hands.hands.items c.in_ok-hands.ensures
+
+pub returns-clause-rights : goal.returns-clause-rights
+returns-clause-rights c = λ i lt.
+    let l = fresh_long c.args.n c.args.workers c.requires.some c.in_ok-hands.hands.items c.in_ok-hands.ensures in
+    c.in_ok-lend_all.ensures.rights i (omega arith) ∙ ap (λ (m : ℕ). others_from i (numbers_below m)) l

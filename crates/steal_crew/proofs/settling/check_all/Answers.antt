@@ -5,7 +5,7 @@ use Rattle.steal_crew.specs.Hands.{standing_of, own_view, taken_of, drawn_of}
 use Rattle.steal_crew.specs.declared.deque.View.{View}
 use Rattle.steal_crew.proofs.GiveLaws.{map_in_place}
 use Rattle.steal_crew.proofs.LendLaws.{same_length}
-use Rattle.steal_crew.proofs.SettleLaws.{looked_done, looked_empty}
+use Rattle.steal_crew.proofs.SettleLaws.{looked_done, looked_empty, looked_some}
 use Rattle.steal_crew.proofs.settling.check_all.Goals as goal
 
 pub loop-place-preserved : goal.loop-place-preserved
@@ -26,4 +26,5 @@ loop-place-preserved c =
       drawn = map_in_place drawn_of hands place new old (e.drawn ∙ ap drawn_of value) ∙ i.drawn;
       done = λ j d is. i.done j d (looked_done hands place old new place_in value e.done j d is);
       empty = looked_empty hands place old new place_in value e.empty e.own i.empty;
+      some = looked_some hands place old new place_in value c.args.hands.now.items e.some e.own i.some;
     }

@@ -1,3 +1,5 @@
+use Rattle.std.proofs.lemmas.List.Sums.{list_all-from_AllPass}
+use Rattle.steal_crew.specs.Hands.{is_done}
 use Rattle.crew.proofs.HandLaws.{hands_after, on_true_weaker}
 use Rattle.crew.proofs.hand_source.HandSourceSourceHand.gather.Goals as goal
 
@@ -13,4 +15,5 @@ returns c =
       once = once.once;
       below = once.no_other;
       each_once = on_true_weaker c.settle.result _ _ (λ each passed. each) (c.settle.ensures.all n deal);
+      full = λ passed each. c.settle.ensures.complete n deal (list_all-from_AllPass is_done c.args.rights.items passed) each;
     }

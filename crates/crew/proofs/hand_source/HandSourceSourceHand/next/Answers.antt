@@ -3,9 +3,6 @@ use Rattle.std.specs.Prelude.{IfSome}
 use Rattle.crew.proofs.HandLaws.{fewer_left, done_of}
 use Rattle.crew.proofs.hand_source.HandSourceSourceHand.next.Goals as goal
 
-pub take-requires : goal.take-requires
-take-requires c = λ views lawful here. tt
-
 pub returns-clause-right : goal.returns-clause-right
 returns-clause-right c = ap (λ s. s.count) c.take.ensures.same.standing ∙ c.requires
 

@@ -1,4 +1,4 @@
-use Rattle.std.proofs.Common.{◌≡◌, subst, arith}
+use Rattle.std.proofs.Common.{◌≡◌, refl, subst, arith}
 use Rattle.std.specs.List.{All}
 use Rattle.tickets.specs.Seats.{IsTicketSeatOf, next_of, count_of}
 use Rattle.crew.proofs.Items.{all_front, all_last}
@@ -29,4 +29,5 @@ returns c =
       each_once = λ passed.
           gathered_each c.args.self c.args.rights.items c.pop.new.self.items c.in-Some.last c.join_all.new.seat e j.seat j.drawn j.parts (all_parts c.args.rights.items c.requires.all)
           (j.next (all_last (λ seat. next_of seat ≡ count_of c.args.self) c.pop.new.self.items c.in-Some.last (subst (All (λ seat. next_of seat ≡ count_of c.args.self)) e passed)));
+      full = λ passed each. refl;
     }

@@ -3,6 +3,7 @@ use Rattle.std.proofs.Common.{◌≡◌, ℕ, suc, ◌<◌, List, [], ◌∷◌,
 use Rattle.std.proofs.lemmas.List.{get_or-map, length-map}
 use Rattle.std.specs.List.{All, AllZip}
 use Rattle.crew.specs.Rights.{KeepsSame, AreDrawn}
+use Rattle.crew.specs.Crews.{HasAsked}
 use Rattle.crew.specs.AtWork.{MayStart}
 use Rattle.crew.specs.declared.worker.Worker.{Worker}
 
@@ -31,6 +32,14 @@ module _ {N S W E : Type 0} where
     right = all_unmapped is_right (λ (worker : Worker N S W E). worker.right) workers (subst (All is_right) (sym e) right) k d within;
     none = all_unmapped (λ r. drawn r ≡ []) (λ (worker : Worker N S W E). worker.right) workers (subst (All (λ r. drawn r ≡ [])) (sym e) none) k d within;
   }
+
+  -- each has asked for a number
+  pub turns_asked : (turns : List ℕ) (before after : List (Worker N S W E)) → map (λ worker. worker.turn) before ≡ turns → length after ≡ length before
+      → ((i : ℕ) (d : Worker N S W E) → i < length before → HasAsked (get_or before i d).turn (get_or after i d).turn)
+      → AllZip HasAsked turns (map (λ worker. worker.turn) after)
+  turns_asked turns before after e size each = subst (λ xs. AllZip HasAsked xs (map (λ (worker : Worker N S W E). worker.turn) after)) e
+      (zip_mapped HasAsked (λ (worker : Worker N S W E). worker.turn) before after
+      (zip_from_places (λ (x y : Worker N S W E). HasAsked x.turn y.turn) before after size each))
 
   -- their rights are those that were dealt, some draws later
   pub rights_drawn : (are_dealt : List N → Type 0) (same : N → N → Type 0) (rights : List N) (before after : List (Worker N S W E)) → map (λ worker. worker.right) before ≡ rights

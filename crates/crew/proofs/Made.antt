@@ -3,7 +3,7 @@ use Rattle.std.proofs.Common.{◌≡◌, ℕ, ◌+◌, List, [], ◌∷◌, ◌+
 use Rattle.std.proofs.lemmas.List.{map-append}
 use Rattle.std.proofs.lemmas.List.Sums.{sum_by-append}
 use Rattle.std.specs.Bool.{OnTrue}
-use Rattle.std.specs.Prelude.{◌==◌, Result, Ok, Err, OnErr}
+use Rattle.std.specs.Prelude.{◌==◌, Result, Ok, Err, OnOk, OnErr}
 use Rattle.tickets.specs.Counting.{times}
 use Rattle.tickets.specs.Seats.{with_drawn}
 use Rattle.crew.specs.Ends.{numbers_of, AreSomeRuns}
@@ -11,6 +11,11 @@ use Rattle.crew.specs.AtWork.{HaveRun, HaveRunSome}
 
 times-append : (k : ℕ) (xs ys : List ℕ) → times k (xs ++ ys) ≡ times k xs + times k ys
 times-append k xs ys = sum_by-append (λ x. cond (x == k) 1 0) xs ys
+
+-- what holds is so where nothing was refused
+pub on_ok : {V F : Type 0} (r : Result V F) {P : Type 0} → P → OnOk r P
+on_ok (Ok v) p = p
+on_ok (Err e) p = tt
 
 -- what holds is so after a refusal, and what is so after a refusal holds where there was one
 pub on_err : {V F : Type 0} (r : Result V F) (P : Type 0) → P → OnErr r P

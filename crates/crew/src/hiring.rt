@@ -5,6 +5,7 @@ ghost use Rattle.std.specs.Bool.{OnTrue};
 ghost use Rattle.std.specs.List.{All};
 ghost use Rattle.crew.specs.Rights.{KeepsSame};
 ghost use Rattle.crew.specs.AtWork.{HaveRun, HaveRunSome, HasSeat, IsFirstSeat, MayStart, IsHired, IsBack, IsRun, KeepsRuns};
+ghost use Rattle.crew.specs.Crews.{HasAsked};
 ghost use Rattle.crew.specs.declared.worker.Worker.{Worker};
 
 use crate::job::Job;
@@ -29,6 +30,8 @@ fn hire<N, S, W, E, J: Job<S, W, E>>(
     ensures seat { (workers : ℕ) → workers < 64 → IsFirstSeat (J.fits job.now) J.has_parts workers seat.old → IsFirstSeat (J.fits job.now) J.has_parts (workers + 1) seat.new }
     ensures none { J.stands job.now seat.new [] }
     ensures hired { IsHired (J.fits job.now) J.has_parts (J.owns job.now) (J.stands job.now) result }
+    ensures number { result.number ≡ recruit.number }
+    ensures turn { result.turn ≡ recruit.turn }
     ensures right { result.right ≡ recruit.right }
 {
     let Recruit {
@@ -67,6 +70,8 @@ pub(crate) fn hire_all<N: Drop, S: Drop, W: Drop, E: Drop, J: Job<S, W, E>>(
     ensures none { J.stands job.now seat.new [] }
     ensures hired { All (IsHired (J.fits job.now) J.has_parts (J.owns job.now) (J.stands job.now)) workers.new.items }
     ensures count { length workers.new.items ≡ length recruits.items }
+    ensures numbers { map (λ worker. worker.number) workers.new.items ≡ map (λ recruit. recruit.number) recruits.items }
+    ensures turns { map (λ worker. worker.turn) workers.new.items ≡ map (λ recruit. recruit.turn) recruits.items }
     ensures rights { map (λ worker. worker.right) workers.new.items ≡ map (λ recruit. recruit.right) recruits.items }
 {
     for recruit in recruits {
@@ -93,6 +98,7 @@ pub(crate) fn work_all<
     requires hired { All (IsHired (J.fits job.now) J.has_parts (J.owns job.now) (J.stands job.now)) workers.old }
     requires may_start { All (MayStart (Q.is_right source.now) Q.drawn) workers.old }
     ensures back { (i : ℕ) (d : Worker N S W E) → i < length workers.old → IsBack (Q.is_right source.now) Q.drawn (Q.has_passed source.now) (J.fits job.now) J.has_parts (J.stands job.now) (slice_index_or workers.new i d) }
+    ensures asked { (i : ℕ) (d : Worker N S W E) → i < length workers.old → HasAsked (slice_index_or workers.old i d).turn (slice_index_or workers.new i d).turn }
     ensures same { (i : ℕ) (d : Worker N S W E) → i < length workers.old → KeepsSame Q.same (slice_index_or workers.old i d).right (slice_index_or workers.new i d).right }
     ensures made { ((own : _) (seat : _) (number : ℕ) (r : _) (own2 : _) (seat2 : _) → number < J.count job.now → J.owns job.now own.now → J.fits job.now seat.now → F.post run.now own seat number r own2 seat2 → KeepsRuns (J.stands job.now) seat.now seat2.now r) → (i : ℕ) (d : Worker N S W E) → i < length workers.old → HaveRunSome (J.stands job.now) (Q.drawn (slice_index_or workers.new i d).right) (slice_index_or workers.new i d).seat }
 {
@@ -108,6 +114,7 @@ pub(crate) fn work_all<
         &|_, worker: &mut Worker<N, S, W, E>|
             requires { (Q.count source.now ≡ J.count job.now) × ((own : _) (seat : _) (number : ℕ) → number < J.count job.now → J.owns job.now own.now → J.fits job.now seat.now → F.pre run.now own seat number) × ((own : _) (seat : _) (number : ℕ) (r : _) (own2 : _) (seat2 : _) → number < J.count job.now → J.owns job.now own.now → J.fits job.now seat.now → F.post run.now own seat number r own2 seat2 → IsRun (J.fits job.now) J.has_parts (J.owns job.now) (J.stands job.now) own2.now seat.now seat2.now number r) × IsHired (J.fits job.now) J.has_parts (J.owns job.now) (J.stands job.now) worker.now × MayStart (Q.is_right source.now) Q.drawn worker.now }
             ensures back { IsBack (Q.is_right source.entry.now) Q.drawn (Q.has_passed source.entry.now) (J.fits job.entry.now) J.has_parts (J.stands job.entry.now) worker.exit.now }
+            ensures asked { HasAsked worker.entry.now.turn worker.exit.now.turn }
             ensures same { KeepsSame Q.same worker.entry.now.right worker.exit.now.right }
             ensures made { ((own : _) (seat : _) (number : ℕ) (r : _) (own2 : _) (seat2 : _) → number < J.count job.entry.now → J.owns job.entry.now own.now → J.fits job.entry.now seat.now → F.post run.entry.now own seat number r own2 seat2 → KeepsRuns (J.stands job.entry.now) seat.now seat2.now r) → HaveRunSome (J.stands job.entry.now) (Q.drawn worker.exit.now.right) worker.exit.now.seat }
         { work(source, job, run, gate, worker) },

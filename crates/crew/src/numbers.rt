@@ -1,8 +1,9 @@
 //! All numbers of a job, run by a crew.
 
-ghost use Rattle.std.specs.Prelude.{◌≡◌, ◌<◌, ℕ, [], IfOk, OnErr};
+ghost use Rattle.std.specs.Prelude.{◌≡◌, ◌<◌, ℕ, [], IfOk, OnOk, OnErr};
+ghost use Rattle.std.specs.List.{AllZip};
 ghost use Rattle.crew.specs.Ends.{AreEndsOf, AreSomeRuns};
-ghost use Rattle.crew.specs.Crews.{workers_of, steals_of};
+ghost use Rattle.crew.specs.Crews.{workers_of, turns_of, steals_of, HasAsked};
 ghost use Rattle.crew.specs.AtWork.{IsRun, KeepsRuns};
 
 use crate::hand_source::deal_hands;
@@ -19,7 +20,7 @@ use std::thread::Threads;
 /// Has a crew run all numbers of a job, each once, and gives the ends of the runs in the order of the numbers. The workers
 /// draw the numbers by tickets, or steal them, as the crew is made; which it is changes nothing of what is promised. Each
 /// worker passes the gate, with how many times it has asked for a number before, and asks for the next, until none is
-/// left. One worker is run by the calling thread. Where memory was refused, to a run or here, all workers are taken in
+/// left. So each has asked once at least. One worker is run by the calling thread. Where memory was refused, to a run or here, all workers are taken in
 /// before that is answered.
 pub fn run_numbers<
     R: Threads + Sync,
@@ -50,6 +51,7 @@ pub fn run_numbers<
     ensures fits { J.fits job.now seat.new }
     ensures parts { J.has_parts seat.new 1024 }
     ensures crew { workers_of crew.new ≡ workers_of crew.old }
+    ensures turns { OnOk result (AllZip HasAsked (turns_of crew.old) (turns_of crew.new)) }
     ensures steals { steals_of crew.new ≡ steals_of crew.old }
 {
     if crew.steals() {

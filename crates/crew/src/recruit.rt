@@ -2,6 +2,7 @@
 
 ghost use Rattle.std.specs.Prelude.{◌≡◌, ◌≤◌, length, map, IfOk};
 ghost use Rattle.std.specs.List.{All};
+ghost use Rattle.steal_crew.specs.Numbers.{numbers_below};
 
 use crate::job::Job;
 use interval::NoMemory;
@@ -31,6 +32,8 @@ pub(crate) fn recruit_all<N: Drop, S, W: Drop, E, J: Job<S, W, E>>(
     requires turns { length rights.items ≡ length turns.now }
     ensures count { IfOk result (λ recruits. length recruits.items ≡ length rights.items) }
     ensures rights { IfOk result (λ recruits. map (λ recruit. recruit.right) recruits.items ≡ rights.items) }
+    ensures numbers { IfOk result (λ recruits. map (λ recruit. recruit.number) recruits.items ≡ numbers_below (length rights.items)) }
+    ensures turns { IfOk result (λ recruits. map (λ recruit. recruit.turn) recruits.items ≡ turns.now) }
     ensures own { IfOk result (λ recruits. All (λ recruit. J.owns job.now recruit.own) recruits.items) }
 {
     let mut recruits = Vec::with_capacity(alloc, rights.len())?;

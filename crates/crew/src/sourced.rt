@@ -1,10 +1,10 @@
 //! All numbers of a source, run by a crew.
 
-ghost use Rattle.std.specs.Prelude.{◌≡◌, ◌<◌, ◌≤◌, ℕ, [], length, map, IfOk, OnErr, vec_capacity};
-ghost use Rattle.std.specs.List.{All};
+ghost use Rattle.std.specs.Prelude.{◌≡◌, ◌<◌, ◌≤◌, ℕ, [], length, map, IfOk, OnOk, OnErr, vec_capacity};
+ghost use Rattle.std.specs.List.{All, AllZip};
 ghost use Rattle.tickets.specs.Counting.{IsEachOnce};
 ghost use Rattle.crew.specs.Ends.{AreEndsOf, AreSomeRuns, numbers_of};
-ghost use Rattle.crew.specs.Crews.{workers_of, steals_of};
+ghost use Rattle.crew.specs.Crews.{workers_of, turns_of, steals_of, HasAsked};
 ghost use Rattle.crew.specs.Rights.{AreDrawn};
 ghost use Rattle.crew.specs.AtWork.{HaveRunSome, IsFirstSeat, IsBack, IsRun, KeepsRuns};
 
@@ -91,6 +91,7 @@ pub(crate) fn run_from<
     ensures fits { J.fits job.now seat.new }
     ensures parts { J.has_parts seat.new 1024 }
     ensures crew { workers_of crew.new ≡ workers_of crew.old }
+    ensures turns { OnOk result (AllZip HasAsked (turns_of crew.old) (turns_of crew.new)) }
     ensures steals { steals_of crew.new ≡ steals_of crew.old }
 {
     let Dealt {

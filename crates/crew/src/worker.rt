@@ -3,6 +3,7 @@
 ghost use Rattle.std.specs.Prelude.{◌≡◌, ◌<◌, ℕ, ◌≤◌, [], IfOk, OnOk, OnErr};
 ghost use Rattle.std.specs.Bool.{OnTrue, OnFalse};
 ghost use Rattle.crew.specs.Rights.{KeepsSame};
+ghost use Rattle.crew.specs.Crews.{HasAsked};
 ghost use Rattle.crew.specs.AtWork.{HasSeat, HaveRun, HaveRunSome, MayStart, MayDraw, IsHired, IsBack, IsRun, KeepsRuns};
 
 use crate::job::Job;
@@ -47,6 +48,7 @@ fn run_next<
     requires may_draw { MayDraw (Q.is_right source.now) Q.drawn (J.owns job.now) (J.stands job.now) worker.old }
     ensures seat { HasSeat (J.fits job.now) J.has_parts worker.new }
     ensures right { Q.is_right source.now worker.new.right }
+    ensures asked { HasAsked worker.old.turn worker.new.turn }
     ensures same { KeepsSame Q.same worker.old.right worker.new.right }
     ensures may_draw { IfOk result (λ _. MayDraw (Q.is_right source.now) Q.drawn (J.owns job.now) (J.stands job.now) worker.new) }
     ensures went_on { IfOk result (λ went_on. OnTrue went_on (Q.most_left source.now worker.new.right < Q.most_left source.now worker.old.right)) }
@@ -83,6 +85,7 @@ fn run_all<
     requires may_draw { MayDraw (Q.is_right source.now) Q.drawn (J.owns job.now) (J.stands job.now) worker.old }
     ensures seat { HasSeat (J.fits job.now) J.has_parts worker.new }
     ensures right { Q.is_right source.now worker.new.right }
+    ensures asked { HasAsked worker.old.turn worker.new.turn }
     ensures same { KeepsSame Q.same worker.old.right worker.new.right }
     ensures passed { OnOk result (Q.has_passed source.now worker.new.right) }
     ensures run { OnOk result (HaveRun (J.stands job.now) (Q.drawn worker.new.right) worker.new.seat worker.new.runs.items) }
@@ -109,6 +112,7 @@ pub(crate) fn work<
     requires hired { IsHired (J.fits job.now) J.has_parts (J.owns job.now) (J.stands job.now) worker.old }
     requires may_start { MayStart (Q.is_right source.now) Q.drawn worker.old }
     ensures back { IsBack (Q.is_right source.now) Q.drawn (Q.has_passed source.now) (J.fits job.now) J.has_parts (J.stands job.now) worker.new }
+    ensures asked { HasAsked worker.old.turn worker.new.turn }
     ensures same { KeepsSame Q.same worker.old.right worker.new.right }
     ensures made { ((own : _) (seat : _) (number : ℕ) (r : _) (own2 : _) (seat2 : _) → number < J.count job.now → J.owns job.now own.now → J.fits job.now seat.now → F.post run.now own seat number r own2 seat2 → KeepsRuns (J.stands job.now) seat.now seat2.now r) → HaveRunSome (J.stands job.now) (Q.drawn worker.new.right) worker.new.seat }
 {

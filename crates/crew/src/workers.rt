@@ -1,6 +1,6 @@
 //! A crew, as it is kept from one job to the next.
 
-ghost use Rattle.std.specs.Prelude.{◌≡◌, ◌≤◌, length, IfOk, replicate};
+ghost use Rattle.std.specs.Prelude.{◌≡◌, ◌≤◌, length, map, IfOk, replicate};
 
 use crate::worker::Worker;
 use interval::NoMemory;
@@ -56,13 +56,12 @@ impl Workers {
 
     /// Notes how many times each worker has asked for a number by now.
     pub(crate) fn note_turns<N, S, W, E>(&mut self, workers: &[Worker<N, S, W, E>])
-        ensures workers { workers_of self.new ≡ workers_of self.old }
+        requires { length workers.now ≡ workers_of self.old }
+        ensures turns { turns_of self.new ≡ map (λ worker. worker.turn) workers.now }
         ensures steals { steals_of self.new ≡ steals_of self.old }
     {
-        for (i, worker) in workers.iter().enumerate() {
-            if i < self.turns.len() {
-                self.turns[i] = worker.turn;
-            }
+        for place in 0..workers.len() {
+            self.turns[place] = workers[place].turn;
         }
     }
 }

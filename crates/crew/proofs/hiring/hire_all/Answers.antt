@@ -23,6 +23,18 @@ loop-recruit-preserved g c =
       seat = subst (λ n. IsFirstSeat (g.J.Job.fits c.args.job.now) g.J.Job.has_parts n c.hire.new.seat) (sym long) (c.hire.ensures.seat _ few i.seat);
       none = c.hire.ensures.none;
       hired = subst (All (IsHired (g.J.Job.fits c.args.job.now) g.J.Job.has_parts (g.J.Job.owns c.args.job.now) (g.J.Job.stands c.args.job.now))) (sym p.items) (All-push (IsHired (g.J.Job.fits c.args.job.now) g.J.Job.has_parts (g.J.Job.owns c.args.job.now) (g.J.Job.stands c.args.job.now)) c.loop-recruit.workers.items c.hire.result i.hired c.hire.ensures.hired);
+      numbers =
+          ap (map (λ (worker : Worker g.row.N.Denot g.row.S.Denot g.row.W.Denot g.row.E.Denot). worker.number)) p.items
+          ∙ map-append (λ (worker : Worker g.row.N.Denot g.row.S.Denot g.row.W.Denot g.row.E.Denot). worker.number) c.loop-recruit.workers.items (c.hire.result ∷ [])
+          ∙ ap (λ xs. xs ++ c.hire.result.number ∷ []) i.numbers
+          ∙ ap (λ number. map (λ (recruit : Recruit g.row.N.Denot g.row.W.Denot). recruit.number) c.loop-recruit.yielded ++ number ∷ []) c.hire.ensures.number
+          ∙ sym (map-append (λ (recruit : Recruit g.row.N.Denot g.row.W.Denot). recruit.number) c.loop-recruit.yielded (c.in-Some.recruit ∷ []));
+      turns =
+          ap (map (λ (worker : Worker g.row.N.Denot g.row.S.Denot g.row.W.Denot g.row.E.Denot). worker.turn)) p.items
+          ∙ map-append (λ (worker : Worker g.row.N.Denot g.row.S.Denot g.row.W.Denot g.row.E.Denot). worker.turn) c.loop-recruit.workers.items (c.hire.result ∷ [])
+          ∙ ap (λ xs. xs ++ c.hire.result.turn ∷ []) i.turns
+          ∙ ap (λ turn. map (λ (recruit : Recruit g.row.N.Denot g.row.W.Denot). recruit.turn) c.loop-recruit.yielded ++ turn ∷ []) c.hire.ensures.turn
+          ∙ sym (map-append (λ (recruit : Recruit g.row.N.Denot g.row.W.Denot). recruit.turn) c.loop-recruit.yielded (c.in-Some.recruit ∷ []));
       rights =
           ap (map (λ (worker : Worker g.row.N.Denot g.row.S.Denot g.row.W.Denot g.row.E.Denot). worker.right)) p.items
           ∙ map-append (λ (worker : Worker g.row.N.Denot g.row.S.Denot g.row.W.Denot g.row.E.Denot). worker.right) c.loop-recruit.workers.items (c.hire.result ∷ [])

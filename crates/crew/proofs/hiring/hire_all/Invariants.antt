@@ -11,5 +11,7 @@ invariant-loop-recruit g l = record {
   seat : IsFirstSeat (g.J.Job.fits l.job) g.J.Job.has_parts (length l.workers.items) l.seat;
   none : g.J.Job.stands l.job l.seat [];
   hired : All (IsHired (g.J.Job.fits l.job) g.J.Job.has_parts (g.J.Job.owns l.job) (g.J.Job.stands l.job)) l.workers.items;
+  numbers : map (λ worker. worker.number) l.workers.items ≡ map (λ recruit. recruit.number) l.yielded;
+  turns : map (λ worker. worker.turn) l.workers.items ≡ map (λ recruit. recruit.turn) l.yielded;
   rights : map (λ worker. worker.right) l.workers.items ≡ map (λ recruit. recruit.right) l.yielded;
 }

@@ -1,14 +1,15 @@
-use Rattle.std.proofs.Common.{rules, ◌≡◌, ◌<◌, ℕ, length, map, get_or, sym, subst, ◌∙◌}
+use Rattle.std.proofs.Common.{rules, ◌≡◌, ◌<◌, ℕ, length, map, get_or, ap, sym, subst, ◌∙◌}
 use Rattle.std.proofs.lemmas.Result.{IfOk-weaker}
-use Rattle.std.specs.List.{All}
+use Rattle.std.specs.List.{All, AllZip}
 use Rattle.tickets.specs.Counting.{IsEachOnce}
 use Rattle.crew.specs.Rights.{KeepsSame, AreDrawn}
+use Rattle.crew.specs.Crews.{turns_of, HasAsked}
 use Rattle.crew.specs.AtWork.{HaveRunSome, IsFirstSeat, MayStart, IsHired, IsBack}
 use Rattle.crew.specs.Ends.{AreEndsOf, AreInOrder, AreSomeRuns, numbers_of}
 use Rattle.crew.specs.declared.worker.Worker.{Worker}
 use Rattle.crew.proofs.Items.{all_written, written}
-use Rattle.crew.proofs.Made.{on_err, no_runs}
-use Rattle.crew.proofs.Hired.{all_may_start, rights_drawn}
+use Rattle.crew.proofs.Made.{on_ok, on_err, no_runs}
+use Rattle.crew.proofs.Hired.{all_may_start, rights_drawn, turns_asked}
 use Rattle.crew.proofs.sourced.run_from.Goals as goal
 
 pub returns-in_err-room-clause-made : goal.returns-in_err-room-clause-made
@@ -75,3 +76,11 @@ returns-clause-made g c = λ kept. on_err _ _
     (c.gather.ensures.made
     (all_written (λ (w : Worker g.row.N.Denot g.row.S.Denot g.row.W.Denot g.row.E.Denot). HaveRunSome (g.J.Job.stands c.args.job.now) (g.Q.Source.drawn w.right) w.seat) c.hire_all.new.workers.items c.work_all.new.workers c.hire_all.new.workers.len (search rules) (search rules)
     (subst (λ xs. (i : ℕ) (d : Worker g.row.N.Denot g.row.S.Denot g.row.W.Denot g.row.E.Denot) → i < length xs → HaveRunSome (g.J.Job.stands c.args.job.now) (g.Q.Source.drawn (get_or c.work_all.new.workers i d).right) (get_or c.work_all.new.workers i d).seat) c.deref_mut.ensures.value (c.work_all.ensures.made kept)))))
+
+pub returns-clause-turns : goal.returns-clause-turns
+returns-clause-turns g c = on_ok c.in_order.result
+    (let size : length c.work_all.new.workers ≡ length c.hire_all.new.workers.items = search rules in
+    subst (AllZip HasAsked (turns_of c.args.crew.now))
+    (sym (c.note_turns.ensures.turns ∙ ap (map (λ (w : Worker g.row.N.Denot g.row.S.Denot g.row.W.Denot g.row.E.Denot). w.turn)) (c.deref.ensures.value ∙ written c.hire_all.new.workers.items c.work_all.new.workers c.hire_all.new.workers.len (search rules) size)))
+    (turns_asked (turns_of c.args.crew.now) c.hire_all.new.workers.items c.work_all.new.workers (c.hire_all.ensures.turns ∙ c.in_ok-recruits.ensures.turns ∙ c.turns.ensures) size
+    (subst (λ xs. (i : ℕ) (d : Worker g.row.N.Denot g.row.S.Denot g.row.W.Denot g.row.E.Denot) → i < length xs → HasAsked (get_or xs i d).turn (get_or c.work_all.new.workers i d).turn) c.deref_mut.ensures.value c.work_all.ensures.asked)))

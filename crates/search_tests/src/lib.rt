@@ -22,5 +22,3 @@ mod paths;
 mod posts;
 #[cfg(test)]
 mod searches;
-#[cfg(test)]
-mod stealing;

@@ -5,7 +5,7 @@ use mathlib.Core.Logic.{dite}
 use native.Mathlib.Decide.{ℕ_discrete}
 use Rattle.steal_crew.specs.Hands.{IsSameHand}
 use Rattle.steal_crew.specs.declared.hand.Hand.{Hand}
-use Rattle.search_tests.proofs.stealing.take_at.Goals as goal
+use Rattle.steal_tests.proofs.hands.take_at.Goals as goal
 
 any_default : (xs : List Hand) (i : ℕ) (d e : Hand) → i < length xs → get_or xs i d ≡ get_or xs i e
 any_default [] i d e h = absurd (omega arith)

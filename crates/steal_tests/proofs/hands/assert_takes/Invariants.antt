@@ -1,6 +1,6 @@
 use Rattle.std.proofs.Common.{◌≡◌, ℕ, length}
 use Rattle.steal_crew.specs.Hands.{AreHandsOfOneDeal}
-use Rattle.search_tests.proofs.stealing.assert_takes.Given as goal
+use Rattle.steal_tests.proofs.hands.assert_takes.Given as goal
 
 abbrev pub invariant-loop-number : goal.invariant-loop-number
 invariant-loop-number g l = record {

@@ -10,8 +10,7 @@ workers_of crew = length crew.turns.items
 abbrev pub turns_of : Workers → List ℕ
 turns_of crew = crew.turns.items
 
--- how many numbers a worker has asked for, where it has asked for one more at least since it had asked for so many: the count
--- stays at its greatest value
+-- between the two counts the worker has asked for a number once at least; a count stays at its greatest value
 abbrev pub HasAsked : ℕ → ℕ → Type 0
 HasAsked before after = min (before + 1) (2 ^ 64 - 1) ≤ after
 

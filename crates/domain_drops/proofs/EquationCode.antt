@@ -1,15 +1,13 @@
 -- What the code drops of an equation is what the definitions say.
-use Rattle.std.proofs.Common.{◌≡◌, ◌≢◌, ℕ, ◌≤◌, ◌<◌, cond, List, [], ◌∷◌, ◌++◌, length, get_or, map, Bool, true, false, ◌&&◌, ℤ, pos, ◌-ℤ◌, refl, sym, ap, ◌∙◌, subst, arith}
+use Rattle.std.proofs.Common.{◌≡◌, cond, List, [], ◌∷◌, ◌++◌, map, Bool, true, false, ◌&&◌, ℤ, ◌-ℤ◌, refl, ap, ◌∙◌}
 use Rattle.std.proofs.lemmas.List.Elements.{filter_agree}
-use Rattle.std.specs.List.{filter, flat_map, zip}
+use Rattle.std.specs.List.{filter, flat_map}
 use Rattle.tells.specs.declared.tell.Lit.{Lit}
-use Rattle.interval.specs.Boxes.{Bounds}
 use Rattle.guarded_tell.specs.Words.{is_out}
-use Rattle.guarded_tell.specs.Linear.{Term, least_of, greatest_of, sum_over}
+use Rattle.guarded_tell.specs.Linear.{Term, least_of, greatest_of}
 use Rattle.guarded_tell.specs.Equality.{is_same, is_product}
 use Rattle.bit_domain.specs.Mixes.{Mix, dom_of, hull, values_of}
-use Rattle.domain_drops.specs.Hearing.{Drop}
-use Rattle.domain_drops.specs.Removals.{Removal, makes_limit, term_removal, equation_removals}
+use Rattle.domain_drops.specs.Removals.{makes_limit, term_removal}
 use Rattle.domain_drops.specs.Drops.{dropped, term_drops}
 
 -- no number passes

@@ -1,14 +1,13 @@
 -- Domains and mixes beside their hulls.
-use Rattle.std.proofs.Common.{◌≡◌, ℕ, zero, suc, ◌<◌, ◌≤◌, List, [], ◌∷◌, length, slice_index_or, ℤ, pos, ◌+ℤ◌, ◌≤ℤ◌, refl, sym, ap, subst, arith}
-use Rattle.std.specs.Prelude.{◌↔◌, slice_index}
-use Rattle.std.specs.List.{Contains}
+use Rattle.std.proofs.Common.{◌≡◌, ℕ, zero, suc, ◌≤◌, List, [], ◌∷◌, length, slice_index_or, ℤ, pos, ◌≤ℤ◌, refl, sym, ap, subst, arith}
+use Rattle.std.specs.Prelude.{slice_index}
 use Rattle.std.proofs.lemmas.Int.{ints}
 use Rattle.std.proofs.lemmas.List.{length-map}
 use Rattle.interval.specs.Limits.{IsBound, box_limit}
 use Rattle.interval.specs.Boxes.{low_of, high_of, IsInRange}
 use Rattle.guarded_tell.specs.Words.{AreVariables, IsProperIn, IsInsideIn}
 use Rattle.bit_domain.specs.declared.dom.Dom.{Dom}
-use Rattle.bit_domain.specs.Mixes.{Mix, dom_of, hull, hull_of, values_of, Has, IsBits, IsDomInRange, IsInsideDom, IsMixInRange}
+use Rattle.bit_domain.specs.Mixes.{Mix, dom_of, hull, hull_of, Has, IsDomInRange, IsInsideDom, IsMixInRange}
 use Rattle.domain_drops.specs.Drops.{IsInsideMixIn}
 
 -- the laws of domains

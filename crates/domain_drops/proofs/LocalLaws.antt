@@ -1,24 +1,21 @@
 -- What is removed depends on the kernel's variables alone.
-use Rattle.std.proofs.Common.{◌≡◌, ℕ, zero, suc, ◌+◌, ◌<◌, List, [], ◌∷◌, ◌++◌, length, map, get_or, Bool, not, ◌&&◌, ◌||◌, ℤ, pos, ◌-ℤ◌, refl, sym, ap, subst, ◌∙◌, arith}
+use Rattle.std.proofs.Common.{◌≡◌, ℕ, suc, ◌+◌, ◌<◌, List, [], ◌∷◌, ◌++◌, length, map, get_or, not, ◌&&◌, ◌||◌, ℤ, pos, ◌-ℤ◌, refl, sym, ap, subst, ◌∙◌, arith}
 use Rattle.std.specs.Prelude.{slice_index}
-use Rattle.std.proofs.lemmas.List.{get_or_default}
 use Rattle.std.proofs.lemmas.List.Elements.{filter_agree}
 use Rattle.std.specs.Ordering.{int_eq}
 use Rattle.std.specs.Int.RustNames.{int_le}
-use Rattle.std.specs.List.{All, Contains, filter, flat_map, zip, list_any, enumerate_from}
+use Rattle.std.specs.List.{filter, flat_map, zip, list_any, enumerate_from}
 use Rattle.tells.specs.declared.tell.Lit.{Lit}
-use Rattle.interval.specs.Boxes.{Bounds, low_of, high_of}
 use Rattle.guarded_tell.specs.declared.kernel.Kernel.{Kernel}
 use Rattle.guarded_tell.specs.declared.kernel.Kernel.TheVariants.{Le, Eq, Times, Div, Mod, Abs, Max, Min, Clause, Element, InSet, AllDiff, Cumulative}
-use Rattle.guarded_tell.specs.Words.{is_sure, is_out, AgreeIn}
+use Rattle.guarded_tell.specs.Words.{AgreeIn}
 use Rattle.guarded_tell.specs.Linear.{Term, least_of, greatest_of, sum_over}
 use Rattle.guarded_tell.specs.Equality.{is_same, is_product}
-use Rattle.guarded_tell.specs.Element.{can_equal, places_of}
+use Rattle.guarded_tell.specs.Element.{can_equal}
 use Rattle.guarded_tell.specs.InSet.{has_number}
 use Rattle.guarded_tell.specs.Kernels.{vars_of}
 use Rattle.bit_domain.specs.declared.dom.Dom.{Dom}
 use Rattle.bit_domain.specs.Mixes.{Mix, dom_of, hull, hull_of, values_of}
-use Rattle.domain_drops.specs.Hearing.{Drop}
 use Rattle.domain_drops.specs.Removals.{Removal, makes_limit, term_removal, equation_removals, is_against_set, set_removal, is_place_apart, place_removal, removals}
 use Rattle.domain_drops.specs.Drops.{dropped, drops, AgreeMixIn}
 use Rattle.domain_drops.proofs.HullLaws.{low_at, high_at}

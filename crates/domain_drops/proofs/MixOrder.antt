@@ -1,14 +1,13 @@
 -- How mixes lie inside each other.
-use Rattle.std.proofs.Common.{◌≡◌, ℕ, zero, suc, ◌<◌, ◌≤◌, List, [], ◌∷◌, length, ℤ, pos, ◌≤ℤ◌, refl, sym, ap, subst, ◌∙◌, arith}
+use Rattle.std.proofs.Common.{◌≡◌, ℕ, suc, ◌<◌, ◌≤◌, [], ◌∷◌, length, ℤ, ◌≤ℤ◌, refl, sym, subst, ◌∙◌, arith}
 use Rattle.std.proofs.lemmas.Int.{ints}
 use Rattle.std.proofs.lemmas.Nat.Bits.{same_from_bits}
-use Rattle.std.specs.Int.{bit_at}
 use Rattle.interval.specs.Limits.{box_limit}
-use Rattle.interval.specs.Boxes.{low_of, high_of, IsProper}
+use Rattle.interval.specs.Boxes.{IsProper}
 use Rattle.bit_domain.specs.Bits.{IsSubset}
 use Rattle.bit_domain.specs.declared.dom.Dom.{Dom}
 use Rattle.bit_domain.specs.declared.dom.Dom.TheVariants.{Bits, Pair}
-use Rattle.bit_domain.specs.Mixes.{Mix, dom_of, hull, hull_of, IsDomInRange, IsInsideDom, IsMixInRange, IsInsideMix}
+use Rattle.bit_domain.specs.Mixes.{Mix, dom_of, hull, IsInsideDom, IsMixInRange, IsInsideMix}
 use Rattle.domain_drops.specs.Closed.{InsideMixOrder}
 use Rattle.domain_drops.proofs.HullLaws.{Domains, length-hull, proper_at, inside_at}
 

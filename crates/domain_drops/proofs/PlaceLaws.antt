@@ -1,11 +1,11 @@
 -- The places of a list whose variable can't equal another.
-use Rattle.std.proofs.Common.{◌≡◌, ◌≢◌, ℕ, zero, suc, ◌+◌, ◌-◌, ◌<◌, ◌≤◌, Bool, true, false, not, ◌&&◌, ◌||◌, List, [], ◌∷◌, length, get_or, ℤ, pos, ◌≤ℤ◌, ◌<ℤ◌, unsigned_abs, refl, sym, ap, ◌∙◌, arith}
+use Rattle.std.proofs.Common.{◌≡◌, ◌≢◌, ℕ, zero, suc, ◌+◌, ◌<◌, Bool, true, false, not, ◌&&◌, ◌||◌, List, [], ◌∷◌, length, get_or, ℤ, pos, refl, sym, ap, ◌∙◌, arith}
 use Rattle.std.proofs.lemmas.Int.{ints}
 use Rattle.std.proofs.lemmas.Bool.Decides.{Decides-int_eq}
 use Rattle.std.specs.Ordering.{int_eq}
 use Rattle.std.specs.List.{enumerate_from, list_any}
 use Rattle.interval.specs.Boxes.{Bounds}
-use Rattle.guarded_tell.specs.Element.{can_equal, places_of}
+use Rattle.guarded_tell.specs.Element.{can_equal}
 use Rattle.domain_drops.specs.Removals.{is_place_apart}
 use Rattle.domain_drops.proofs.ProductLaws.{by_bool}
 

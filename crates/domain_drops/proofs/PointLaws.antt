@@ -1,7 +1,6 @@
 -- At a point where a kernel holds nothing is removed: one line for each kernel.
-use Rattle.std.proofs.Common.{◌≡◌, ◌≢◌, ℕ, zero, suc, ◌+◌, ◌<◌, ◌≤◌, List, [], ◌∷◌, length, map, get_or, Bool, true, false, not, ◌&&◌, ◌||◌, ℤ, pos, ◌-ℤ◌, ◌*ℤ◌, ◌≤ℤ◌, ◌⊎◌, inl, inr, ⊎_elim, refl, sym, ap, subst, ◌∙◌, arith, slice_index_or}
-use Rattle.std.specs.Prelude.{◌↔◌, IsTrue}
-use Rattle.std.proofs.lemmas.Int.{ints, clamps}
+use Rattle.std.proofs.Common.{◌≡◌, ℕ, suc, ◌+◌, ◌<◌, List, [], ◌∷◌, length, map, get_or, Bool, true, false, not, ◌&&◌, ◌||◌, ℤ, pos, ◌-ℤ◌, ◌*ℤ◌, ◌≤ℤ◌, ⊎_elim, refl, sym, ap, subst, ◌∙◌, arith}
+use Rattle.std.proofs.lemmas.Int.{ints}
 use Rattle.std.proofs.lemmas.Bool.{and_parts, and_from, or_cases, true≢false}
 use Rattle.std.proofs.lemmas.List.{get_or_default}
 use Rattle.std.proofs.lemmas.List.Elements.{All-nil, All-cons}
@@ -10,7 +9,7 @@ use Rattle.std.proofs.lemmas.List.FromFn.{length-enumerate_from, get_or-enumerat
 use Rattle.std.proofs.lemmas.Bool.Decides.{Decides-int_eq}
 use Rattle.std.specs.Ordering.{int_eq}
 use Rattle.std.specs.Int.RustNames.{int_le}
-use Rattle.std.specs.List.{All, Any, zip, list_any, enumerate_from}
+use Rattle.std.specs.List.{All, Any, zip, list_any}
 use Rattle.tells.specs.declared.tell.Lit.{Lit}
 use Rattle.interval.specs.Boxes.{Bounds, low_of, high_of, IsPoint}
 use Rattle.guarded_tell.specs.declared.kernel.Kernel.{Kernel}
@@ -22,7 +21,7 @@ use Rattle.guarded_tell.specs.Element.{can_equal, places_of, IsElement}
 use Rattle.guarded_tell.specs.InSet.{has_number, IsInSet}
 use Rattle.guarded_tell.specs.Kernels.{vars_of, HasNumbers, Holds}
 use Rattle.domain_drops.specs.Removals.{Removal, makes_limit, term_removal, equation_removals, is_against_set, set_removal, is_place_apart, place_removal, removals}
-use Rattle.domain_drops.proofs.ProductLaws.{by_bool, same_is}
+use Rattle.domain_drops.proofs.ProductLaws.{same_is}
 use Rattle.domain_drops.proofs.SumLaws.{least_at_point, zip_at, least_sum, value-point}
 
 -- the value of the removal's variable at the point doesn't pass

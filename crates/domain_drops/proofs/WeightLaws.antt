@@ -1,15 +1,15 @@
 -- The weight of a mix falls where it loses a number.
-use Rattle.std.proofs.Common.{◌≡◌, ◌≢◌, ℕ, zero, suc, ◌+◌, ◌-◌, ◌*◌, ◌^◌, ◌<◌, ◌≤◌, List, [], ◌∷◌, length, map, ℤ, pos, ◌+ℤ◌, ◌-ℤ◌, ◌≤ℤ◌, unsigned_abs, refl, sym, ap, subst, ◌∙◌, arith}
+use Rattle.std.proofs.Common.{◌≡◌, ◌≢◌, ℕ, ◌+◌, ◌-◌, ◌*◌, ◌^◌, ◌<◌, ◌≤◌, List, [], ◌∷◌, length, map, ℤ, pos, ◌+ℤ◌, ◌-ℤ◌, ◌≤ℤ◌, unsigned_abs, refl, arith}
 use Rattle.std.proofs.lemmas.Int.{ints}
 use Rattle.std.proofs.Math.Nat.{mul-le-mul_right}
 use mathlib.Core.Logic.{dite}
 use native.Mathlib.Decide.{ℕ_discrete}
 use Rattle.interval.specs.Limits.{IsBound, bound_limit, box_limit, largest_number}
-use Rattle.interval.specs.Boxes.{low_of, high_of, IsProper}
+use Rattle.interval.specs.Boxes.{IsProper}
 use Rattle.bit_domain.specs.Bits.{members, IsSubset}
 use Rattle.bit_domain.specs.declared.dom.Dom.{Dom}
 use Rattle.bit_domain.specs.declared.dom.Dom.TheVariants.{Bits, Pair}
-use Rattle.bit_domain.specs.Mixes.{Mix, dom_of, hull, hull_of, ends_of, values_from, IsDomInRange, IsInsideDom, IsMixInRange, IsInsideMix}
+use Rattle.bit_domain.specs.Mixes.{Mix, hull, hull_of, ends_of, IsDomInRange, IsInsideDom, IsMixInRange, IsInsideMix}
 use Rattle.domain_drops.specs.Closed.{weight_of_dom, weight_of}
 use Rattle.domain_drops.proofs.MixOrder.{inside_rest, range_rest, proper_rest}
 

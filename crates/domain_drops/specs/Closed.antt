@@ -1,7 +1,6 @@
 -- Mixes that are closed under kernels, the greatest of them inside a start, and the weight that falls on the way to it.
-use Rattle.std.specs.Prelude.{◌≡◌, ◌≢◌, ◌≤◌, ◌<◌, ◌+◌, ◌-◌, ◌*◌, ◌-ℤ◌, ℕ, List, [], ◌∷◌, length, unsigned_abs}
+use Rattle.std.specs.Prelude.{◌≡◌, ◌+◌, ◌-◌, ◌-ℤ◌, ℕ, List, [], ◌∷◌, length, unsigned_abs}
 use Rattle.std.specs.List.{All}
-use Rattle.interval.specs.Limits.{bound_limit, box_limit}
 use Rattle.interval.specs.Boxes.{IsProper}
 use Rattle.guarded_tell.specs.declared.kernel.Kernel.{Kernel}
 use Rattle.guarded_tell.specs.Kernels.{IsClosedUnder}

@@ -1,6 +1,5 @@
 -- Where the other terms are fixed the numbers of one product are dropped, else none.
-use Rattle.std.proofs.Common.{◌≡◌, List, ℤ, true, false, ◌-ℤ◌, ◌∙◌, map, sym, refl, ap, subst, w64, to_z, of_z}
-use mir.Syntax.{w128}
+use Rattle.std.proofs.Common.{◌≡◌, List, ℤ, true, false, ◌-ℤ◌, ◌∙◌, map, sym, refl, ap, subst}
 use Rattle.std.specs.List.{filter}
 use Rattle.guarded_tell.specs.Linear.{Term, least_of, greatest_of}
 use Rattle.guarded_tell.specs.Equality.{is_same, is_product}

@@ -1,5 +1,5 @@
 -- Where the literal is out the drops are those of the terms, else there are none.
-use Rattle.std.proofs.Common.{◌≡◌, true, false, List, ℤ, ◌∙◌, suc, map, sym, refl, subst, arith, w64, to_z, of_z}
+use Rattle.std.proofs.Common.{◌≡◌, true, false, List, ◌∙◌, suc, sym, refl, subst, arith, w64}
 use Rattle.std.proofs.lemmas.Int.{to_z-of_z}
 use Rattle.std.specs.List.{zip, flat_map}
 use Rattle.guarded_tell.specs.Words.{is_out}

@@ -1,12 +1,12 @@
 -- A removal is of one of the kernel's variables, and drops numbers that this one has.
-use Rattle.std.proofs.Common.{◌≡◌, ◌<◌, ℕ, ℤ, ◌≤ℤ◌, List, length, slice_index_or, subst, ◌∙◌, arith}
+use Rattle.std.proofs.Common.{◌≡◌, ◌<◌, ℕ, ℤ, ◌≤ℤ◌, length, slice_index_or, subst, ◌∙◌, arith}
 use Rattle.std.specs.Prelude.{slice_index}
 use Rattle.std.proofs.lemmas.Int.{ints}
 use Rattle.std.proofs.lemmas.List.{get_or_default}
 use Rattle.std.specs.List.{Contains}
 use Rattle.interval.specs.Limits.{IsBound, bound_limit}
 use Rattle.guarded_tell.specs.Kernels.{vars_of}
-use Rattle.bit_domain.specs.Mixes.{dom_of, hull, Has, IsBits, IsDomInRange}
+use Rattle.bit_domain.specs.Mixes.{dom_of, hull, Has, IsBits}
 use Rattle.domain_drops.specs.Hearing.{Drop}
 use Rattle.domain_drops.specs.Removals.{removals}
 use Rattle.domain_drops.specs.Drops.{drops}

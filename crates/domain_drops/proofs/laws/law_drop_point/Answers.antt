@@ -3,10 +3,10 @@ use Rattle.std.proofs.Common.{◌≡◌, ◌<◌, ℕ, ℤ, ◌≤ℤ◌, false,
 use Rattle.std.specs.Prelude.{slice_index}
 use Rattle.std.proofs.lemmas.Int.{ints}
 use Rattle.std.proofs.lemmas.List.{get_or_default}
-use Rattle.interval.specs.Boxes.{low_of, high_of, IsPoint}
+use Rattle.interval.specs.Boxes.{low_of, IsPoint}
 use Rattle.guarded_tell.specs.declared.kernel.Kernel.{Kernel}
 use Rattle.guarded_tell.specs.Words.{AreVariables, point_of}
-use Rattle.guarded_tell.specs.Kernels.{vars_of, Holds, IsKernel, HasNumbers}
+use Rattle.guarded_tell.specs.Kernels.{vars_of, Holds, IsKernel}
 use Rattle.bit_domain.specs.Mixes.{Mix, dom_of, hull, IsMixInRange}
 use Rattle.domain_drops.specs.Removals.{removals}
 use Rattle.domain_drops.specs.Drops.{drops}

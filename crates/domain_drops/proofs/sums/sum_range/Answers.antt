@@ -1,5 +1,5 @@
 -- One more term moves from what is left into the sums.
-use Rattle.std.proofs.Common.{◌∙◌, ◌<◌, ◌≤◌, ap, ℤ, pos, length, get_or, arith}
+use Rattle.std.proofs.Common.{◌∙◌, ◌<◌, ◌≤◌, length, arith}
 use Rattle.std.proofs.lemmas.Int.{ints}
 use Rattle.bit_domain.specs.Mixes.{hull}
 use Rattle.guarded_tell.specs.Linear.{least_of, greatest_of}

@@ -1,5 +1,5 @@
 -- The least number that is left is dropped where it passes, and the others are left.
-use Rattle.std.proofs.Common.{ℤ, pos, ◌+ℤ◌, subst, sym, refl, w64, to_z, of_z}
+use Rattle.std.proofs.Common.{ℤ, pos, ◌+ℤ◌, subst, sym, w64, to_z, of_z}
 use Rattle.domain_drops.specs.Hearing.{MayHearDrops, HearsDrops, drop_when}
 use Rattle.domain_drops.proofs.HearingLaws.{leads_may, leads_next, leads_end}
 use Rattle.domain_drops.proofs.WalkLaws.{bounds_below, coded_base, coded_member, member_fits, dropped_of, dropped_step, dropped_none}

@@ -1,6 +1,6 @@
 use Rattle.std.proofs.Common.{◌≡◌, length}
 use Rattle.rounds.specs.Lanes.{AreLanes}
-use Rattle.rounds.proofs.lanes.make_lanes.Given as goal
+use Rattle.rounds.proofs.cache.make_lanes.Given as goal
 
 abbrev pub invariant-loop-i : goal.invariant-loop-i
 invariant-loop-i l = record {

@@ -1,5 +1,5 @@
 -- The ends of a domain's numbers.
-use Rattle.std.proofs.Common.{ℕ, ◌≡◌, ◌≢◌, ◌+◌, ◌-◌, ◌^◌, ◌<◌, ◌≤◌, Bool, true, false, ◌&&◌, List, [], ◌∷◌, length, map, ℤ, pos, ◌+ℤ◌, ◌-ℤ◌, ◌≤ℤ◌, refl, sym, ap, ◌∙◌, subst, arith, w64, to_z, of_z}
+use Rattle.std.proofs.Common.{ℕ, ◌≡◌, ◌≢◌, ◌+◌, ◌-◌, ◌^◌, ◌<◌, ◌≤◌, Bool, true, false, ◌&&◌, List, [], ◌∷◌, length, map, ℤ, pos, ◌+ℤ◌, ◌-ℤ◌, ◌≤ℤ◌, refl, sym, ap, ◌∙◌, subst, arith, w64, to_z, of_z, bit_and}
 use Rattle.std.specs.Prelude.{◌↔◌, unsigned_abs, if◌then◌else◌}
 use Rattle.std.specs.Int.RustNames.{int_le}
 use Rattle.std.specs.Int.{bit_at}
@@ -8,15 +8,19 @@ use Rattle.std.proofs.Math.Pow.{pow_mono}
 use Rattle.std.proofs.lemmas.Int.{ints, by_lt_z}
 use Rattle.std.proofs.lemmas.Bool.{and_parts, and_from}
 use Rattle.std.proofs.lemmas.List.{get_or-map, length-map}
-use Rattle.std.proofs.lemmas.Nat.Bits.{bit_at-zero, bit_at_ones, bit_at_ones_above}
-use Rattle.bit_domain.specs.Bits.{IsLeast, IsGreatest}
+use Rattle.std.proofs.lemmas.Nat.{and_le_r}
+use Rattle.std.proofs.lemmas.Nat.Bits.{bit_at-zero, bit_at_ones, bit_at_ones_above, bit_at_above, bit_at_and, bit_at-lt, same_from_bits}
+use Rattle.std.specs.List.{Contains}
+use mathlib.Core.Logic.{dite}
+use native.Mathlib.Decide.{ℕ_discrete}
+use Rattle.bit_domain.specs.Bits.{IsLeast, IsGreatest, IsSubset}
 use Rattle.interval.specs.Limits.{IsBound, largest_number, bound_limit, box_limit}
 use Rattle.interval.specs.Boxes.{Bounds, low_of, high_of, IsInRange}
 use Rattle.bit_domain.specs.declared.dom.Dom.{Dom}
 use Rattle.bit_domain.specs.declared.dom.Dom.TheVariants.{Bits, Pair}
-use Rattle.bit_domain.specs.Mixes.{Has, values_from, last_of, ends_of, dom_between, hull_of, mix_of, IsDomInRange, IsMixInRange}
+use Rattle.bit_domain.specs.Mixes.{Has, IsBits, IsInsideDom, values_of, values_from, last_of, ends_of, dom_between, hull_of, mix_of, IsDomInRange, IsMixInRange}
 use Rattle.bit_domain.proofs.BitLaws.{least_is, greatest_is}
-use Rattle.bit_domain.proofs.MemberLaws.{by_bool, members_none, members_some, members_last}
+use Rattle.bit_domain.proofs.MemberLaws.{by_bool, members_none, members_some, members_last, members_has, has_members}
 
 ends_last : (z : ℤ) (zs : List ℤ) → 0 < length zs → (ends_of zs).1 ≡ last_of z zs
 unfolding ends_of last_of
@@ -225,3 +229,70 @@ within_hull (Pair low high) z range h = h
 pub has_hull : (d : Dom) → IsDomInRange d → (hull_of d).0 ≤ℤ (hull_of d).1 → Has d (hull_of d).0 × Has d (hull_of d).1
 has_hull (Bits base set) range proper = has_ends base set range.1 proper
 has_hull (Pair low high) range proper = ((omega (arith, ints), proper), (proper, omega (arith, ints)))
+
+-- ---- the listed numbers, and domains inside each other
+
+small_place : (set i : ℕ) → set < 2 ^ 64 → bit_at set i ≡ 1 → i < 64
+small_place set i short inside = by_lt_z (pos i) (pos 64)
+    (λ less. omega (arith, ints))
+    (λ le. let none = bit_at_above set 64 i short (omega (arith, ints)) in absurd (omega arith))
+
+pub values_has : (d : Dom) (z : ℤ) → IsDomInRange d → Contains (values_of d) z ↔ (IsBits d × Has d z)
+values_has (Bits base set) z range = (
+  (λ h. (tt, members_has (λ i. base +ℤ pos i) set z h)),
+  (λ h.
+      let i = h.1.0 in
+      subst (Contains (values_from base set)) (sym h.1.2) (has_members (λ j. base +ℤ pos j) set i (small_place set i range.1 h.1.1) h.1.1)),
+)
+values_has (Pair low high) z range = ((λ h. absurd (let l = h.1 in omega arith)), (λ h. absurd h.0))
+
+ends_in_range : IsBound (pos 1) × IsBound (pos 0)
+unfolding bound_limit largest_number
+ends_in_range = (omega arith, omega arith)
+
+pub hull_in_range : (d : Dom) → IsDomInRange d → IsBound (hull_of d).0 × IsBound (hull_of d).1
+hull_in_range (Bits base set) range = dite (ℕ_discrete set 0)
+    (λ (e : set ≡ 0). subst (λ (p : ℤ × ℤ). IsBound p.0 × IsBound p.1) (sym (no_ends base set e)) ends_in_range)
+    (λ (some : set ≢ 0).
+    let least = least_is set some range.1 in
+    let greatest = greatest_is set some range.1 in (
+      subst IsBound (sym (least_end base set _ least)) (range.2 _ least.inside),
+      subst IsBound (sym (greatest_end base set _ some range.1 greatest)) (range.2 _ greatest.inside),
+    ))
+hull_in_range (Pair low high) range = range
+
+same_place : (base : ℤ) (i j : ℕ) → base +ℤ pos i ≡ base +ℤ pos j → i ≡ j
+same_place base i j e = omega (arith, ints)
+
+pub subset_from_numbers : (base : ℤ) (inner outer : ℕ) → ((z : ℤ) → Has (Bits base inner) z → Has (Bits base outer) z) → IsSubset inner outer
+subset_from_numbers base inner outer h i =
+    let small = bit_at-lt inner i in
+    dite (ℕ_discrete (bit_at inner i) 1)
+    (λ (e : bit_at inner i ≡ 1).
+    let other = h (base +ℤ pos i) (i, e, refl) in
+    let at : i ≡ other.0 = same_place base i other.0 other.2 in
+    let one : bit_at outer i ≡ 1 = subst (λ (j : ℕ). bit_at outer j ≡ 1) (sym at) other.1 in
+    omega arith)
+    (λ (ne : bit_at inner i ≢ 1). omega arith)
+
+subset_le : (inner outer : ℕ) → IsSubset inner outer → inner ≤ outer
+subset_le inner outer subset =
+    let same : inner ≡ bit_and inner outer = same_from_bits inner (bit_and inner outer) (λ i. let le = subset i in let both = bit_at_and inner outer i in omega arith) in
+    let le = and_le_r inner outer in
+    omega arith
+
+one_above : (inner outer i : ℕ) → IsSubset inner outer → bit_at inner i ≡ 1 → bit_at outer i ≡ 1
+one_above inner outer i subset inside = let le = subset i in let small = bit_at-lt outer i in omega arith
+
+bound_between : (a b c d : ℤ) → IsBound c → IsBound d → c ≤ℤ a → a ≤ℤ b → b ≤ℤ d → IsBound a × IsBound b
+unfolding bound_limit largest_number
+bound_between a b c d f g p q r = (omega (arith, ints), omega (arith, ints))
+
+pub inside_in_range : (inner outer : Dom) → IsDomInRange outer → IsInsideDom inner outer → (hull_of inner).0 ≤ℤ (hull_of inner).1 → IsDomInRange inner
+inside_in_range (Bits b s) (Bits c t) range inside proper =
+    let same : b ≡ c = inside.0 in
+    let short : s < 2 ^ 64 = (let le = subset_le s t inside.1 in let far = range.1 in omega arith) in
+    (subst IsBound (sym same) range.0, short, λ i one. subst (λ (z : ℤ). IsBound (z +ℤ pos i)) (sym same) (range.2 i (one_above s t i inside.1 one)))
+inside_in_range (Bits b s) (Pair c d) range inside proper = absurd inside
+inside_in_range (Pair a b) (Bits c t) range inside proper = absurd inside
+inside_in_range (Pair a b) (Pair c d) range inside proper = bound_between a b c d range.0 range.1 inside.0 proper inside.1

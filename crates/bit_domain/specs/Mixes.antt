@@ -1,6 +1,6 @@
 -- Mixes: for each variable a domain, of at most 64 numbers as the bits of a word, or of all numbers from a low to a high.
 -- (Finite domains as bit sets, beside intervals.)
-use Rattle.std.specs.Prelude.{◌≡◌, ℕ, ℤ, pos, ◌+◌, ◌-◌, ◌^◌, ◌+ℤ◌, ◌-ℤ◌, ◌≤◌, ◌<◌, ◌≤ℤ◌, ◌&&◌, List, [], ◌∷◌, length, map, int_le, slice_index_or, unsigned_abs, if◌then◌else◌}
+use Rattle.std.specs.Prelude.{◌≡◌, ℕ, ℤ, pos, ◌+◌, ◌-◌, ◌^◌, ◌+ℤ◌, ◌-ℤ◌, ◌≤◌, ◌<◌, ◌≤ℤ◌, ◌&&◌, ⊤, List, [], ◌∷◌, length, map, int_le, slice_index_or, unsigned_abs, if◌then◌else◌}
 use Rattle.std.specs.Int.{bit_at}
 use Rattle.interval.specs.Limits.{IsBound, box_limit}
 use Rattle.interval.specs.Boxes.{Bounds}
@@ -14,6 +14,11 @@ use Rattle.bit_domain.specs.declared.dom.Dom.TheVariants.{Bits, Pair}
 abbrev pub Has : Dom → ℤ → Type 0
 Has (Bits base set) z = (i : ℕ) × (bit_at set i ≡ 1) × (z ≡ base +ℤ pos i)
 Has (Pair low high) z = (low ≤ℤ z) × (z ≤ℤ high)
+
+-- the domain is kept as bits
+abbrev pub IsBits : Dom → Type 0
+IsBits (Bits base set) = ⊤
+IsBits (Pair low high) = ⊥
 
 -- the numbers of a set of bits, rising
 abbrev pub values_from : ℤ → ℕ → List ℤ

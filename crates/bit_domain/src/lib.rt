@@ -7,6 +7,7 @@ mod ends;
 mod laws;
 mod mix;
 
+pub use bits::part_least;
 pub use dom::Dom;
-pub use laws::{law_between, law_hull};
+pub use laws::{law_between, law_hull, law_inside, law_members, law_values};
 pub use mix::MixOf;

@@ -4,10 +4,7 @@ use Rattle.std.specs.Int.{int_max, int_min}
 use Rattle.bit_domain.specs.declared.dom.Dom.{Dom}
 use Rattle.bit_domain.specs.declared.dom.Dom.TheVariants.{Bits, Pair}
 use Rattle.bit_domain.specs.Mixes.{Mix, dom_of}
-
-abbrev pub IsBits : Dom → Type 0
-IsBits (Bits base set) = ⊤
-IsBits (Pair low high) = ⊥
+pub use Rattle.bit_domain.specs.Mixes.{IsBits}
 
 abbrev pub IsPair : Dom → Type 0
 IsPair (Bits base set) = ⊥

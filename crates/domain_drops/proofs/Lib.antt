@@ -1,0 +1,15 @@
+mod HearingLaws
+mod WalkLaws
+mod ProductLaws
+mod TermLaws
+mod EquationCode
+mod PlaceLaws
+mod HullLaws
+mod MixOrder
+mod Removing
+mod SumLaws
+mod FollowLaws
+mod NamedLaws
+mod LocalLaws
+mod WeightLaws
+mod PointLaws

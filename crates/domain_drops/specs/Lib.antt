@@ -1,0 +1,4 @@
+pub mod Hearing
+pub mod Removals
+pub mod Drops
+pub mod Closed

@@ -1,0 +1,19 @@
+//! The numbers that kernels drop from the small domains of their variables, and what a mix is that none drops from.
+#![tactic(auto)]
+
+mod equation;
+mod hear;
+mod laws;
+mod literals;
+mod membership;
+mod place;
+mod sums;
+mod visit;
+mod walk;
+
+pub use hear::HearDrop;
+pub use laws::{
+    law_drop, law_drop_local, law_drop_place, law_drop_point, law_hull_inside,
+    law_inside_mix_order, law_weight,
+};
+pub use visit::visit_drops;

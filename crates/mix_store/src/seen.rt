@@ -3,7 +3,7 @@
 ghost use Rattle.std.specs.Prelude.{◌≡◌, ◌<◌, length};
 ghost use Rattle.interval.specs.Limits.{IsBound};
 ghost use Rattle.bit_domain.specs.Bits.{IsSubset};
-ghost use Rattle.bit_domain.specs.Mixes.{dom_of};
+ghost use Rattle.bit_domain.specs.Mixes.{dom_of, IsDomInRange};
 ghost use Rattle.mix_store.specs.Domains.{IsBitsAt, IsPairAt, set_of, low_of, high_of, set_put, low_put, high_put, tighter_of, AreAlike};
 ghost use Rattle.mix_store.specs.Seats.{seen_of};
 
@@ -14,7 +14,8 @@ impl MixSeat {
     /// The domain of variable `v` as the seat has seen it. It looks at no shared word.
     pub fn seen_dom(&self, v: u32) -> Dom
         requires { v < length (seen_of self.now) }
-        ensures { result ≡ dom_of (seen_of self.now) v }
+        ensures value { result ≡ dom_of (seen_of self.now) v }
+        ensures in_range { IsDomInRange result }
     {
         self.seen.dom(v)
     }

@@ -9,7 +9,7 @@ use Rattle.guarded_tell.specs.Words.{IsProperIn}
 use Rattle.guarded_tell.specs.Kernels.{vars_of, IsKernel, IsClosedUnder}
 use Rattle.fixpoint_laws.specs.Fixpoints.{IsClosed, IsGreatest, Fails}
 use Rattle.fixpoint_laws.specs.OneRound.{IsOneRound, LeadsIn, RoundsLead}
-use Rattle.rounds.specs.Shares.{IsQuiet, WasHeard}
+use Rattle.rounds.specs.Shares.{IsQuiet}
 use Rattle.rounds.specs.Ends.{IsRound, HasFixed, HasFailed, HasSpent, IsWithin}
 use Rattle.rounds.proofs.BoxLaws.{inside_itself, inside_through, inside_both}
 use Rattle.rounds.proofs.Quietness.{quiet_of}

@@ -3,9 +3,8 @@ pub mod Stepping
 pub mod Snapshots
 pub mod TellingAll
 pub mod Quietness
-pub mod Keeping
-pub mod Returning
 pub mod Rounding
+pub mod Taking
 pub mod Widths
 pub mod Ending
 pub mod Dealing

@@ -1,12 +1,12 @@
 -- Kernels that were heard, and kernels that have nothing to tell.
-use Rattle.std.proofs.Common.{◌≡◌, ℕ, ◌+◌, ◌<◌, ◌≤◌, ◌≤ℤ◌, List, length, get_or, refl, sym, subst, ◌∙◌, arith}
+use Rattle.std.proofs.Common.{◌≡◌, ℕ, ◌+◌, ◌<◌, ◌≤◌, List, length, get_or, sym, subst, ◌∙◌, arith}
 use Rattle.std.specs.Prelude.{Option, None, Some, IfSome, slice_index_or}
 use Rattle.std.specs.List.{All, Contains}
 use Rattle.std.proofs.lemmas.Int.{ints}
 use Rattle.std.proofs.lemmas.List.{get_or_default}
 use borrow.Author.Count.{below_more}
 use Rattle.interval.specs.Limits.{IsBound}
-use Rattle.interval.specs.Boxes.{Bounds, low_of, high_of, IsInRange, IsInside}
+use Rattle.interval.specs.Boxes.{Bounds, IsInRange, IsInside}
 use Rattle.guarded_tell.specs.declared.kernel.Kernel.{Kernel}
 use Rattle.guarded_tell.specs.Words.{Tell}
 use Rattle.guarded_tell.specs.Words.{Keeps, IsProperIn, IsInsideIn, AgreeIn}

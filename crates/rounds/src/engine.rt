@@ -8,13 +8,14 @@ ghost use Rattle.lattice_store.specs.Seats.{seen_of, floor_of, seat_epoch, IsFir
 ghost use Rattle.rounds.specs.Lanes.{AreLanes};
 ghost use Rattle.rounds.specs.Flat.{IsFlat};
 
-use crate::lanes::{Lane, make_lanes, reset_turns};
+use crate::cache::{Cache, make_lanes, reset_turns};
 use crate::settling::{copy_seen, settle_first};
 use crate::work::Work;
 use fixpoint_laws::{Limited, law_greatest_is_computed};
 use gate::Gate;
 use guarded_tell::Kernel;
 use interval::{BoxOf, NoMemory, is_crossed, law_inside_order};
+use lanes::Lane;
 use lattice_store::{Full, Seat, Store};
 use std::alloc::{AllocError, Global};
 use std::thread::Threads;
@@ -80,7 +81,7 @@ fn make_for(alloc: Global, start: &BoxOf, _kernels: &[Kernel]) -> Result<(Store,
 pub struct Engine {
     store: Store,
     first: Seat,
-    lanes: Vec<Lane>,
+    lanes: Vec<Lane<Seat, Cache>>,
     ghost of_store: { IsSeatOf store first },
     ghost is_first: { IsFirst first },
     ghost snapshots: { AreLanes (length (seen_of first)) lanes.items },

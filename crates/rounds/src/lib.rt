@@ -3,19 +3,20 @@
 //! a round in which no lane saw a bound move, or in which some variable has no number left.
 #![tactic(auto)]
 
+mod cache;
 mod cuts;
+mod dealt;
 mod engine;
-mod lanes;
 mod once;
 mod settling;
 mod share;
 mod work;
 
+pub use cache::Cache;
 pub use cuts::even_cut;
 pub use engine::Engine;
 pub use fixpoint_laws::Limited;
 pub use gate::{Gate, NoGate};
-pub use lanes::Cache;
 pub use once::{Propagated, propagate};
 pub use share::run_share;
 pub use work::Work;

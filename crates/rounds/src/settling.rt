@@ -1,28 +1,35 @@
 //! Rounds, until one moves nothing.
 
-ghost use Rattle.std.specs.Prelude.{◌≡◌, ◌≢◌, ◌<◌, ◌≤◌, length, IfOk, IsOk, IfSome, IsTrue, IsFalse, ◌↔◌};
+ghost use Rattle.std.specs.Prelude.{◌≡◌, ◌≢◌, ◌<◌, ◌≤◌, false, length, IfOk, OnErr, IsOk, IfSome, IsTrue, IsFalse, ◌↔◌};
 ghost use Rattle.std.specs.List.{All};
 ghost use Rattle.interval.specs.Boxes.{IsCrossed, IsProper, IsInRange};
 ghost use Rattle.guarded_tell.specs.Kernels.{IsKernel, IsClosedUnder};
 ghost use Rattle.fixpoint_laws.specs.Greatest.{greatest_of};
 ghost use Rattle.lattice_store.specs.Seats.{seen_of, floor_of, IsFirst, IsSeatOf, IsSameSeat};
 ghost use Rattle.rounds.specs.Shares.{IsCut};
-ghost use Rattle.rounds.specs.Lanes.{AreLanes};
+ghost use Rattle.lattice_store.specs.declared.seat.Seat.{Seat};
+ghost use Rattle.rounds.specs.Lanes.{AreLanes, IsGiven, HasRun, AreTaken};
 ghost use Rattle.rounds.specs.Ends.{IsRound, HasEnded};
 
-use crate::lanes::{Lane, run_lanes, seat_lanes, unseat_lanes};
+use crate::cache::Cache;
+use crate::dealt::Dealt;
 use crate::share::run_share;
 use crate::work::Work;
 use fixpoint_laws::{Limited, law_greatest_is_computed, law_rounds_lead};
 use gate::Gate;
-use guarded_tell::law_tell_place;
 use interval::{BoxOf, NoMemory, law_inside_order};
+use lanes::{Lane, run_lanes};
 use lattice_store::{Seat, Store};
 use std::alloc::Global;
 use std::thread::Threads;
 
 /// A round of the one lane of a cut of one share. The first seat runs it.
-fn run_alone<G: Gate>(store: &Store, work: &Work<'_, G>, first: &mut Seat, lane: &mut Lane) -> bool
+fn run_alone<G: Gate>(
+    store: &Store,
+    work: &Work<'_, G>,
+    first: &mut Seat,
+    lane: &mut Lane<Seat, Cache>,
+) -> bool
     requires store { IsSeatOf store.now first.old }
     requires first { IsFirst first.old }
     requires kernels { All (IsKernel (length (seen_of first.old))) work.now.kernels.now }
@@ -46,6 +53,45 @@ fn run_alone<G: Gate>(store: &Store, work: &Work<'_, G>, first: &mut Seat, lane:
     moved
 }
 
+/// Runs the share of a lane.
+fn run_one<G: Gate>(
+    dealt: &Dealt<'_>,
+    gate: &G,
+    seat: &mut Seat,
+    cache: &mut Cache,
+    i: usize,
+) -> bool
+    requires index { i < length dealt.now.cut.now }
+    requires lane { (first : Seat) × IsGiven dealt.now first seat.old × (length cache.old.snapshot ≡ length (seen_of first)) }
+    ensures { (first : Seat) → IsGiven dealt.now first seat.old → length cache.old.snapshot ≡ length (seen_of first) → HasRun dealt.now first i seat.new result × (length cache.new.snapshot ≡ length (seen_of first)) }
+{
+    run_share(dealt.store, seat, cache, dealt.kernels, &dealt.cut[i], gate)
+}
+
+/// Has each lane run its share in a thread.
+fn run_dealt<R: Threads + Sync, G: Gate + Sync>(
+    rt: &R,
+    alloc: Global,
+    dealt: &Dealt<'_>,
+    gate: &G,
+    first: &mut Seat,
+    lanes: &mut [Lane<Seat, Cache>],
+) -> Result<bool, NoMemory>
+    requires some { 0 < length lanes.old }
+    requires count { length dealt.now.cut.now ≡ length lanes.old }
+    requires begins { AreTaken dealt.now first.old 0 first.old false }
+    requires snapshots { AreLanes (length (seen_of first.old)) lanes.old }
+    ensures snapshots { AreLanes (length (seen_of first.old)) lanes.new }
+    ensures taken { IfOk result (AreTaken dealt.now first.old (length lanes.old) first.new) }
+    ensures refused { OnErr result (AreTaken dealt.now first.old 0 first.new false) }
+{
+    let run = |seat: &mut Seat, cache: &mut Cache, i: usize| -> bool
+        requires { (i < length dealt.now.cut.now) × ((first : Seat) × IsGiven dealt.now first seat.now × (length cache.now.snapshot ≡ length (seen_of first))) }
+        ensures { (first : Seat) → IsGiven dealt.entry.now first seat.entry.now → length cache.entry.now.snapshot ≡ length (seen_of first) → HasRun dealt.entry.now first i seat.exit.now result × (length cache.exit.now.snapshot ≡ length (seen_of first)) }
+    { run_one(dealt, gate, seat, cache, i) };
+    run_lanes(rt, alloc, dealt, &run, first, lanes)
+}
+
 /// A round of all lanes, each in a thread.
 fn run_together<R: Threads + Sync, G: Gate + Sync>(
     rt: &R,
@@ -53,7 +99,7 @@ fn run_together<R: Threads + Sync, G: Gate + Sync>(
     store: &Store,
     work: &Work<'_, G>,
     first: &mut Seat,
-    lanes: &mut [Lane],
+    lanes: &mut [Lane<Seat, Cache>],
 ) -> Result<bool, NoMemory>
     requires store { IsSeatOf store.now first.old }
     requires first { IsFirst first.old }
@@ -67,10 +113,12 @@ fn run_together<R: Threads + Sync, G: Gate + Sync>(
     ensures snapshots { AreLanes (length (seen_of first.old)) lanes.new }
     ensures round { IfOk result (λ m. IsRound work.now.kernels.now (seen_of first.old) (seen_of first.new) m) }
 {
-    law_tell_place();
-    seat_lanes(alloc, store, first, lanes)?;
-    run_lanes(rt, store, work.kernels, work.cut, work.gate, lanes);
-    Ok(unseat_lanes(store, first, lanes))
+    let dealt = Dealt {
+        store,
+        kernels: work.kernels,
+        cut: work.cut,
+    };
+    run_dealt(rt, alloc, &dealt, work.gate, first, lanes)
 }
 
 /// One round: each lane starts with all that all lanes had seen, and runs its share once. Says whether some lane saw a
@@ -81,7 +129,7 @@ fn run_round<R: Threads + Sync, G: Gate + Sync>(
     store: &Store,
     work: &Work<'_, G>,
     first: &mut Seat,
-    lanes: &mut [Lane],
+    lanes: &mut [Lane<Seat, Cache>],
 ) -> Result<bool, NoMemory>
     requires store { IsSeatOf store.now first.old }
     requires first { IsFirst first.old }
@@ -142,7 +190,7 @@ fn settle<R: Threads + Sync, G: Gate + Sync>(
     store: &Store,
     work: &Work<'_, G>,
     first: &mut Seat,
-    lanes: &mut [Lane],
+    lanes: &mut [Lane<Seat, Cache>],
 ) -> Result<Limited, NoMemory>
     requires store { IsSeatOf store.now first.old }
     requires first { IsFirst first.old }
@@ -187,7 +235,7 @@ pub(crate) fn settle_first<R: Threads + Sync, G: Gate + Sync>(
     store: &Store,
     work: &Work<'_, G>,
     first: &mut Seat,
-    lanes: &mut Vec<Lane>,
+    lanes: &mut Vec<Lane<Seat, Cache>>,
 ) -> Result<Limited, NoMemory>
     requires store { IsSeatOf store.now first.old }
     requires first { IsFirst first.old }

@@ -12,7 +12,7 @@ ghost use Rattle.lattice_store.specs.Seats.{seen_of, floor_of, IsPast, IsSeatOf,
 ghost use Rattle.rounds.specs.Shares.{IsShare, AllNamed, IsQuiet, WasHeard};
 ghost use Rattle.rounds.specs.Steps.{Stepped, IsSnapshot, MayTell, HasTold};
 
-use crate::lanes::Cache;
+use crate::cache::Cache;
 use gate::Gate;
 use guarded_tell::{
     Hear, Kernel, Side, Tell, law_local, law_monotone, law_tell_place, visit_tells,

@@ -1,0 +1,11 @@
+mod MixLaws
+mod MaskLaws
+mod Holding
+mod Stepping
+mod Snapshots
+mod TellingAll
+mod Hearing
+mod Naming
+mod Taking
+mod Existence
+mod Ending

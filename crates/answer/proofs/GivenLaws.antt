@@ -117,6 +117,12 @@ there_first a xs = (0, omega arith, refl)
 same_mark : (spent other : Bool) (given others : List Assignment) (whole mark : Mark) → spent ≡ other → given ≡ others → mark ≡ mark_for spent given whole → mark ≡ mark_for other others whole
 same_mark spent other given others whole mark e f h = h ∙ ap (λ (b : Bool). mark_for b given whole) e ∙ ap (λ (xs : List Assignment). mark_for other xs whole) f
 
+-- where there is an objective, a solution of least cost is asked for
+pub optimal_given : (model : FznModel) (answer : Answer) (g : Goal) (all : Bool) → g ≢ Goal.Satisfy → IsOptimal model answer → Gives g all model answer
+optimal_given model answer Goal.Satisfy all o h = absurd (o refl)
+optimal_given model answer (Goal.Minimize t) all o h = h
+optimal_given model answer (Goal.Maximize t) all o h = h
+
 module _ (order : InsideOrder) (one : OneList) (every : EveryList) (laws : PathLaws) (cuts : CutLaws) (are : SolutionsAreListed) (declared : InDeclarationOrder) (records : RecordsSolutions)
     (model : FznModel) (rule : IsSearchOf model) (goal : IsGoalOf model.vars model.goal) (f : IsProgramOf model (program_of model)) (options : Options) (answer : Answer) where
   abbrev start : Bounds
@@ -210,11 +216,6 @@ module _ (order : InsideOrder) (one : OneList) (every : EveryList) (laws : PathL
     collected_given (Goal.Minimize t) all o h = h
     collected_given (Goal.Maximize t) all o h = h
 
-    optimal_given : (g : Goal) (all : Bool) → g ≢ Goal.Satisfy → IsOptimal model answer → Gives g all model answer
-    optimal_given Goal.Satisfy all o h = absurd (o refl)
-    optimal_given (Goal.Minimize t) all o h = h
-    optimal_given (Goal.Maximize t) all o h = h
-
     least_unspent : (g : Goal) (all : Bool) → g ≢ Goal.Satisfy → IsUnspentLeast model options → IsUnspentFor g all model options
     least_unspent Goal.Satisfy all o h = absurd (o refl)
     least_unspent (Goal.Minimize t) all o h = h
@@ -303,7 +304,7 @@ module _ (order : InsideOrder) (one : OneList) (every : EveryList) (laws : PathL
       second_unspent unspent m =
           let list = every model (kernels_of model) cut rule cut_can.long cut_can.in_range cut_can.fit in
           let done : IsFinished model options.all answer =
-          inr (optimal_given model.goal options.all objective (optimum list.0 list.1 (first_of_all one laws model options cut results list.0 cut_can h unspent list.1) m)) in
+          inr (optimal_given model answer model.goal options.all objective (optimum list.0 list.1 (first_of_all one laws model options cut results list.0 cut_can h unspent list.1) m)) in
           let searched : IsUnspentLeast model options = record {
             results = finds.results;
             are = finds.are;

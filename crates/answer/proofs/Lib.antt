@@ -13,6 +13,7 @@ pub mod BestLaws
 pub mod JobLaws
 pub mod LeastJobLaws
 pub mod GivenLaws
+pub mod SettledLaws
 pub mod NumberLaws
 pub mod AnswerLaws
 pub mod FrontLaws

@@ -13,3 +13,4 @@ pub mod Runs
 pub mod Jobs
 pub mod Fronts
 pub mod Laws
+pub mod Settled

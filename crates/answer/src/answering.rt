@@ -10,14 +10,17 @@ ghost use Rattle.answer.specs.Results.{listed};
 ghost use Rattle.answer.specs.Finished.{IsFinished};
 ghost use Rattle.answer.specs.Answers.{HasLimit, IsAnswer};
 ghost use Rattle.answer.specs.Given.{mark_for, IsSetUp, IsBestKnown, IsGiven};
+ghost use Rattle.answer.specs.Settled.{IsSettled};
 
 use crate::all_job::all_ends;
 use crate::collecting::{all_of, first_of, is_any_spent, list_of_one};
 use crate::first_job::first_ends;
+use crate::laws::law_best_is_first;
 use crate::least_job::least_ends;
 use crate::objective::{best_of, cut_to_value};
 use crate::options::Options;
 use crate::plan::Plan;
+use crate::settled::is_settled;
 use branching::{law_every_list, law_one_list};
 use constraint_model::{FznModel, Goal};
 use crew::{Gate as CrewGate, Workers};
@@ -175,6 +178,54 @@ fn optimum<R: Threads + Sync, C: CrewGate + Sync, L: Gate + Sync>(
     Ok(Answer { solutions, mark })
 }
 
+/// The best solution, where it is known to be the first of those that cost as much.
+fn settled_answer<L>(
+    alloc: Global,
+    run: &Run<'_, L>,
+    options: Options,
+    best: ListOf<i64>,
+) -> Result<Answer, NoMemory>
+    requires set_up { IsSetUp run.now options }
+    requires objective { run.now.model.now.goal ≢ Satisfy }
+    requires best { IsBestKnown run.now.model.now options best }
+    requires settled { IsSettled run.now.model.now options }
+    ensures { IfOk result (IsGiven run.now.model.now options) }
+{
+    law_inside_order();
+    law_every_list();
+    law_solutions_listed();
+    law_in_declaration_order();
+    law_best_is_first();
+    let solutions = list_of_one(alloc, Some(best))?;
+    Ok(Answer {
+        solutions,
+        mark: Mark::Complete,
+    })
+}
+
+/// The first of the solutions that cost as much as the best one: the best one itself where that is known, else it is
+/// searched for.
+fn first_least<R: Threads + Sync, C: CrewGate + Sync, L: Gate + Sync>(
+    rt: &R,
+    alloc: Global,
+    run: &Run<'_, L>,
+    options: Options,
+    crew: &mut Workers,
+    gate: &C,
+    best: ListOf<i64>,
+) -> Result<Answer, NoMemory>
+    requires set_up { IsSetUp run.now options }
+    requires crew { IsCrewFor options crew.old }
+    requires objective { run.now.model.now.goal ≢ Satisfy }
+    requires best { IsBestKnown run.now.model.now options best }
+    ensures { IfOk result (IsGiven run.now.model.now options) }
+{
+    if is_settled(run.model, options) {
+        return settled_answer(alloc, run, options, best);
+    }
+    optimum(rt, alloc, run, options, crew, gate, best)
+}
+
 /// A solution of least cost.
 fn least_answer<R: Threads + Sync, C: CrewGate + Sync, L: Gate + Sync>(
     rt: &R,
@@ -215,7 +266,7 @@ fn least_answer<R: Threads + Sync, C: CrewGate + Sync, L: Gate + Sync>(
             solutions: ListOf::new(alloc),
             mark: Mark::Unsatisfiable,
         }),
-        Some(values) => optimum(rt, alloc, run, options, crew, gate, values),
+        Some(values) => first_least(rt, alloc, run, options, crew, gate, values),
     }
 }
 

@@ -1,12 +1,13 @@
 //! Laws of answers, as functions that do nothing.
 
 ghost use Rattle.answer.specs.Laws.{OneFinished, OneLimited, GivesOne, AnswersSolve, CollectsFronts, UnfinishedMarks, GivesSmallest};
+ghost use Rattle.answer.specs.Settled.{FirstOfLists, LastIsFirst, BestIsFirst};
 
 use branching::{law_every_list, law_one_list};
 use decompose::law_some_program;
 use interval::law_inside_order;
-use search::{law_found_first, law_one_end, law_records_solutions};
-use solution_lists::{law_in_declaration_order, law_solutions_listed};
+use search::{law_finds_first, law_found_first, law_one_end, law_records_solutions};
+use solution_lists::{law_in_declaration_order, law_in_static_order, law_solutions_listed};
 use subproblems::{law_cuts, law_paths};
 
 /// A model has one finished answer.
@@ -67,3 +68,29 @@ pub fn law_unfinished_marks()
 pub fn law_gives_smallest()
     ensures { GivesSmallest }
 {}
+
+/// In a static order a list of solutions begins with the one that precedes all others.
+pub fn law_first_of_lists()
+    ensures { FirstOfLists }
+{
+    law_inside_order();
+    law_in_static_order();
+}
+
+/// There the solution that a search of a box for the least cost ends with is the first of its cost in the box.
+pub fn law_last_is_first()
+    ensures { LastIsFirst }
+{
+    law_finds_first();
+    law_records_solutions();
+}
+
+/// So the best one is the first of all that cost so much, where the tree wasn't cut into parts.
+pub fn law_best_is_first()
+    ensures { BestIsFirst }
+{
+    law_some_program();
+    law_inside_order();
+    law_first_of_lists();
+    law_last_is_first();
+}

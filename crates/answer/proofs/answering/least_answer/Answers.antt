@@ -1,6 +1,5 @@
-use Rattle.std.proofs.Common.{ℤ, List, All, Any, flat_map, get_or, Option, [], false, sym, ap, subst, ◌∙◌}
-use Rattle.search.specs.declared.ends.LeastEnd.{LeastEnd}
-use Rattle.answer.specs.Results.{listed, least_collected, IsLeastSpent}
+use Rattle.std.proofs.Common.{ℤ, List, flat_map, get_or, Option, [], false, sym, ap, subst, ◌∙◌}
+use Rattle.answer.specs.Results.{listed, least_collected}
 use Rattle.answer.specs.Unfinished.{IsBestOf}
 use Rattle.fzn_print.specs.declared.marks.Mark.{Mark}
 use Rattle.answer.specs.Given.{mark_for}
@@ -29,8 +28,8 @@ returns-then-is_spent g c =
     (record { solutions = c.in_ok-solutions.solutions; mark = c.mark_of-mark.result }) c.requires.objective c.in_ok-ends.ends c.as_slice.result.now c.in_ok-ends.ensures.ends c.best_of-best.result
     c.best_of-best.ensures c.in_ok-solutions.ensures c.as_slice.ensures c.if-is_spent.ensures.spent c.mark_of-mark.ensures
 
-pub optimum-requires-clause-best : goal.optimum-requires-clause-best
-optimum-requires-clause-best g c = λ lifetimes outlive.
+pub first_least-requires-clause-best : goal.first_least-requires-clause-best
+first_least-requires-clause-best g c = λ lifetimes outlive.
     let run = c.args.run.now in
     let is = c.requires.set_up in
     let model = run.model.now in

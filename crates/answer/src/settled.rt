@@ -1,0 +1,29 @@
+//! Whether the best solution of the search for the least cost is known to be the first that costs so much.
+
+ghost use Rattle.std.specs.Bool.{OnTrue, OnFalse};
+ghost use Rattle.solution_lists.specs.Static.{IsStaticSearch};
+ghost use Rattle.answer.specs.Settled.{IsSettled};
+
+use crate::options::Options;
+use constraint_model::{FznModel, VarSel};
+
+/// Whether each phase takes its variables as they stand, so that the order of the solutions doesn't depend on the bounds.
+fn is_static(model: &FznModel) -> bool
+    ensures as_they_stand { OnTrue result (IsStaticSearch model.now) }
+    ensures by_bounds { OnFalse result (IsStaticSearch model.now → ⊥) }
+{
+    model
+        .search
+        .as_slice()
+        .iter()
+        .all(|phase| phase.var_sel == VarSel::InputOrder)
+}
+
+/// Whether one search, which no limit can stop, goes over the whole tree in such an order: of those that cost as much as its
+/// best solution it met that one first.
+pub(crate) fn is_settled(model: &FznModel, options: Options) -> bool
+    ensures settled { OnTrue result (IsSettled model.now options) }
+    ensures open { OnFalse result (IsSettled model.now options → ⊥) }
+{
+    options.depth == 0 && options.node_limit == 0 && options.round_limit == 0 && is_static(model)
+}

@@ -260,6 +260,13 @@ fn accepted(state: State) -> Option<PieceKind>
     }
 }
 
+/// Whether no longer piece can be reached from this state.
+fn is_last(state: State) -> bool
+    ensures { result ≡ machine.is_last state }
+{
+    matches!(state, State::TextEnd | State::MarkEnd | State::BlankEnd)
+}
+
 /// The piece that ends at `to`, where there is one, else what was found before.
 fn later(first: Option<Found>, piece: Option<PieceKind>, to: usize) -> Option<Found>
     ensures { result ≡ machine.later first (machine.found_as piece to) }
@@ -283,6 +290,9 @@ pub fn longest_piece(text: &[u8], from: usize) -> Option<Found>
             return found;
         }
         found = later(found, accepted(state), at + 1);
+        if is_last(state) {
+            return found;
+        }
     }
     found
 }

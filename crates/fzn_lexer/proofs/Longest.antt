@@ -111,7 +111,7 @@ later_assoc : (a b c : Option Found) → later a (later b c) ≡ later (later a 
 later_assoc a b None = refl
 later_assoc a b (Some f) = refl
 
-longest_cons : (q : State) (at b : ℕ) (bs : List ℕ) → longest_found q at (b ∷ bs)
+pub longest_cons : (q : State) (at b : ℕ) (bs : List ℕ) → longest_found q at (b ∷ bs)
     ≡ later (found_as (accepted (step q b)) (at + 1)) (longest_found (step q b) (at + 1) bs)
 unfolding longest_found
 longest_cons q at b bs = rw (add-one) refl
@@ -169,7 +169,7 @@ step_last Dot b e = cc
 step_last InComment b e = cc
 
 -- nothing is found behind a last state
-none_behind_last : (q : State) (at : ℕ) (s : List ℕ) → is_last q ≡ true → longest_found q at s ≡ None
+pub none_behind_last : (q : State) (at : ℕ) (s : List ℕ) → is_last q ≡ true → longest_found q at s ≡ None
 unfolding longest_found
 none_behind_last q at [] e = refl
 none_behind_last q at (b ∷ bs) e =

@@ -1,12 +1,19 @@
 -- Cuts of parts of a text, one behind the other.
-use Rattle.std.proofs.Common.{◌≡◌, ◌<◌, ◌≤◌, ◌+◌, ◌-◌, ℕ, List, [], ◌∷◌, ◌++◌, drop, length, refl, sym, ◌∙◌, ap, subst, arith, append_assoc, length-append, length-drop}
+use Rattle.std.proofs.Common.{◌≡◌, inl, inr, ◌<◌, ◌≤◌, ◌+◌, ◌-◌, ℕ, List, [], ◌∷◌, ◌++◌, drop, length, refl, sym, ◌∙◌, ap, subst, arith, append_assoc, length-append, length-drop}
 use Rattle.std.specs.Prelude.{Option, Some, None, IfSome, is_some, true, false, option_to_list}
 use Rattle.std.proofs.lemmas.List.{append-nil, at_drop_all}
 use Rattle.fzn_lexer.specs.Lexing.{Piece, CutsInto, token_of, tokens_from, LexesAs, LexesTo, FaultsAt, LacksPiece, LacksToken, IsNext}
-use Rattle.fzn_lexer.specs.Machine.{longest_found}
+use Rattle.std.specs.Prelude.{◌||◌, ◌==◌, get_or}
+use Rattle.std.proofs.lemmas.Bool.{eqb-true, or_cases}
+use Rattle.std.proofs.lemmas.List.{drop_more}
+use Rattle.fzn_lexer.specs.Bytes.{is_blank_byte}
+use Rattle.fzn_lexer.specs.Machine.{step, accepted, later, found_as, longest_found}
+use Rattle.fzn_lexer.specs.declared.PieceKind.TheVariants as piece_kind
+use Rattle.fzn_lexer.specs.declared.machine.State.{State}
+use Rattle.fzn_lexer.proofs.Longest.{longest_cons, none_behind_last}
 use Rattle.fzn_lexer.specs.declared.Token.{Token}
 use Rattle.fzn_lexer.specs.declared.machine.Found.{Found}
-use Rattle.fzn_lexer.specs.declared.machine.State.TheVariants.{Start}
+use Rattle.fzn_lexer.specs.declared.machine.State.TheVariants.{Start, BlankEnd}
 use Rattle.fzn_lexer.proofs.Cuts.{IsFound, some_found, found_after, after_is, none_stuck, end_stuck, one_cut, IsStuck}
 
 pub nothing : (text : List ℕ) (at : ℕ) → at ≤ length text → LexesTo text at at []
@@ -109,3 +116,28 @@ none_behind text from at found None e f h l =
     let here : (from < found.to) × LexesTo text from found.to (token_of found.piece at found.to) = found_behind text from at found (sym e) l in
     (on.0, subst (λ (ts : List Token). LexesTo text from found.to ts) f here.1)
 none_behind text from at found (Some t) e f h l = cc
+
+-- a blank is one piece
+blank_step : (b : ℕ) → is_blank_byte b ≡ true → step Start b ≡ BlankEnd
+blank_step b e = elim (or_cases (((b == 32) || (b == 9)) || (b == 13)) (b == 10) e) [
+  | inr h ↦ subst (λ (n : ℕ). step Start n ≡ BlankEnd) (sym (eqb-true b 10 h)) refl
+  | inl f ↦ elim (or_cases ((b == 32) || (b == 9)) (b == 13) f) [
+    | inr h ↦ subst (λ (n : ℕ). step Start n ≡ BlankEnd) (sym (eqb-true b 13 h)) refl
+    | inl g ↦ elim (or_cases (b == 32) (b == 9) g) [
+      | inl h ↦ subst (λ (n : ℕ). step Start n ≡ BlankEnd) (sym (eqb-true b 32 h)) refl
+      | inr h ↦ subst (λ (n : ℕ). step Start n ≡ BlankEnd) (sym (eqb-true b 9 h)) refl
+    ]
+  ]
+]
+
+blank_found : (at b : ℕ) (bs : List ℕ) → is_blank_byte b ≡ true → longest_found Start at (b ∷ bs) ≡ Some (record { piece = piece_kind.Blank; to = at + 1 })
+blank_found at b bs e =
+    longest_cons Start at b bs ∙ (ap (λ (q : State). later (found_as (accepted q) (at + 1)) (longest_found q (at + 1) bs)) (blank_step b e)
+    ∙ ap (λ o. later (Some (record { piece = piece_kind.Blank; to = at + 1 })) o) (none_behind_last BlankEnd (at + 1) bs refl))
+
+-- one blank more
+pub blank_more : (text : List ℕ) (from at : ℕ) → at < length text → is_blank_byte (get_or text at 0) ≡ true → LexesTo text from at [] → LexesTo text from (at + 1) []
+blank_more text from at h e l =
+    let found : longest_found Start at (drop at text) ≡ Some (record { piece = piece_kind.Blank; to = at + 1 })
+    = ap (λ u. longest_found Start at u) (drop_more text at 0 h) ∙ blank_found at (get_or text at 0) (drop (at + 1) text) e in
+    (found_behind text from at (record { piece = piece_kind.Blank; to = at + 1 }) found l).1

@@ -8,7 +8,7 @@ ghost use Rattle.fzn_lexer.specs.Lexing.{LexesAs, LexesTo, FaultsAt, LacksPiece,
 ghost use Rattle.fzn_lexer.specs.declared.Token.{Token};
 ghost use Rattle.fzn_lexer.specs.declared.LexError.TheVariants.{NoMemory};
 
-use machine::{Found, longest_piece};
+use machine::{Found, after_blanks, longest_piece};
 use std::alloc::{AllocError, AllocFailed, Global};
 use thiserror::Error;
 
@@ -128,7 +128,7 @@ pub fn next_token(text: &[u8], from: usize) -> Result<Option<Token>, NoToken>
     requires { from ≤ length text.now }
     ensures { MatchResult result (λ o. IsNext text.now from o) (λ e. LacksToken text.now from e.at) }
 {
-    let mut at = from;
+    let mut at = after_blanks(text, from);
     while at < text.len() {
         let Some(found) = longest_piece(text, at) else {
             return Err(NoToken { at });
@@ -137,7 +137,7 @@ pub fn next_token(text: &[u8], from: usize) -> Result<Option<Token>, NoToken>
         if token.is_some() {
             return Ok(token);
         }
-        at = found.to;
+        at = after_blanks(text, found.to);
     }
     Ok(None)
 }

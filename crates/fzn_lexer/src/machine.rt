@@ -1,6 +1,7 @@
 // A machine over bytes that finds the longest piece that begins at a place, in one pass.
 
-ghost use Rattle.std.specs.Prelude.{◌≡◌, ◌≤◌, ◌<◌, drop, length};
+ghost use Rattle.std.specs.Prelude.{◌≡◌, ◌≤◌, ◌<◌, [], drop, length};
+ghost use Rattle.fzn_lexer.specs.Lexing.{LexesTo};
 ghost use Rattle.fzn_lexer.specs.Bytes as bytes;
 ghost use Rattle.fzn_lexer.specs.Machine as machine;
 
@@ -295,4 +296,17 @@ pub fn longest_piece(text: &[u8], from: usize) -> Option<Found>
         }
     }
     found
+}
+
+/// The first place from `from` on at which no blank stands.
+pub fn after_blanks(text: &[u8], from: usize) -> usize
+    requires { from ≤ length text.now }
+    ensures { LexesTo text.now from result [] }
+{
+    for at in from..text.len() {
+        if !is_blank_byte(text[at]) {
+            return at;
+        }
+    }
+    text.len()
 }

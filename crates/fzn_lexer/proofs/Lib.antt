@@ -2,3 +2,4 @@ pub mod Reached
 pub mod Runs
 pub mod Longest
 pub mod Cuts
+pub mod Turns

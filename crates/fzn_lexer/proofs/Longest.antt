@@ -1,12 +1,12 @@
 -- What the machine finds is the longest piece that a text begins with.
 use Rattle.std.proofs.Common.{◌≡◌, ◌<◌, ◌≤◌, ◌+◌, ℕ, suc, List, [], ◌∷◌, ◌++◌, get_or, drop, length, refl, sym, ◌∙◌, ap, subst, arith, add-one}
-use Rattle.std.specs.Prelude.{Option, Some, None}
+use Rattle.std.specs.Prelude.{true, Option, Some, None}
 use Rattle.std.proofs.lemmas.List.{drop_more, at_drop_all}
-use Rattle.fzn_lexer.specs.Machine.{step, accepted, later, found_as, longest_found}
+use Rattle.fzn_lexer.specs.Machine.{step, accepted, is_last, later, found_as, longest_found}
 use Rattle.fzn_lexer.specs.declared.PieceKind.{PieceKind}
 use Rattle.fzn_lexer.specs.declared.machine.Found.{Found}
 use Rattle.fzn_lexer.specs.declared.machine.State.{State}
-use Rattle.fzn_lexer.specs.declared.machine.State.TheVariants.{Dead}
+use Rattle.fzn_lexer.specs.declared.machine.State.TheVariants.{Start, Dead, InWord, Minus, Zero, Digits, HexBase, Hex, OctalBase, Octal, Point, Fraction, ExponentLetter, ExponentSign, Exponent, InText, Escape, TextEnd, MarkEnd, Colon, Dot, InComment, BlankEnd}
 use Rattle.fzn_lexer.proofs.Runs.{run}
 
 -- a prefix of the bytes that the machine accepts ends at `found.to`, and no longer one is accepted
@@ -111,7 +111,7 @@ later_assoc : (a b c : Option Found) → later a (later b c) ≡ later (later a 
 later_assoc a b None = refl
 later_assoc a b (Some f) = refl
 
-longest_cons : (q : State) (at b : ℕ) (bs : List ℕ) → longest_found q at (b ∷ bs)
+pub longest_cons : (q : State) (at b : ℕ) (bs : List ℕ) → longest_found q at (b ∷ bs)
     ≡ later (found_as (accepted (step q b)) (at + 1)) (longest_found (step q b) (at + 1) bs)
 unfolding longest_found
 longest_cons q at b bs = rw (add-one) refl
@@ -141,3 +141,40 @@ pub found_all : (first whole : Option Found) (q : State) (at : ℕ) (text : List
     → later first (longest_found q at (drop at text)) ≡ whole → first ≡ whole
 found_all first whole q at text h e =
     sym (ap (λ o. later first o) (at_drop_all (λ u. longest_found q at u) text at h ∙ longest_nil q at)) ∙ e
+
+-- a last state dies at the next byte
+step_last : (q : State) (b : ℕ) → is_last q ≡ true → step q b ≡ Dead
+step_last TextEnd b e = refl
+step_last MarkEnd b e = refl
+step_last BlankEnd b e = refl
+step_last Start b e = cc
+step_last Dead b e = cc
+step_last InWord b e = cc
+step_last Minus b e = cc
+step_last Zero b e = cc
+step_last Digits b e = cc
+step_last HexBase b e = cc
+step_last Hex b e = cc
+step_last OctalBase b e = cc
+step_last Octal b e = cc
+step_last Point b e = cc
+step_last Fraction b e = cc
+step_last ExponentLetter b e = cc
+step_last ExponentSign b e = cc
+step_last Exponent b e = cc
+step_last InText b e = cc
+step_last Escape b e = cc
+step_last Colon b e = cc
+step_last Dot b e = cc
+step_last InComment b e = cc
+
+-- nothing is found behind a last state
+pub none_behind_last : (q : State) (at : ℕ) (s : List ℕ) → is_last q ≡ true → longest_found q at s ≡ None
+unfolding longest_found
+none_behind_last q at [] e = refl
+none_behind_last q at (b ∷ bs) e =
+    ap (λ (r : State). later (found_as (accepted r) (suc at)) (longest_found r (suc at) bs)) (step_last q b e) ∙ ap (λ o. later None o) (dead_found (suc at) bs)
+
+-- at a last state all is found
+pub found_last : (first whole : Option Found) (q : State) (at : ℕ) (s : List ℕ) → later first (longest_found q at s) ≡ whole → is_last q ≡ true → first ≡ whole
+found_last first whole q at s e l = sym (ap (λ o. later first o) (none_behind_last q at s l)) ∙ e

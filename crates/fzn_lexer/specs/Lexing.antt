@@ -1,5 +1,5 @@
 -- The tokens of a text by longest match, and where a text has none.
-use Rattle.std.specs.Prelude.{◌≡◌, ◌<◌, ◌≤◌, ◌+◌, ℕ, List, [], ◌∷◌, ◌++◌, length, drop, slice_range}
+use Rattle.std.specs.Prelude.{◌≡◌, ◌<◌, ◌≤◌, ◌+◌, ℕ, List, [], ◌∷◌, ◌++◌, length, drop, slice_range, Option, Some, None}
 use Rattle.fzn_lexer.specs.Spelling.{Spells, SpellsToken}
 use Rattle.fzn_lexer.specs.declared.PieceKind.{PieceKind}
 use Rattle.fzn_lexer.specs.declared.PieceKind.TheVariants as piece_kind
@@ -62,3 +62,26 @@ pub record LiesIn (text : List ℕ) (token : Token) : Type 0 where
 abbrev pub RiseFrom : ℕ → List Token → Type 0
 RiseFrom at [] = Unit {0}
 RiseFrom at (t ∷ ts) = (at ≤ t.from) × RiseFrom t.to ts
+
+-- from the byte `from` to the byte `to` the text is cut into pieces, each the longest in what remains, and the tokens are
+-- those pieces that are tokens, with their places
+pub record LexesTo (text : List ℕ) (from to : ℕ) (tokens : List Token) : Type 0 where
+  pub rises : from ≤ to
+  pub inside : to ≤ length text
+  pub pieces : List Piece
+  pub cut : CutsInto pieces (drop to text) (drop from text)
+  pub placed : tokens ≡ tokens_from from pieces
+
+-- at this byte, before the text's end, no prefix of what remains spells a piece
+pub record LacksPiece (text : List ℕ) (at : ℕ) : Type 0 where
+  pub inside : at < length text
+  pub no_piece : (kind : PieceKind) (prefix after : List ℕ) → drop at text ≡ prefix ++ after → Spells kind prefix → ⊥
+
+-- the first token behind `from`, where there is one
+abbrev pub IsNext : List ℕ → ℕ → Option Token → Type 0
+IsNext text from (Some token) = (from < token.to) × LexesTo text from token.to (token ∷ [])
+IsNext text from None = LexesTo text from (length text) []
+
+-- behind `from` are no tokens up to `at`, where no piece begins
+abbrev pub LacksToken : List ℕ → ℕ → ℕ → Type 0
+LacksToken text from at = LexesTo text from at [] × LacksPiece text at

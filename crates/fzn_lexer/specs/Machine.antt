@@ -1,5 +1,5 @@
 -- A machine over bytes that tells which pieces the bytes spell. The code follows it; the proofs tie it to the spellings.
-use Rattle.std.specs.Prelude.{ℕ, suc, Bool, ◌==◌, ◌||◌, if◌then◌else◌, List, [], ◌∷◌, Option, Some, None}
+use Rattle.std.specs.Prelude.{ℕ, suc, Bool, true, false, ◌==◌, ◌||◌, if◌then◌else◌, List, [], ◌∷◌, Option, Some, None}
 use Rattle.std.specs.Char.{is_ascii_digit, is_ascii_hexdigit}
 use Rattle.fzn_lexer.specs.Bytes.{is_octal_digit, is_letter, is_word_byte, is_exponent_letter, is_sign_byte, is_blank_byte, is_in_line}
 use Rattle.fzn_lexer.specs.declared.machine.Found.{Found}
@@ -103,6 +103,13 @@ accepted Colon = Some (piece_kind.Token kind.Mark)
 accepted InComment = Some piece_kind.Comment
 accepted BlankEnd = Some piece_kind.Blank
 accepted _ = None
+
+-- no longer piece can be reached from this state
+abbrev pub is_last : State → Bool
+is_last TextEnd = true
+is_last MarkEnd = true
+is_last BlankEnd = true
+is_last _ = false
 
 -- the second, where there is one, else the first
 abbrev pub later : Option Found → Option Found → Option Found

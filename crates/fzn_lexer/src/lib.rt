@@ -3,12 +3,12 @@
 
 mod machine;
 
-ghost use Rattle.std.specs.Prelude.{◌≡◌, ℕ, List, All, MatchResult, OnOk, IfErr, ◌++◌, ◌⊎◌};
-ghost use Rattle.fzn_lexer.specs.Lexing.{LexesAs, FaultsAt, IsCause, LiesIn, RiseFrom, token_of};
+ghost use Rattle.std.specs.Prelude.{◌≡◌, ◌≤◌, ℕ, List, [], All, length, MatchResult, OnOk, IfErr, IfSome, option_to_list, ◌++◌, ◌⊎◌};
+ghost use Rattle.fzn_lexer.specs.Lexing.{LexesAs, LexesTo, FaultsAt, LacksPiece, LacksToken, IsCause, IsNext, LiesIn, RiseFrom, token_of};
 ghost use Rattle.fzn_lexer.specs.declared.Token.{Token};
 ghost use Rattle.fzn_lexer.specs.declared.LexError.TheVariants.{NoMemory};
 
-use machine::{Found, longest_piece};
+use machine::{Found, after_blanks, longest_piece};
 use std::alloc::{AllocError, AllocFailed, Global};
 use thiserror::Error;
 
@@ -57,6 +57,12 @@ pub enum LexError {
     NoMemory,
 }
 
+/// At the byte `at` no token, blank or comment begins.
+#[derive(Clone, Copy, Debug, PartialEq, Eq)]
+pub struct NoToken {
+    pub at: usize,
+}
+
 impl From<AllocError> for LexError {
     ghost from_gives = { λ _ e. e ≡ NoMemory };
 
@@ -73,17 +79,28 @@ impl<T: Drop> From<AllocFailed<T>> for LexError {
     }
 }
 
+/// The piece that begins at `from` as a token, where it is one.
+fn token_in(found: Found, from: usize) -> Option<Token>
+    ensures token { token_of found.piece from found.to ≡ option_to_list result }
+    ensures ends { IfSome result (λ t. t.to ≡ found.to) }
+{
+    match found.piece {
+        PieceKind::Token(kind) => Some(Token {
+            kind,
+            from,
+            to: found.to,
+        }),
+        PieceKind::Blank | PieceKind::Comment => None,
+    }
+}
+
 /// Puts the piece that begins at `from` at the end of the tokens, where it is one.
 fn keep(tokens: &mut Vec<Token>, from: usize, found: Found) -> Result<(), LexError>
     ensures kept { OnOk result (tokens.new.items ≡ tokens.old.items ++ token_of found.piece from found.to) }
     ensures refused { IfErr result (λ e. e ≡ NoMemory) }
 {
-    if let PieceKind::Token(kind) = found.piece {
-        tokens.push(Token {
-            kind,
-            from,
-            to: found.to,
-        })?;
+    if let Some(token) = token_in(found, from) {
+        tokens.push(token)?;
     }
     Ok(())
 }
@@ -104,6 +121,35 @@ pub fn lex(alloc: Global, text: &[u8]) -> Result<Vec<Token>, LexError>
     }
     Ok(tokens)
 }
+
+/// The first token behind the byte `from`, or none where the text ends first. Errors: the first byte where no token, blank
+/// or comment begins, where no token stands before it. It takes no memory.
+pub fn next_token(text: &[u8], from: usize) -> Result<Option<Token>, NoToken>
+    requires { from ≤ length text.now }
+    ensures { MatchResult result (λ o. IsNext text.now from o) (λ e. LacksToken text.now from e.at) }
+{
+    let mut at = after_blanks(text, from);
+    while at < text.len() {
+        let Some(found) = longest_piece(text, at) else {
+            return Err(NoToken { at });
+        };
+        let token = token_in(found, at);
+        if token.is_some() {
+            return Ok(token);
+        }
+        at = after_blanks(text, found.to);
+    }
+    Ok(None)
+}
+
+/// What is read of a text token by token is what is read of it whole.
+pub fn law_tokens_in_turn()
+    ensures nothing { (text : List ℕ) (at : ℕ) → at ≤ length text → LexesTo text at at [] }
+    ensures joined { (text : List ℕ) (from at to : ℕ) (ts us : List Token) → LexesTo text from at ts → LexesTo text at to us → LexesTo text from to (ts ++ us) }
+    ensures whole { (text : List ℕ) (ts : List Token) → LexesTo text 0 (length text) ts → LexesAs text ts }
+    ensures one_rest { (text : List ℕ) (from : ℕ) (ts us : List Token) → LexesTo text from (length text) ts → LexesTo text from (length text) us → ts ≡ us }
+    ensures fault { (text : List ℕ) (at : ℕ) (ts : List Token) → LexesTo text 0 at ts → LacksPiece text at → FaultsAt text at }
+{}
 
 /// A text has one list of tokens or one fault, one of the two and never both.
 pub fn law_one_reading()

@@ -1,6 +1,7 @@
 // A machine over bytes that finds the longest piece that begins at a place, in one pass.
 
-ghost use Rattle.std.specs.Prelude.{◌≡◌, ◌≤◌, ◌<◌, drop, length};
+ghost use Rattle.std.specs.Prelude.{◌≡◌, ◌≤◌, ◌<◌, [], drop, length};
+ghost use Rattle.fzn_lexer.specs.Lexing.{LexesTo};
 ghost use Rattle.fzn_lexer.specs.Bytes as bytes;
 ghost use Rattle.fzn_lexer.specs.Machine as machine;
 
@@ -260,6 +261,13 @@ fn accepted(state: State) -> Option<PieceKind>
     }
 }
 
+/// Whether no longer piece can be reached from this state.
+fn is_last(state: State) -> bool
+    ensures { result ≡ machine.is_last state }
+{
+    matches!(state, State::TextEnd | State::MarkEnd | State::BlankEnd)
+}
+
 /// The piece that ends at `to`, where there is one, else what was found before.
 fn later(first: Option<Found>, piece: Option<PieceKind>, to: usize) -> Option<Found>
     ensures { result ≡ machine.later first (machine.found_as piece to) }
@@ -283,6 +291,22 @@ pub fn longest_piece(text: &[u8], from: usize) -> Option<Found>
             return found;
         }
         found = later(found, accepted(state), at + 1);
+        if is_last(state) {
+            return found;
+        }
     }
     found
+}
+
+/// The first place from `from` on at which no blank stands.
+pub fn after_blanks(text: &[u8], from: usize) -> usize
+    requires { from ≤ length text.now }
+    ensures { LexesTo text.now from result [] }
+{
+    for at in from..text.len() {
+        if !is_blank_byte(text[at]) {
+            return at;
+        }
+    }
+    text.len()
 }

@@ -13,3 +13,4 @@ pub mod Standing
 pub mod Turns
 pub mod WellFormedLaws
 pub mod OneModel
+pub mod Takings

@@ -7,3 +7,4 @@ pub mod Outputs
 pub mod Resolving
 pub mod Scopes
 pub mod Searches
+pub mod Taking

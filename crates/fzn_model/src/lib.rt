@@ -20,6 +20,7 @@ mod scalars;
 mod scope;
 mod searches;
 mod stop;
+mod taking;
 mod types;
 
 pub use constraint_model::{
@@ -27,4 +28,6 @@ pub use constraint_model::{
     VarSel, kernel_count,
 };
 pub use fault_kinds::FaultKind;
+pub use name_hash::Names;
 pub use resolving::{ModelError, law_one_model, law_well_formed, resolve};
+pub use taking::Resolver;

@@ -51,3 +51,32 @@ pub(crate) fn name_hash(text: &[u8], items: &[Item]) -> NameHash {
     start.write(digest.as_slice());
     NameHash { start }
 }
+
+/// The words of a text that stand where a name is declared, by which its names are hashed. No contract speaks of them.
+#[derive(Drop)]
+pub struct Names {
+    digest: Sha256,
+}
+
+impl Names {
+    /// No words.
+    pub fn new() -> Names {
+        Names {
+            digest: Sha256::new(),
+        }
+    }
+
+    /// One word more.
+    pub fn add(&mut self, word: &[u8]) {
+        self.digest.update(word);
+        self.digest.update(b" ".as_slice());
+    }
+
+    /// How names are hashed where these words may be among them.
+    pub(crate) fn hash(self) -> NameHash {
+        let digest = self.digest.finalize();
+        let mut start = DefaultHasher::new();
+        start.write(digest.as_slice());
+        NameHash { start }
+    }
+}

@@ -31,7 +31,7 @@ pub enum ModelError {
 }
 
 /// Why the items have no model, where the item at this byte isn't taken.
-fn stopped(stop: Stop, at: usize) -> ModelError
+pub(crate) fn stopped(stop: Stop, at: usize) -> ModelError
     ensures { result ≡ stopped_at stop at }
 {
     match stop {
@@ -59,7 +59,7 @@ pub fn resolve(alloc: Global, text: &[u8], items: &[Item]) -> Result<FznModel, M
 }
 
 /// The model of a draft, where a solve item was there.
-fn finished(draft: Draft, end: usize) -> Result<FznModel, ModelError>
+pub(crate) fn finished(draft: Draft, end: usize) -> Result<FznModel, ModelError>
     ensures model { IfOk result (λ m. IsModelWith (seen draft) m) }
     ensures unsolved { IfErr result (λ e. (e ≡ Error.Fault (kind_number Kind.NoSolve) end) × ((seen draft).solved ≡ None)) }
 {

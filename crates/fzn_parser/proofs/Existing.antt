@@ -45,7 +45,7 @@ Reading text tokens = ((items : List ItemTree) × ReadsAs text tokens items) ⊎
 none_and_some : (i : ItemTree) → None ≡ Some i → ⊥
 none_and_some i e = cc
 
-fault_here : (text : List ℕ) (first : Token) (others : List Token) → item_at text (first_stretch text (first ∷ others)) ≡ None → FaultsAt text (first ∷ others) first.from
+pub fault_here : (text : List ℕ) (first : Token) (others : List Token) → item_at text (first_stretch text (first ∷ others)) ≡ None → FaultsAt text (first ∷ others) first.from
 fault_here text first others e = record {
   front = [];
   first = first;

@@ -16,3 +16,4 @@ pub mod Whole
 pub mod WholeItems
 pub mod WholeNotes
 pub mod WholeValues
+pub mod Gathered

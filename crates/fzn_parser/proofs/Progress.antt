@@ -43,7 +43,7 @@ read_faults text tokens left items first more r e f =
       refused = λ i s. none_and_some i (sym f ∙ ap (λ ts. item_at text (first_stretch text ts)) e ∙ written_is_read text (first_stretch text (first ∷ more)) i s);
     }
 
-first_of : (xs : List Token) (d : Token) → 0 < length xs → xs ≡ slice_index_or xs 0 d ∷ drop 1 xs
+pub first_of : (xs : List Token) (d : Token) → 0 < length xs → xs ≡ slice_index_or xs 0 d ∷ drop 1 xs
 first_of [] d h = absurd (omega arith)
 first_of (x ∷ xs) d h = refl
 

@@ -4,6 +4,7 @@ pub mod Notes
 pub mod Parsing
 pub mod Printer
 pub mod Reading
+pub mod Stream
 pub mod Stretches
 pub mod Terminals
 pub mod Texts

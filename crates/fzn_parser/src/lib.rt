@@ -5,19 +5,22 @@ mod cursor;
 mod items;
 pub mod laws;
 mod notes;
+mod stream;
 mod texts;
 pub mod tree;
 mod values;
 
-ghost use Rattle.std.specs.Prelude.{◌≡◌, ◌≤◌, ◌<◌, ◌++◌, ◌∷◌, [], length, map, take, drop, true, false, IfOk, MatchResult};
-ghost use Rattle.fzn_parser.specs.Texts.{is_at};
-ghost use Rattle.fzn_parser.specs.Parsing.{item_tree, ReadsAs, IsCause};
+ghost use Rattle.std.specs.Prelude.{◌≡◌, ◌≤◌, ◌<◌, ◌++◌, ◌∷◌, [], length, map, take, drop, true, false, Some, None, option_map, IfOk, MatchResult};
+ghost use Rattle.fzn_parser.specs.Texts.{is_at, lexeme_of};
+ghost use Rattle.fzn_parser.specs.Items.{whole_at};
+ghost use Rattle.fzn_parser.specs.Parsing.{item_tree, placed, max_depth, ReadsAs, IsCause};
 ghost use Rattle.fzn_parser.specs.Stretches.{item_at};
 
-use cursor::{Stop, Symbol};
+use cursor::{Lexeme, Stop, Symbol};
 use fzn_lexer::Token;
 use items::read_whole;
 use std::alloc::{AllocError, AllocFailed, Global};
+pub use stream::{ItemError, Room, next_item};
 use texts::{before_last, is_at, lexemes_of, stretch_len};
 use thiserror::Error;
 use tree::{Item, What};
@@ -62,23 +65,26 @@ fn read_predicate(alloc: Global, text: &[u8], first: Token, more: &[Token]) -> R
     }
 }
 
-/// The item that these tokens are, where it is no predicate.
-fn read_other(alloc: Global, text: &[u8], first: Token, stretch: &[Token]) -> Result<Item, Stop>
-    requires other { is_at Symbol.Predicate text.now first ≡ false }
-    requires begins { (0 < length stretch.now) × (stretch.now ≡ first ∷ drop 1 stretch.now) }
-    ensures read { IfOk result (λ i. item_at text.now stretch.now ≡ Some (item_tree i)) }
-    ensures refused { result ≡ Err Stop.Refused → item_at text.now stretch.now ≡ None }
+/// The item that these lexemes are, where it is no predicate; `first` is the first of their tokens.
+fn read_other(alloc: Global, first: Token, lexemes: &[Lexeme]) -> Result<Item, Stop>
+    ensures read { IfOk result (λ i. option_map (λ what. placed first what) (whole_at max_depth lexemes.now) ≡ Some (item_tree i)) }
+    ensures refused { result ≡ Err Stop.Refused → whole_at max_depth lexemes.now ≡ None }
 {
-    let lexemes = lexemes_of(alloc, text, stretch)?;
-    let what = read_whole(alloc, lexemes.as_slice(), MAX_DEPTH)?;
+    let what = read_whole(alloc, lexemes, MAX_DEPTH)?;
     Ok(Item {
         from: first.from,
         what,
     })
 }
 
-/// The item that these tokens are.
-fn read_item(alloc: Global, text: &[u8], stretch: &[Token]) -> Result<Item, Stop>
+/// The item that these tokens are, with these lexemes.
+fn read_stretch(
+    alloc: Global,
+    text: &[u8],
+    stretch: &[Token],
+    lexemes: &[Lexeme],
+) -> Result<Item, Stop>
+    requires { lexemes.now ≡ map (lexeme_of text.now) stretch.now }
     ensures read { IfOk result (λ i. item_at text.now stretch.now ≡ Some (item_tree i)) }
     ensures refused { result ≡ Err Stop.Refused → item_at text.now stretch.now ≡ None }
 {
@@ -88,10 +94,19 @@ fn read_item(alloc: Global, text: &[u8], stretch: &[Token]) -> Result<Item, Stop
             if is_at(Symbol::Predicate, text, *first) {
                 read_predicate(alloc, text, *first, more)
             } else {
-                read_other(alloc, text, *first, stretch)
+                read_other(alloc, *first, lexemes)
             }
         }
     }
+}
+
+/// The item that these tokens are.
+fn read_item(alloc: Global, text: &[u8], stretch: &[Token]) -> Result<Item, Stop>
+    ensures read { IfOk result (λ i. item_at text.now stretch.now ≡ Some (item_tree i)) }
+    ensures refused { result ≡ Err Stop.Refused → item_at text.now stretch.now ≡ None }
+{
+    let lexemes = lexemes_of(alloc, text, stretch)?;
+    read_stretch(alloc, text, stretch, lexemes.as_slice())
 }
 
 /// The items of `tokens`, which are tokens of `text`. Errors: `Syntax` at the first byte of the first stretch of

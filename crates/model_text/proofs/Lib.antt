@@ -1,2 +1,3 @@
 pub mod LongLaws
 pub mod TextLaws
+pub mod TurnLaws

@@ -1,7 +1,7 @@
 -- A text that is too long has that fault.
 use Rattle.std.proofs.Common.{◌≡◌, ◌+◌, ◌<◌, inl, ℕ, zero, suc, List, [], ◌∷◌, length, Option, None, Some, ap, refl, arith}
-use Rattle.fzn_io.specs.Streams.{IsHeld, IsLonger}
-use Rattle.model_text.specs.Texts.{HasFaultOn, most_bytes, too_long}
+use Rattle.fzn_io.specs.Streams.{IsHeld}
+use Rattle.model_text.specs.Texts.{most_bytes, too_long}
 use Rattle.model_text.specs.Files.{IsFaultOfTold, LongHasFault}
 
 long_list : (n : ℕ) → (text : List ℕ) × (length text ≡ n)

@@ -1,15 +1,12 @@
 //! From the bytes of a text to its model.
 
-ghost use Rattle.std.specs.Prelude.{◌≡◌, ◌≤◌, ◌==◌, count_by, ℕ, List, length, map, MatchResult, IfOk, IfErr};
-ghost use Rattle.fzn_lexer.specs.Lexing.{LexesAs};
-ghost use Rattle.fzn_parser.specs.Parsing.{item_tree};
+ghost use Rattle.std.specs.Prelude.{◌≡◌, ◌≤◌, ◌==◌, count_by, ℕ, List, length, MatchResult};
 ghost use Rattle.constraint_model.specs.declared.model.FznModel.{FznModel};
-ghost use Rattle.model_text.specs.Texts.{most_bytes, HasItems, IsTextOf, IsFaultOf, IsCause, LacksModel, fault_line, line_at};
+ghost use Rattle.model_text.specs.Texts.{IsTextOf, IsFaultOf, IsCause, fault_line, line_at};
 
-use fzn_lexer::{LexError, Token, lex};
-use fzn_model::{FaultKind, FznModel, ModelError, resolve};
-use fzn_parser::tree::Item;
-use fzn_parser::{ParseError, parse};
+use crate::turns::{model_of, survey};
+use fzn_lexer::law_tokens_in_turn;
+use fzn_model::{FaultKind, FznModel, Names};
 use std::alloc::Global;
 use thiserror::Error;
 
@@ -27,42 +24,6 @@ pub enum TextError {
     NoMemory,
 }
 
-/// The tokens of a text that isn't too long.
-fn tokens_of(alloc: Global, text: &[u8]) -> Result<Vec<Token>, TextError>
-    requires short { length text.now ≤ most_bytes }
-    ensures lexed { IfOk result (λ ts. LexesAs text.now ts.items) }
-    ensures refused { IfErr result (λ e. IsCause text.now e) }
-{
-    match lex(alloc, text) {
-        Ok(tokens) => Ok(tokens),
-        Err(LexError::Lex { at }) => Err(TextError::Refused {
-            kind: FaultKind::Lex.number(),
-            at,
-        }),
-        Err(LexError::NoMemory) => Err(TextError::NoMemory),
-    }
-}
-
-/// The items of a text that isn't too long.
-fn items_of(alloc: Global, text: &[u8]) -> Result<Vec<Item>, TextError>
-    requires short { length text.now ≤ most_bytes }
-    ensures read { IfOk result (λ is. HasItems text.now (map item_tree is.items)) }
-    ensures refused { IfErr result (λ e. IsCause text.now e) }
-{
-    let tokens = match tokens_of(alloc, text) {
-        Ok(tokens) => tokens,
-        Err(error) => return Err(error),
-    };
-    match parse(alloc, text, tokens.as_slice()) {
-        Ok(items) => Ok(items),
-        Err(ParseError::Syntax { at }) => Err(TextError::Refused {
-            kind: FaultKind::Syntax.number(),
-            at,
-        }),
-        Err(ParseError::NoMemory) => Err(TextError::NoMemory),
-    }
-}
-
 /// The model of a text. Errors: `Refused` with the kind and the place of the text's first fault; `NoMemory`.
 pub fn read_model(alloc: Global, text: &[u8]) -> Result<FznModel, TextError>
     ensures { MatchResult result (λ m. IsTextOf text.now m) (λ e. IsCause text.now e) }
@@ -73,14 +34,14 @@ pub fn read_model(alloc: Global, text: &[u8]) -> Result<FznModel, TextError>
             at: 0,
         });
     }
-    let items = match items_of(alloc, text) {
-        Ok(items) => items,
-        Err(error) => return Err(error),
-    };
-    match resolve(alloc, text, items.as_slice()) {
-        Ok(model) => Ok(model),
-        Err(ModelError::Fault { kind, at }) => Err(TextError::Refused { kind, at }),
-        Err(ModelError::NoMemory) => Err(TextError::NoMemory),
+    law_tokens_in_turn();
+    let mut names = Names::new();
+    match survey(text, 0, &mut names) {
+        Ok(()) => model_of(alloc, text, names),
+        Err(none) => Err(TextError::Refused {
+            kind: FaultKind::Lex.number(),
+            at: none.at,
+        }),
     }
 }
 

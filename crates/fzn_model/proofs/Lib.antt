@@ -2,6 +2,7 @@ pub mod AddedLaws
 pub mod ArrayLaws
 pub mod EffectLaws
 pub mod FaultLaws
+pub mod HintLaws
 pub mod MeaningLaws
 pub mod NoteLaws
 pub mod NumberLaws

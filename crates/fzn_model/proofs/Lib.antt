@@ -3,6 +3,7 @@ pub mod ArrayLaws
 pub mod EffectLaws
 pub mod FaultLaws
 pub mod HintLaws
+pub mod KnownLaws
 pub mod MeaningLaws
 pub mod NoteLaws
 pub mod NumberLaws

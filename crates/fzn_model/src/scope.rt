@@ -81,10 +81,8 @@ impl Scope {
     pub(crate) fn contains(&self, name: &[u8]) -> bool
         ensures { result ≡ is_some (meaning_of self.now name.now) }
     {
-        match self.hinted(name) {
-            Some(_) => true,
-            None => self.entries.contains_key(name),
-        }
+        // A name is asked for here before it is declared, mostly, and has no hint then.
+        self.entries.contains_key(name)
     }
 
     /// Adds a name that wasn't declared. Where memory is refused, the names are as before.

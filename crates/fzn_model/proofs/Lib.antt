@@ -2,6 +2,8 @@ pub mod AddedLaws
 pub mod ArrayLaws
 pub mod EffectLaws
 pub mod FaultLaws
+pub mod HintLaws
+pub mod KnownLaws
 pub mod MeaningLaws
 pub mod NoteLaws
 pub mod NumberLaws

@@ -2,6 +2,7 @@ pub mod Drafts
 pub mod Effects
 pub mod FaultKinds
 pub mod Faults
+pub mod Hints
 pub mod Literals
 pub mod Outputs
 pub mod Resolving

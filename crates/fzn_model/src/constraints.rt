@@ -44,7 +44,7 @@ fn constraint_on(
 ) -> Result<Constraint, Stop>
     ensures { IfOk result (λ c. c ≡ fitting.constraint_on name meanings) }
 {
-    let mut operands = ListOf::new(alloc);
+    let mut operands = ListOf::from_vec(Vec::with_capacity(alloc, meanings.len())?);
     for meaning in meanings.into_vec() {
         operands.push(operand_of(meaning))?;
     }
@@ -61,7 +61,7 @@ fn arguments(
     ensures { IfOk result (λ r. MatchOption r (faults.all_mean text.now scope.now args.now ≡ false)
         (λ ms. (faults.all_mean text.now scope.now args.now ≡ true) × (ms ≡ effects.meanings_of text.now scope.now args.now))) }
 {
-    let mut meanings = ListOf::new(alloc);
+    let mut meanings = ListOf::from_vec(Vec::with_capacity(alloc, args.len())?);
     for arg in args {
         match expr_meaning(alloc, text, scope, arg)? {
             Some(meaning) => meanings.push(meaning)?,
@@ -74,7 +74,7 @@ fn arguments(
 fn one_constraint(alloc: Global, constraint: Constraint) -> Result<Effect, Stop>
     ensures { IfOk result (λ e. e ≡ effects.constraint_alone constraint) }
 {
-    let mut constraints = ListOf::new(alloc);
+    let mut constraints = ListOf::from_vec(Vec::with_capacity(alloc, 1)?);
     constraints.push(constraint)?;
     Ok(Effect {
         declared: None,

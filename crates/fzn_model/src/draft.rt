@@ -154,12 +154,12 @@ fn push_all(list: &mut ListOf<Constraint>, more: ListOf<Constraint>) -> Result<(
 }
 
 impl Draft {
-    /// Before the first item.
-    pub(crate) fn new(alloc: Global, hash: NameHash) -> Draft
+    /// Before the first item. So many names are to be declared.
+    pub(crate) fn new(alloc: Global, hash: NameHash, names: usize) -> Draft
         ensures { seen result ≡ effects.nothing }
     {
         Draft {
-            scope: Scope::new(alloc, hash),
+            scope: Scope::new(alloc, hash, names),
             vars: ListOf::new(alloc),
             constraints: ListOf::new(alloc),
             output: ListOf::new(alloc),

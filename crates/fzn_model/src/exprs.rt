@@ -2,7 +2,7 @@
 
 ghost use Rattle.std.specs.Prelude.{◌≡◌, IfOk, map, option_map};
 ghost use Rattle.fzn_parser.specs.Texts.{spelling};
-ghost use Rattle.fzn_model.specs.Scopes.{number_at, set_at, boolean, integer, scalar_of, entry_at, all_some, array_literal, simple_at, expr_meaning};
+ghost use Rattle.fzn_model.specs.Scopes.{number_at, set_at, boolean, integer, entry_at, all_some, array_literal, meaning_of, simple_at, expr_meaning};
 
 use crate::numbers::number_of;
 use crate::scope::Scope;
@@ -87,16 +87,6 @@ fn integer(number: i64) -> Scalar
     }
 }
 
-/// The boolean or the integer that something stands for.
-fn scalar_of(meaning: &Meaning) -> Option<Scalar>
-    ensures { result ≡ scalar_of meaning.now }
-{
-    match meaning {
-        Meaning::One(scalar) => Some(*scalar),
-        Meaning::Row(_) | Meaning::Set(_) => None,
-    }
-}
-
 /// What an array's entry stands for, where it is a boolean or an integer.
 fn entry_at(text: &[u8], scope: &Scope, entry: &Elem) -> Option<Scalar>
     ensures { result ≡ entry_at text.now scope.now entry.now }
@@ -105,7 +95,7 @@ fn entry_at(text: &[u8], scope: &Scope, entry: &Elem) -> Option<Scalar>
         Elem::True => Some(boolean(1)),
         Elem::False => Some(boolean(0)),
         Elem::Int(token) => Some(integer(number_at(text, token))),
-        Elem::Name(token) => scalar_of(scope.meaning(spelling(text, token))?),
+        Elem::Name(token) => scope.scalar(spelling(text, token)),
         Elem::Float(_) | Elem::Set(_) => None,
     }
 }
@@ -147,6 +137,19 @@ fn row_at(
     }
 }
 
+/// What a name stands for, where it was declared.
+fn meaning_named(alloc: Global, scope: &Scope, name: &[u8]) -> Result<Option<Meaning>, AllocError>
+    ensures { IfOk result (λ o. o ≡ meaning_of scope.now name.now) }
+{
+    if let Some(scalar) = scope.hinted(name) {
+        return Ok(Some(Meaning::One(scalar)));
+    }
+    match scope.meaning(name) {
+        Some(meaning) => Ok(Some(share_meaning(alloc, meaning)?)),
+        None => Ok(None),
+    }
+}
+
 fn simple_at(
     alloc: Global,
     text: &[u8],
@@ -160,10 +163,7 @@ fn simple_at(
         Elem::False => Ok(Some(Meaning::One(boolean(0)))),
         Elem::Int(token) => Ok(Some(Meaning::One(integer(number_at(text, token))))),
         Elem::Float(_) => Ok(None),
-        Elem::Name(token) => match scope.meaning(spelling(text, token)) {
-            Some(meaning) => Ok(Some(share_meaning(alloc, meaning)?)),
-            None => Ok(None),
-        },
+        Elem::Name(token) => meaning_named(alloc, scope, spelling(text, token)),
         Elem::Set(set) => Ok(Some(Meaning::Set(set_at(alloc, text, set)?))),
     }
 }

@@ -8,6 +8,7 @@ mod draft;
 mod effect;
 mod exprs;
 pub mod fault_kinds;
+mod hints;
 mod limits;
 mod literals;
 mod name_hash;

@@ -31,6 +31,14 @@ fn declared_name(what: &What) -> Option<Token> {
     }
 }
 
+/// How many names these items declare.
+pub(crate) fn name_count(items: &[Item]) -> usize {
+    items
+        .iter()
+        .filter(|item| declared_name(&item.what).is_some())
+        .count()
+}
+
 /// The digest of all names that are declared. Behind each stands a blank, which no name has: where names could be cut in
 /// another way for one digest, they could be cut so that they collide.
 fn names_digest(text: &[u8], items: &[Item]) -> [u8; 32] {

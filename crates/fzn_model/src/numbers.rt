@@ -1,8 +1,9 @@
 //! The numbers that integer literals write.
 
-ghost use Rattle.std.specs.Prelude.{◌≡◌, ◌≤◌, Some, None, MatchOption, IfSome};
+ghost use Rattle.std.specs.Prelude.{◌≡◌, ◌≤◌, true, Some, None, MatchOption, IfSome};
+ghost use Rattle.std.specs.Str.Parse.{digits_value};
 ghost use Rattle.constraint_model.specs.Numbers.{largest};
-ghost use Rattle.fzn_model.specs.Literals.{number_in, natural_of, number_of};
+ghost use Rattle.fzn_model.specs.Literals.{is_numeral, number_in, natural_of, number_of};
 
 use constraint_model::LARGEST;
 use std::str;
@@ -28,12 +29,33 @@ fn number_in(base: u32, digits: &[u8]) -> Option<u64>
     }
 }
 
-/// The number of a literal without its minus, where the profile has it.
-#[tactic(auto, unfolding(crate::specs::Literals::natural_of))]
+/// The number that decimal digits write; none where it may be long, or something else stands there.
+fn short_number(digits: &[u8]) -> Option<u64>
+    ensures { IfSome result (λ n. (is_numeral 10 digits.now ≡ true) × (n ≡ digits_value 10 digits.now) × (n ≤ 999999999)) }
+{
+    let mut number: u64 = 0;
+    for digit in digits {
+        if !digit.is_ascii_digit() || number > 99_999_999 {
+            return None;
+        }
+        number = number * 10 + (*digit - b'0') as u64;
+    }
+    if digits.is_empty() {
+        None
+    } else {
+        Some(number)
+    }
+}
+
+/// The number of a literal without its minus, where the profile has it. Most are short and decimal, and read first.
+#[tactic(auto, using(crate::proofs::NumberLaws::natural_short), unfolding(crate::specs::Literals::natural_of, constraint_model::specs::Numbers::largest))]
 fn natural_of(literal: &[u8]) -> Option<u64>
     ensures value { result ≡ natural_of literal.now }
     ensures small { IfSome result (λ n. n ≤ largest) }
 {
+    if let Some(number) = short_number(literal) {
+        return Some(number);
+    }
     if let Some(digits) = literal.strip_prefix(b"0x") {
         number_in(16, digits)
     } else if let Some(digits) = literal.strip_prefix(b"0o") {

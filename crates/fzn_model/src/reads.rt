@@ -1,6 +1,6 @@
 //! What an item adds, where it has no fault against the declarations before it.
 
-ghost use Rattle.std.specs.Prelude.{◌≡◌, ◌≤◌, true, false, length, IfOk, IfErr, OnOk};
+ghost use Rattle.std.specs.Prelude.{◌≡◌, ◌≤◌, cond, true, false, length, IfOk, IfErr, OnOk};
 ghost use Rattle.fzn_parser.specs.Items.{what_tree};
 ghost use Rattle.fzn_model.specs.declared.fault_kinds.FaultKind.{FaultKind as Kind};
 ghost use Rattle.fzn_model.specs.Effects as effects;
@@ -87,7 +87,35 @@ fn read_effect(
     }
 }
 
-/// What an item adds. Errors: its least fault against the declarations before it; memory.
+/// The kind of an item's fault: this one, or that of a name or a constraint that isn't known.
+fn least_kind(text: &[u8], scope: &Scope, what: &What, kind: FaultKind) -> FaultKind
+    ensures { result ≡ cond (faults.uses_unknown text.now scope.now (what_tree what.now)) Kind.NameUnknown (cond (faults.has_unknown_constraint text.now (what_tree what.now)) Kind.UnknownConstraint kind) }
+{
+    if uses_unknown(text, scope, what) {
+        FaultKind::NameUnknown
+    } else if has_unknown_constraint(text, what) {
+        FaultKind::UnknownConstraint
+    } else {
+        kind
+    }
+}
+
+/// Why an item isn't taken whose value, arguments or objective don't fit.
+fn refused(text: &[u8], scope: &Scope, what: &What, stop: Stop) -> Stop
+    requires new { faults.declares_again text.now scope.now (what_tree what.now) ≡ false }
+    requires supported { faults.is_unsupported (what_tree what.now) ≡ false }
+    requires wrong { faults.OnlyFault Kind.WrongArgument (faults.has_wrong_argument text.now scope.now (what_tree what.now) ≡ true) stop }
+    ensures { faults.Refuses (faults.first_kind (faults.own_tests text.now scope.now (what_tree what.now))) result }
+{
+    match stop {
+        Stop::Fault(kind) => Stop::Fault(least_kind(text, scope, what, kind)),
+        Stop::NoMemory => Stop::NoMemory,
+    }
+}
+
+/// What an item adds. Errors: its least fault against the declarations before it; memory. What fits uses nothing that isn't
+/// known, so names are asked for once more only where something doesn't fit.
+#[tactic(auto, using(crate::proofs::KnownLaws::fitting_names, crate::proofs::KnownLaws::fitting_constraint))]
 pub(crate) fn read_item(
     alloc: Global,
     text: &[u8],
@@ -103,16 +131,14 @@ pub(crate) fn read_item(
     if declares_again(text, scope, what) {
         return Err(Stop::Fault(FaultKind::NameTwice));
     }
-    if uses_unknown(text, scope, what) {
-        return Err(Stop::Fault(FaultKind::NameUnknown));
-    }
-    if has_unknown_constraint(text, what) {
-        return Err(Stop::Fault(FaultKind::UnknownConstraint));
-    }
     if is_unsupported(what) {
-        return Err(Stop::Fault(FaultKind::Unsupported));
+        let kind = least_kind(text, scope, what, FaultKind::Unsupported);
+        return Err(Stop::Fault(kind));
     }
-    let effect = read_effect(alloc, text, scope, count, what)?;
+    let effect = match read_effect(alloc, text, scope, count, what) {
+        Ok(effect) => effect,
+        Err(stop) => return Err(refused(text, scope, what, stop)),
+    };
     if has_wide_literal(text, what) {
         return Err(Stop::Fault(FaultKind::OutOfRange));
     }

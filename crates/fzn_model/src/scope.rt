@@ -1,11 +1,13 @@
 //! What the declared names stand for.
 
-ghost use Rattle.std.specs.Prelude.{◌≡◌, [], ◌∷◌, ◌++◌, None, is_some, OnOk, OnErr};
+ghost use Rattle.std.specs.Prelude.{◌≡◌, [], ◌∷◌, ◌++◌, None, Some, is_some, option_and_then, IfSome, OnOk, OnErr};
 ghost use Rattle.std.specs.Option.{option_copied};
-ghost use Rattle.fzn_model.specs.Scopes.{meaning_of};
+ghost use Rattle.constraint_model.specs.declared.meanings.Meaning.{Meaning as Stands};
+ghost use Rattle.fzn_model.specs.Scopes.{meaning_of, scalar_of};
 
+use crate::hints::{Hint, Hints};
 use crate::name_hash::NameHash;
-use constraint_model::Meaning;
+use constraint_model::{Meaning, Scalar};
 use indexmap::IndexMap;
 use std::alloc::{AllocError, Global};
 use std::marker::Model;
@@ -14,6 +16,8 @@ use std::marker::Model;
 #[derive(Drop)]
 pub(crate) struct Scope {
     entries: IndexMap<Vec<u8>, Meaning, NameHash>,
+    /// What some of them stand for, once more: found faster, and asked first.
+    hints: Hints,
 }
 
 impl Model for Scope {
@@ -21,16 +25,48 @@ impl Model for Scope {
 
     ghost Value = { Declared };
 
+    ghost use Rattle.fzn_model.specs.Hints.{AreRight};
+
     ghost view = { λ s. declared_in s.entries.entries };
+
+    ghost invariant = { λ s. AreRight (declared_in s.entries.entries) s.hints.slots.items };
+}
+
+/// The boolean or the integer that something stands for.
+pub(crate) fn scalar_of(meaning: &Meaning) -> Option<Scalar>
+    ensures { result ≡ scalar_of meaning.now }
+{
+    match meaning {
+        Meaning::One(scalar) => Some(*scalar),
+        Meaning::Row(_) | Meaning::Set(_) => None,
+    }
 }
 
 impl Scope {
-    /// No names. It takes no memory.
-    pub(crate) fn new(alloc: Global, hash: NameHash) -> Scope
+    /// No names, with room for hints of so many. It takes no memory.
+    pub(crate) fn new(alloc: Global, hash: NameHash, names: usize) -> Scope
         ensures { result ≡ [] }
     {
         Scope {
             entries: IndexMap::with_hasher(alloc, hash),
+            hints: Hints::new(alloc, names),
+        }
+    }
+
+    /// The variable that `name` stands for, where there is a hint of it.
+    pub(crate) fn hinted(&self, name: &[u8]) -> Option<Scalar>
+        ensures { IfSome result (λ s. meaning_of self.now name.now ≡ Some (Stands.One s)) }
+    {
+        self.hints.find(name)
+    }
+
+    /// The boolean or the integer that `name` stands for.
+    pub(crate) fn scalar(&self, name: &[u8]) -> Option<Scalar>
+        ensures { result ≡ option_and_then scalar_of (meaning_of self.now name.now) }
+    {
+        match self.hinted(name) {
+            Some(scalar) => Some(scalar),
+            None => scalar_of(self.meaning(name)?),
         }
     }
 
@@ -45,6 +81,7 @@ impl Scope {
     pub(crate) fn contains(&self, name: &[u8]) -> bool
         ensures { result ≡ is_some (meaning_of self.now name.now) }
     {
+        // A name is asked for here before it is declared, mostly, and has no hint then.
         self.entries.contains_key(name)
     }
 
@@ -54,7 +91,10 @@ impl Scope {
         ensures added { OnOk result (self.new ≡ self.old ++ (name.items, meaning) ∷ []) }
         ensures unchanged { OnErr result (self.new ≡ self.old) }
     {
+        let hint = Hint::of(name.as_slice(), &meaning);
+        self.hints.make()?;
         self.entries.insert(name, meaning)?;
+        self.hints.put(hint);
         Ok(())
     }
 }

@@ -1,0 +1,20 @@
+-- Hints of what names stand for, beside the declared names. A hint that is there says what these say; a name may lack one.
+use Rattle.std.specs.Prelude.{◌≡◌, ℕ, List, take, All, Option, Some, IfSome}
+use Rattle.constraint_model.specs.declared.model.Term.{Term}
+use Rattle.constraint_model.specs.declared.meanings.Meaning.{Meaning}
+use Rattle.fzn_model.specs.declared.hints.Hint.{Hint}
+use Rattle.fzn_model.specs.Scopes.{Scope, meaning_of}
+
+abbrev pub name_in : Hint → List ℕ
+name_in h = take h.length h.bytes
+
+abbrev pub meaning_in : Hint → Meaning
+meaning_in h = Meaning.One (record { is_bool = h.is_bool; term = Term.Var h.variable })
+
+-- the hint's name stands for its variable
+abbrev pub IsRight : Scope → Hint → Type 0
+IsRight scope h = meaning_of scope (name_in h) ≡ Some (meaning_in h)
+
+-- each slot is empty or has such a hint
+abbrev pub AreRight : Scope → List (Option Hint) → Type 0
+AreRight scope slots = All (λ slot. IfSome slot (IsRight scope)) slots

@@ -1,6 +1,6 @@
 //! Hints by which the short names of variables are found in one step.
 
-ghost use Rattle.std.specs.Prelude.{◌≡◌, [], Some, IsTrue, IfSome, OnOk, OnErr};
+ghost use Rattle.std.specs.Prelude.{◌≡◌, [], Some, IsTrue, IfSome};
 ghost use Rattle.constraint_model.specs.declared.model.Term.{Term as Stood};
 ghost use Rattle.constraint_model.specs.declared.meanings.Meaning.{Meaning as Stands};
 ghost use Rattle.fzn_model.specs.Scopes.{Scope, meaning_of};

@@ -4,7 +4,7 @@ use Rattle.std.specs.Prelude.{Option, None, Some, IfSome, Vec, [], slice_index_o
 use Rattle.std.specs.declared.alloc.Global.{Global}
 use Rattle.std.specs.List.{All}
 use Rattle.std.proofs.lemmas.List.{get_or_default, get_or-map}
-use Rattle.lanes.specs.Cuts.{AllNamed, IsCut, share_at}
+use Rattle.shared_lanes.specs.Cuts.{AllNamed, IsCut, share_at}
 
 -- the share of a number is what the code reads there
 pub share_is : (cut : List (Vec ℕ Global)) (i : ℕ) (v : Vec ℕ Global) (xs : List ℕ) → i < length cut → v ≡ get_or cut i v → xs ≡ v.items → share_at cut i ≡ xs

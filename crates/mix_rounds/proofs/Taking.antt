@@ -6,7 +6,7 @@ use Rattle.std.specs.List.{All}
 use Rattle.std.proofs.lemmas.Bool.{true≢false}
 use borrow.Author.Count.{below_more}
 use Rattle.guarded_tell.specs.Kernels.{IsKernel}
-use Rattle.lanes.specs.Cuts.{AllNamed, share_at}
+use Rattle.shared_lanes.specs.Cuts.{AllNamed, share_at}
 use Rattle.bit_domain.specs.Mixes.{Mix, IsInsideMix}
 use Rattle.mix_store.specs.Domains.{tighter_of}
 use Rattle.mix_store.specs.declared.seat.MixSeat.{MixSeat}

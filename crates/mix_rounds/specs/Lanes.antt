@@ -3,7 +3,7 @@ use Rattle.std.specs.Prelude.{ℕ, ◌≡◌, ◌≢◌, ◌<◌, List, length, 
 use Rattle.std.specs.List.{All}
 use Rattle.guarded_tell.specs.declared.kernel.Kernel.{Kernel}
 use Rattle.guarded_tell.specs.Kernels.{IsKernel}
-use Rattle.lanes.specs.Cuts.{AllNamed, IsCut, share_at}
+use Rattle.shared_lanes.specs.Cuts.{AllNamed, IsCut, share_at}
 use Rattle.bit_domain.specs.Mixes.{Mix, IsMixInRange, IsInsideMix}
 use Rattle.domain_drops.specs.Closed.{IsClosedMixUnder}
 use Rattle.mix_store.specs.declared.seat.MixSeat.{MixSeat}

@@ -11,8 +11,8 @@ use crate::share::run_share;
 use gate::Gate;
 use guarded_tell::Kernel;
 use interval::NoMemory;
-use lanes::{Lane, Shared, run_lanes};
 use mix_store::{MixSeat, MixStore};
+use shared_lanes::{Lane, Shared, run_lanes};
 use std::alloc::Global;
 use std::thread::Threads;
 

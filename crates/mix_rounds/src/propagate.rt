@@ -4,7 +4,7 @@ ghost use Rattle.std.specs.Prelude.{◌≡◌, ◌↔◌, length, IfOk, IsTrue, 
 ghost use Rattle.std.specs.List.{All};
 ghost use Rattle.interval.specs.Boxes.{IsCrossed, IsProper};
 ghost use Rattle.guarded_tell.specs.Kernels.{IsKernel};
-ghost use Rattle.lanes.specs.Cuts.{IsCut};
+ghost use Rattle.shared_lanes.specs.Cuts.{IsCut};
 ghost use Rattle.bit_domain.specs.Mixes.{Mix, hull, IsMixInRange};
 ghost use Rattle.mix_store.specs.Seats.{seen_of, floor_of, IsFloorIn, IsStart};
 ghost use Rattle.mix_rounds.specs.Greatest.{greatest_mix_of};
@@ -20,8 +20,8 @@ use fixpoint_laws::Settled;
 use gate::Gate;
 use guarded_tell::{Kernel, law_tell_place};
 use interval::NoMemory;
-use lanes::Lane;
 use mix_store::{MixSeat, MixStore};
+use shared_lanes::Lane;
 use std::alloc::Global;
 use std::thread::Threads;
 

@@ -8,7 +8,7 @@ ghost use Rattle.guarded_tell.specs.Kernels.{IsKernel};
 ghost use Rattle.bit_domain.specs.Mixes.{IsInsideMix, IsMixInRange};
 ghost use Rattle.domain_drops.specs.Closed.{IsClosedMixUnder};
 ghost use Rattle.mix_store.specs.Seats.{seen_of, floor_of, IsSeatOf, IsSameSeat};
-ghost use Rattle.lanes.specs.Cuts.{IsShare, AllNamed};
+ghost use Rattle.shared_lanes.specs.Cuts.{IsShare, AllNamed};
 ghost use Rattle.mix_rounds.specs.Steps.{Stepped};
 ghost use Rattle.mix_rounds.specs.Heard.{WasHeard};
 ghost use Rattle.mix_rounds.specs.Lanes.{FitsLength, IsLawfulFloor, IsLawfulFloorFor};

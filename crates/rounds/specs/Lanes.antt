@@ -3,7 +3,7 @@ use Rattle.std.specs.Prelude.{ℕ, ◌≡◌, ◌≢◌, ◌<◌, List, length, 
 use Rattle.std.specs.List.{All}
 use Rattle.interval.specs.Boxes.{IsInside}
 use Rattle.guarded_tell.specs.Kernels.{IsKernel, IsClosedUnder}
-use Rattle.lanes.specs.declared.lane.Lane.{Lane}
+use Rattle.shared_lanes.specs.declared.lane.Lane.{Lane}
 use Rattle.lattice_store.specs.declared.seat.Seat.{Seat}
 use Rattle.lattice_store.specs.declared.store.Store.{Store}
 use Rattle.lattice_store.specs.Seats.{seen_of, floor_of, seat_epoch, IsFirst, IsPast, IsSeatOf, IsSameSeat}

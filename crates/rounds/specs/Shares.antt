@@ -1,7 +1,7 @@
 -- Shares of the kernels, and what it means that a share's kernels have nothing to tell.
 use Rattle.std.specs.List.{All}
-pub use Rattle.lanes.specs.Cuts.{IsShare, AllNamed, share_at, IsCut}
-unfoldable pub use Rattle.lanes.specs.Cuts.{share_limit}
+pub use Rattle.shared_lanes.specs.Cuts.{IsShare, AllNamed, share_at, IsCut}
+unfoldable pub use Rattle.shared_lanes.specs.Cuts.{share_limit}
 use Rattle.interval.specs.Boxes.{Bounds}
 use Rattle.guarded_tell.specs.declared.kernel.Kernel.{Kernel}
 use Rattle.guarded_tell.specs.Words.{Keeps, IsProperIn}

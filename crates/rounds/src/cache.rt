@@ -4,8 +4,8 @@ ghost use Rattle.std.specs.Prelude.{◌≡◌, ℕ, length, IfOk};
 ghost use Rattle.rounds.specs.Lanes.{AreLanes, HaveMadeNoPass};
 
 use interval::{BoxOf, NoMemory};
-use lanes::Lane;
 use lattice_store::Seat;
+use shared_lanes::Lane;
 use std::alloc::Global;
 
 /// What a lane keeps of its own from round to round.

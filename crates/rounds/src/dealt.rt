@@ -13,8 +13,8 @@ use crate::share::run_share;
 use gate::Gate;
 use guarded_tell::{Kernel, law_tell_place};
 use interval::NoMemory;
-use lanes::Shared;
 use lattice_store::{Seat, Store};
+use shared_lanes::Shared;
 use std::alloc::Global;
 
 /// The kernels and their cut, over a store of bounds.

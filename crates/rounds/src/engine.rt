@@ -15,8 +15,8 @@ use fixpoint_laws::{Limited, law_greatest_is_computed};
 use gate::Gate;
 use guarded_tell::Kernel;
 use interval::{BoxOf, NoMemory, is_crossed, law_inside_order};
-use lanes::Lane;
 use lattice_store::{Full, Seat, Store};
+use shared_lanes::Lane;
 use std::alloc::{AllocError, Global};
 use std::thread::Threads;
 

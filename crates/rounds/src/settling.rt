@@ -18,8 +18,8 @@ use crate::work::Work;
 use fixpoint_laws::{Limited, law_greatest_is_computed, law_rounds_lead};
 use gate::Gate;
 use interval::{BoxOf, NoMemory, law_inside_order};
-use lanes::{Lane, run_lanes};
 use lattice_store::{Seat, Store};
+use shared_lanes::{Lane, run_lanes};
 use std::alloc::Global;
 use std::thread::Threads;
 

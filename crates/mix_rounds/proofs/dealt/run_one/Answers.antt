@@ -1,7 +1,7 @@
 use Rattle.std.proofs.Common.{◌≡◌, ℕ, length, ap, subst, sym, ◌∙◌}
 use Rattle.std.specs.Prelude.{Vec}
 use Rattle.std.specs.declared.alloc.Global.{Global}
-use Rattle.lanes.specs.Cuts.{IsShare, share_at}
+use Rattle.shared_lanes.specs.Cuts.{IsShare, share_at}
 use Rattle.mix_rounds.specs.Lanes.{FitsLength}
 use Rattle.mix_rounds.proofs.Naming.{share_is}
 use Rattle.mix_rounds.proofs.Taking.{kernels_given, floor_given, run_now}

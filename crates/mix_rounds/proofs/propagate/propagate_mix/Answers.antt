@@ -1,7 +1,7 @@
 use Rattle.std.proofs.Common.{length, refl, sym, subst, arith}
 use Rattle.std.specs.Prelude.{IfSome}
 use Rattle.std.specs.List.{All}
-use Rattle.lanes.specs.Cuts.{share_limit}
+use Rattle.shared_lanes.specs.Cuts.{share_limit}
 use Rattle.guarded_tell.specs.Kernels.{IsKernel}
 use Rattle.bit_domain.specs.Mixes.{Mix}
 use Rattle.mix_rounds.specs.Greatest.{greatest_mix_of}

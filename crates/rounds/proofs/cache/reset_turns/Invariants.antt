@@ -1,5 +1,5 @@
 use Rattle.std.proofs.Common.{◌≡◌, ◌<◌, ℕ, length, get_or}
-use Rattle.lanes.specs.declared.lane.Lane.{Lane}
+use Rattle.shared_lanes.specs.declared.lane.Lane.{Lane}
 use Rattle.lattice_store.specs.declared.seat.Seat.{Seat}
 use Rattle.rounds.specs.declared.cache.Cache.{Cache}
 use Rattle.rounds.proofs.cache.reset_turns.Given as goal

@@ -1,7 +1,7 @@
 use Rattle.std.proofs.Common.{◌≡◌, length, subst, ◌∙◌, arith}
-use Rattle.lanes.proofs.Keeping.{fit_kept}
-use Rattle.lanes.proofs.round.run_lanes.Goals as goal
-use Rattle.lanes.proofs.round.run_lanes.Goals.{After-branch-seat_lanes}
+use Rattle.shared_lanes.proofs.Keeping.{fit_kept}
+use Rattle.shared_lanes.proofs.round.run_lanes.Goals as goal
+use Rattle.shared_lanes.proofs.round.run_lanes.Goals.{After-branch-seat_lanes}
 
 pub run_all-requires-clause-lanes : goal.run_all-requires-clause-lanes
 run_all-requires-clause-lanes g c κs within = (

@@ -1,7 +1,7 @@
 //! One lane.
 
 ghost use Rattle.std.specs.Prelude.{◌≡◌, ◌<◌, ◌+◌, ◌||◌, ℕ, Bool, false, IfOk};
-ghost use Rattle.lanes.specs.Lanes.{HasSeat};
+ghost use Rattle.shared_lanes.specs.Lanes.{HasSeat};
 
 use crate::shared::Shared;
 use interval::NoMemory;

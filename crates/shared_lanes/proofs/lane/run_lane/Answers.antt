@@ -1,7 +1,7 @@
 use Rattle.std.proofs.Common.{subst}
 use Rattle.std.specs.Prelude.{Option}
-use Rattle.lanes.specs.Lanes.{HasSeat}
-use Rattle.lanes.proofs.lane.run_lane.Goals as goal
+use Rattle.shared_lanes.specs.Lanes.{HasSeat}
+use Rattle.shared_lanes.proofs.lane.run_lane.Goals as goal
 
 pub run_with-lane-requires-clause-lane : goal.run_with-lane-requires-clause-lane
 run_with-lane-requires-clause-lane g c =

@@ -2,8 +2,8 @@
 
 ghost use Rattle.std.specs.Prelude.{◌≡◌, ◌<◌, ℕ, false, length, slice_index_or, IfOk, OnErr};
 ghost use Rattle.std.specs.List.{All};
-ghost use Rattle.lanes.specs.declared.lane.Lane.{Lane};
-ghost use Rattle.lanes.specs.Lanes.{HasSeat, SameCaches};
+ghost use Rattle.shared_lanes.specs.declared.lane.Lane.{Lane};
+ghost use Rattle.shared_lanes.specs.Lanes.{HasSeat, SameCaches};
 
 use crate::lane::{Lane, run_lane, seat_lane, unseat_lane};
 use crate::shared::Shared;

@@ -1,7 +1,7 @@
 use Rattle.std.proofs.Common.{◌<◌, ℕ, false, get_or}
-use Rattle.lanes.specs.declared.lane.Lane.{Lane}
-use Rattle.lanes.specs.Lanes.{HasSeat, SameCaches}
-use Rattle.lanes.proofs.round.seat_lanes.Given as goal
+use Rattle.shared_lanes.specs.declared.lane.Lane.{Lane}
+use Rattle.shared_lanes.specs.Lanes.{HasSeat, SameCaches}
+use Rattle.shared_lanes.proofs.round.seat_lanes.Given as goal
 
 abbrev pub invariant-loop-i : goal.invariant-loop-i
 invariant-loop-i g l = record {

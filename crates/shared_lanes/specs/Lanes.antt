@@ -1,6 +1,6 @@
 -- Lanes and their seats.
 use Rattle.std.specs.Prelude.{ℕ, ◌≡◌, ◌<◌, List, length, slice_index_or, Option, None, Some}
-use Rattle.lanes.specs.declared.lane.Lane.{Lane}
+use Rattle.shared_lanes.specs.declared.lane.Lane.{Lane}
 
 -- there is a seat, and the fact holds of it
 abbrev pub HasSeat : {S : Type 0} → Option S → (S → Type 0) → Type 0

@@ -6,8 +6,8 @@ use Rattle.std.proofs.lemmas.List.{get_or-set_other, get_or_default}
 use Rattle.std.proofs.lemmas.Grind.{get_or-set_at}
 use Rattle.std.proofs.lemmas.Bool.{cases_eq}
 use borrow.Author.Count.{below_more}
-use Rattle.lanes.specs.declared.lane.Lane.{Lane}
-use Rattle.lanes.specs.Lanes.{HasSeat, SameCaches}
+use Rattle.shared_lanes.specs.declared.lane.Lane.{Lane}
+use Rattle.shared_lanes.specs.Lanes.{HasSeat, SameCaches}
 
 module _ {S C : Type 0} where
   pub same_caches : (a : List (Lane S C)) → SameCaches a a

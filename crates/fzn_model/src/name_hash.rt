@@ -64,6 +64,7 @@ pub(crate) fn name_hash(text: &[u8], items: &[Item]) -> NameHash {
 #[derive(Drop)]
 pub struct Names {
     digest: Sha256,
+    count: usize,
 }
 
 impl Names {
@@ -71,6 +72,7 @@ impl Names {
     pub fn new() -> Names {
         Names {
             digest: Sha256::new(),
+            count: 0,
         }
     }
 
@@ -78,6 +80,12 @@ impl Names {
     pub fn add(&mut self, word: &[u8]) {
         self.digest.update(word);
         self.digest.update(b" ".as_slice());
+        self.count = self.count.saturating_add(1);
+    }
+
+    /// How many words there are, or the greatest number of a `usize`.
+    pub(crate) fn count(&self) -> usize {
+        self.count
     }
 
     /// How names are hashed where these words may be among them.

@@ -33,8 +33,9 @@ impl Resolver {
     pub fn new(alloc: Global, names: Names) -> Resolver
         ensures { (text : List ℕ) → AreTaken text [] result }
     {
+        let count = names.count();
         Resolver {
-            draft: Draft::new(alloc, names.hash()),
+            draft: Draft::new(alloc, names.hash(), count),
         }
     }
 

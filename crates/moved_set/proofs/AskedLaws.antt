@@ -1,11 +1,14 @@
 -- Sets of kernels as bits of words, one more than whole words of bits.
-use Rattle.std.proofs.Common.{◌≡◌, ◌≢◌, ℕ, ◌+◌, ◌-◌, ◌*◌, ◌/◌, ◌%◌, ◌^◌, ◌<◌, ◌≤◌, ◌==◌, Bool, true, false, ◌||◌, ◌&&◌, List, length, get_or, set, replicate, bit_and, bit_or, w32, refl, sym, ◌∙◌, ap, subst, ⊎_elim, arith}
+use Rattle.std.proofs.Common.{◌≡◌, ◌≢◌, ℕ, ◌+◌, ◌-◌, ◌*◌, ◌/◌, ◌%◌, ◌^◌, ◌<◌, ◌≤◌, ◌==◌, Bool, true, false, ◌||◌, ◌&&◌, List, [], ◌∷◌, length, get_or, set, take, min, replicate, bit_and, bit_or, w32, refl, sym, ◌∙◌, ap, subst, ⊎_elim, arith}
+use Rattle.std.specs.Int.{bit_at}
+use Rattle.std.specs.List.{list_any}
+use Rattle.std.proofs.lemmas.List.Folds.{list_any-append}
 use Rattle.std.proofs.lemmas.Bool.{cases_eq}
 use Rattle.std.proofs.lemmas.Bool.Decides.{Decides-eqb, nat_tests}
-use Rattle.std.proofs.lemmas.List.{length-set, length-replicate, get_or-set_same, get_or-set_other, get_or-replicate}
-use Rattle.std.proofs.lemmas.Nat.Bits.{bit_at_clear_same, bit_at_clear_other}
+use Rattle.std.proofs.lemmas.List.{length-set, length-replicate, get_or-set_same, get_or-set_other, get_or-replicate, take_more}
+use Rattle.std.proofs.lemmas.Nat.Bits.{bit_at_clear_same, bit_at_clear_other, bit_at_and, bit_at-lt}
 use Rattle.moved_set.specs.Words.{has_bit, has, set_of, hits, names}
-use Rattle.moved_set.specs.Asked.{IsFirst, IsLast, IsUnited}
+use Rattle.moved_set.specs.Asked.{IsFirst, IsLast, IsUnited, IsUnitedIn}
 use Rattle.moved_set.specs.declared.mask.Mask.{Mask}
 use Rattle.moved_set.proofs.SetLaws.{length-set_of, set_of_at, set_of_is, has_bit-or}
 
@@ -126,3 +129,71 @@ united_with old words lent new items row count is lent_is items_are each =
     } in
     let two : IsUnited old row (set_of new count) = subst (λ (s : List Bool). IsUnited s row (set_of new count)) is one in
     subst (λ (ws : List ℕ). IsUnited old row (set_of ws count)) (sym items_are) two
+
+-- ---- a row that is united as far as other words have its numbers
+
+min_bit : (a b : ℕ) → a < 2 → b < 2 → (min a b == 1) ≡ ((a == 1) && (b == 1))
+min_bit a b h k =
+    let low : a ≡ 0 → (min a b == 1) ≡ ((a == 1) && (b == 1)) =
+    λ e. let m : min a b ≡ 0 = omega arith in let f : (a == 1) ≡ false = ap (λ (n : ℕ). n == 1) e in ap (λ (n : ℕ). n == 1) m ∙ ap (λ (t : Bool). t && (b == 1)) (sym f) in
+    let high : a ≢ 0 → (min a b == 1) ≡ ((a == 1) && (b == 1)) =
+    λ ne. let one : a ≡ 1 = omega arith in let m : min a b ≡ b = omega arith in let f : (a == 1) ≡ true = ap (λ (n : ℕ). n == 1) one in ap (λ (n : ℕ). n == 1) m ∙ ap (λ (t : Bool). t && (b == 1)) (sym f) in
+    ⊎_elim low high (cases_eq a 0)
+
+has_bit-and : (a b k : ℕ) → has_bit (bit_and a b) k ≡ (has_bit a k && has_bit b k)
+has_bit-and a b k = ap (λ (n : ℕ). n == 1) (bit_at_and a b k) ∙ min_bit (bit_at a k) (bit_at b k) (bit_at-lt a k) (bit_at-lt b k)
+
+pub common_bits : (words : List ℕ) (m : Mask) (j : ℕ) → hits j (record { place = m.place; bits = bit_and m.bits (get_or words m.place 0) }) ≡ (hits j m && has words j)
+common_bits words m j =
+    let here : m.place ≡ j / 32 → hits j (record { place = m.place; bits = bit_and m.bits (get_or words m.place 0) }) ≡ (hits j m && has words j) =
+    λ e.
+    let at : (m.place == j / 32) ≡ true = (Decides-eqb m.place (j / 32)).1 e in
+    ap (λ (b : Bool). b && has_bit (bit_and m.bits (get_or words m.place 0)) (j % 32)) at
+    ∙ has_bit-and m.bits (get_or words m.place 0) (j % 32)
+    ∙ ap (λ (p : ℕ). has_bit m.bits (j % 32) && has_bit (get_or words p 0) (j % 32)) e
+    ∙ sym (ap (λ (b : Bool). (b && has_bit m.bits (j % 32)) && has words j) at) in
+    let elsewhere : m.place ≢ j / 32 → hits j (record { place = m.place; bits = bit_and m.bits (get_or words m.place 0) }) ≡ (hits j m && has words j) =
+    λ f.
+    let apart : (m.place == j / 32) ≡ false = grind (arith, nat_tests) in
+    ap (λ (b : Bool). b && has_bit (bit_and m.bits (get_or words m.place 0)) (j % 32)) apart
+    ∙ sym (ap (λ (b : Bool). (b && has_bit m.bits (j % 32)) && has words j) apart) in
+    ⊎_elim here elsewhere (cases_eq m.place (j / 32))
+
+pub or_none : (b : Bool) → b ≡ (b || false)
+or_none true = refl
+or_none false = refl
+
+or_and_move : (o n h w : Bool) → ((o || (n && w)) || (h && w)) ≡ (o || ((n || (h || false)) && w))
+or_and_move true n h w = refl
+or_and_move false true h true = refl
+or_and_move false true true false = refl
+or_and_move false true false false = refl
+or_and_move false false true true = refl
+or_and_move false false true false = refl
+or_and_move false false false true = refl
+or_and_move false false false false = refl
+
+-- one mask more
+pub named_in : (row : List Mask) (i : ℕ) (d : Mask) (j : ℕ) (old now wanted : Bool) → i < length row → now ≡ (old || (names (take i row) j && wanted))
+    → (now || (hits j (get_or row i d) && wanted)) ≡ (old || (names (take (i + 1) row) j && wanted))
+named_in row i d j old now wanted h is =
+    let more : names (take (i + 1) row) j ≡ (names (take i row) j || (hits j (get_or row i d) || false)) =
+    ap (list_any (hits j)) (take_more row i d h) ∙ list_any-append (hits j) (take i row) (get_or row i d ∷ []) in
+    ap (λ (b : Bool). b || (hits j (get_or row i d) && wanted)) is
+    ∙ or_and_move old (names (take i row) j) (hits j (get_or row i d)) wanted
+    ∙ ap (λ (b : Bool). old || (b && wanted)) (sym more)
+
+pub united_in_with : (old : List Bool) (words lent new items : List ℕ) (row : List Mask) (wanted : List Bool) (wanted_words : List ℕ) (count : ℕ) → set_of words count ≡ old → lent ≡ words → items ≡ new
+    → ((j : ℕ) → j < count → has wanted_words j ≡ get_or wanted j false)
+    → ((j : ℕ) → has new j ≡ (has lent j || (names row j && has wanted_words j))) → IsUnitedIn old row wanted (set_of items count)
+united_in_with old words lent new items row wanted wanted_words count is lent_is items_are wanted_are each =
+    let one : IsUnitedIn (set_of words count) row wanted (set_of new count) = record {
+      same_length = length-set_of new count ∙ sym (length-set_of words count);
+      each = λ j h.
+          let within : j < count = omega (arith, length-set_of words count) in
+          set_of_at new count j within ∙ each j ∙ ap (λ (ws : List ℕ). has ws j || (names row j && has wanted_words j)) lent_is
+          ∙ ap (λ (b : Bool). has words j || (names row j && b)) (wanted_are j within)
+          ∙ ap (λ (b : Bool). b || (names row j && get_or wanted j false)) (sym (set_of_at words count j within));
+    } in
+    let two : IsUnitedIn old row wanted (set_of new count) = subst (λ (s : List Bool). IsUnitedIn s row wanted (set_of new count)) is one in
+    subst (λ (ws : List ℕ). IsUnitedIn old row wanted (set_of ws count)) (sym items_are) two

@@ -1,5 +1,5 @@
 -- Rows of masks that are united into a set of kernels.
-use Rattle.std.proofs.Common.{◌≡◌, ℕ, ◌+◌, ◌*◌, ◌/◌, ◌<◌, ◌≤◌, Bool, true, false, ◌||◌, List, [], ◌∷◌, length, get_or, map, take, refl, sym, ◌∙◌, ap, subst, arith}
+use Rattle.std.proofs.Common.{◌≡◌, ℕ, ◌+◌, ◌*◌, ◌/◌, ◌<◌, ◌≤◌, Bool, true, false, ◌||◌, ◌&&◌, List, [], ◌∷◌, length, get_or, map, take, refl, sym, ◌∙◌, ap, subst, arith}
 use Rattle.std.specs.List.{list_any, range_with_len}
 use Rattle.std.specs.Prelude.{Vec, All}
 use Rattle.std.specs.declared.alloc.Global.{Global}
@@ -12,7 +12,7 @@ use Rattle.moved_set.specs.Sets.{Naming, set_at}
 use Rattle.moved_set.specs.Words.{names}
 use Rattle.moved_set.specs.Building.{AreWithin}
 use Rattle.moved_set.specs.Rows.{row_at}
-use Rattle.moved_set.specs.Asked.{IsUnited}
+use Rattle.moved_set.specs.Asked.{IsUnited, IsUnitedIn}
 use Rattle.moved_set.specs.Asking.{masks_at, some_uses, asks, asked_sets, IsAsked}
 use Rattle.moved_set.proofs.AskedLaws.{or_false}
 
@@ -91,3 +91,62 @@ pub list_inside : (lists_of : List (Vec ℕ Global)) (count users v i : ℕ) (li
     → ((v : ℕ) → v < count → All (λ l. l < users) (row_at lists_of v)) → lists ≡ row_at lists_of v → i < length lists → get_or lists i 0 < users
 list_inside lists_of count users v i lists h there is k =
     subst (λ (ls : List ℕ). get_or ls i 0 < users) (sym is) (there v h i 0 (subst (λ (ls : List ℕ). i < length ls) is k))
+
+-- ---- the same of those in a wanted set
+
+or_none_of : (n : Bool) → n ≡ (n || false)
+or_none_of true = refl
+or_none_of false = refl
+
+pub asked_in_own : (old new : List Bool) (row : List Mask) (users : List (List Mask)) (wanted : List Bool) → IsUnitedIn old row wanted new → IsAsked old (λ j. (names row j || some_uses users j []) && get_or wanted j false) new
+asked_in_own old new row users wanted united = record {
+  same_length = united.same_length;
+  each = λ j h. united.each j h ∙ ap (λ (b : Bool). get_or old j false || (b && get_or wanted j false)) (or_none_of (names row j));
+}
+
+or_and_more : (o a s n w : Bool) → ((o || ((a || s) && w)) || (n && w)) ≡ (o || ((a || (s || (n || false))) && w))
+or_and_more true a s n w = refl
+or_and_more false true s n true = refl
+or_and_more false true s true false = refl
+or_and_more false true s false false = refl
+or_and_more false false true n true = refl
+or_and_more false false true true false = refl
+or_and_more false false true false false = refl
+or_and_more false false false true true = refl
+or_and_more false false false true false = refl
+or_and_more false false false false true = refl
+or_and_more false false false false false = refl
+
+pub asked_in_list : (old mid new : List Bool) (own : List Mask) (users : List (List Mask)) (lists : List ℕ) (wanted : List Bool) (i : ℕ) (row : List Mask) → i < length lists
+    → row ≡ masks_at users (get_or lists i 0) → IsAsked old (λ j. (names own j || some_uses users j (take i lists)) && get_or wanted j false) mid → IsUnitedIn mid row wanted new
+    → IsAsked old (λ j. (names own j || some_uses users j (take (i + 1) lists)) && get_or wanted j false) new
+asked_in_list old mid new own users lists wanted i row h row_is asked united = record {
+  same_length = united.same_length ∙ asked.same_length;
+  each = λ j k.
+      let uses : ℕ → Bool = λ l. names (masks_at users l) j in
+      let l : ℕ = get_or lists i 0 in
+      let more : some_uses users j (take (i + 1) lists) ≡ (some_uses users j (take i lists) || (uses l || false)) =
+      ap (list_any uses) (take_more lists i 0 h) ∙ list_any-append uses (take i lists) (l ∷ []) in
+      let one : names row j ≡ uses l = ap (λ (r : List Mask). names r j) row_is in
+      let len = asked.same_length in
+      united.each j (omega arith)
+      ∙ ap (λ (b : Bool). b || (names row j && get_or wanted j false)) (asked.each j k)
+      ∙ ap (λ (b : Bool). (get_or old j false || ((names own j || some_uses users j (take i lists)) && get_or wanted j false)) || (b && get_or wanted j false)) one
+      ∙ or_and_more (get_or old j false) (names own j) (some_uses users j (take i lists)) (uses l) (get_or wanted j false)
+      ∙ ap (λ (b : Bool). get_or old j false || ((names own j || b) && get_or wanted j false)) (sym more);
+}
+
+pub asked_in_all : (old new : List Bool) (own : List (List Mask)) (lists_of : List (Vec ℕ Global)) (users : List (List Mask)) (count kernels v : ℕ) (shapes : List Shape) (naming : Naming) (row : List Mask) (lists : List ℕ) (wanted : List Bool)
+    → record { count = count; sets = asked_sets own lists_of users count kernels; shapes = shapes } ≡ naming → v < count → length old ≡ length naming.sets
+    → row ≡ masks_at own v → lists ≡ row_at lists_of v → IsAsked old (λ j. (names row j || some_uses users j lists) && get_or wanted j false) new
+    → IsAsked old (λ j. get_or (set_at naming j) v false && get_or wanted j false) new
+asked_in_all old new own lists_of users count kernels v shapes naming row lists wanted is h len row_is lists_is asked = record {
+  same_length = asked.same_length;
+  each = λ j k.
+      let size : length naming.sets ≡ kernels = ap (λ (n : Naming). length n.sets) (sym is) ∙ sets_length own lists_of users count kernels in
+      let one : (names row j || some_uses users j lists) ≡ asks own lists_of users v j =
+      ap (λ (r : List Mask). names r j || some_uses users j lists) row_is ∙ ap (λ (ls : List ℕ). names (masks_at own v) j || some_uses users j ls) lists_is in
+      let two : asks own lists_of users v j ≡ get_or (set_at naming j) v false =
+      sym (set_has own lists_of users count kernels j v (omega arith) h) ∙ ap (λ (n : Naming). get_or (set_at n j) v false) is in
+      asked.each j k ∙ ap (λ (b : Bool). get_or old j false || (b && get_or wanted j false)) (one ∙ two);
+}

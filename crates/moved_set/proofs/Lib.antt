@@ -11,3 +11,4 @@ pub mod AskedLaws
 pub mod AskingLaws
 pub mod ClauseLists
 pub mod EquationLists
+pub mod LayerLaws

@@ -52,12 +52,11 @@ has_bit-or a b k = ap (λ (n : ℕ). n == 1) (bit_at_or a b k) ∙ max_bit (bit_
 -- ---- sets that change
 
 -- a variable whose bit is set
-pub set_of_marked : (words : List ℕ) (count v : ℕ) → v < count → length words ≡ (count + 31) / 32
+pub set_of_put : (words : List ℕ) (count v : ℕ) → v < count → v / 32 < length words
     → set_of (set words (v / 32) (bit_or (get_or words (v / 32) 0) (1 * 2 ^ (v % 32) % 2 ^ 32))) count ≡ set (set_of words count) v true
-set_of_marked words count v h len =
+set_of_put words count v h there =
     let place : ℕ = v / 32 in
     let word : ℕ = bit_or (get_or words place 0) (1 * 2 ^ (v % 32) % 2 ^ 32) in
-    let there : place < length words = word_there count v (length words) h len in
     let low : v % 32 < 32 = omega arith in
     let inside : v < length (set_of words count) = omega (arith, length-set_of words count) in
     let same : (i : ℕ) → i ≡ v → has (set words place word) i ≡ get_or (set (set_of words count) v true) i false =
@@ -81,6 +80,10 @@ set_of_marked words count v h len =
     λ i within ne. kept i within ne ∙ sym (get_or-set_other (set_of words count) v i true false ne ∙ set_of_at words count i within) in
     set_of_is (set words place word) count (set (set_of words count) v true) (length-set (set_of words count) v true ∙ length-set_of words count)
     (λ i within. ⊎_elim (same i) (other i within) (cases_eq i v))
+
+pub set_of_marked : (words : List ℕ) (count v : ℕ) → v < count → length words ≡ (count + 31) / 32
+    → set_of (set words (v / 32) (bit_or (get_or words (v / 32) 0) (1 * 2 ^ (v % 32) % 2 ^ 32))) count ≡ set (set_of words count) v true
+set_of_marked words count v h len = set_of_put words count v h (word_there count v (length words) h len)
 
 -- words that are all alike
 pub set_of_filled : (count len word : ℕ) (bit : Bool) → len ≡ (count + 31) / 32 → ((k : ℕ) → k < 32 → has_bit word k ≡ bit) → set_of (replicate len word) count ≡ replicate count bit

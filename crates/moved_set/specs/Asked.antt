@@ -1,5 +1,5 @@
 -- Sets of kernels: the next one in a sweep, and a set with a row more.
-use Rattle.std.specs.Prelude.{◌≡◌, ℕ, ◌+◌, ◌-◌, ◌*◌, ◌<◌, ◌≤◌, Bool, true, false, ◌||◌, List, length, min, slice_index_or}
+use Rattle.std.specs.Prelude.{◌≡◌, ℕ, ◌+◌, ◌-◌, ◌*◌, ◌<◌, ◌≤◌, Bool, true, false, ◌||◌, ◌&&◌, List, length, min, slice_index_or}
 use Rattle.moved_set.specs.Words.{has_bit, names}
 use Rattle.moved_set.specs.declared.mask.Mask.{Mask}
 
@@ -36,3 +36,8 @@ pub record IsGreatestAt (bits place result : ℕ) : Type 0 where
 pub record IsUnited (old : List Bool) (row : List Mask) (new : List Bool) : Type 0 where
   pub same_length : length new ≡ length old
   pub each : (j : ℕ) → j < length old → slice_index_or new j false ≡ (slice_index_or old j false || names row j)
+
+-- the set has those numbers of the masks that are in the wanted set, besides what it had
+pub record IsUnitedIn (old : List Bool) (row : List Mask) (wanted new : List Bool) : Type 0 where
+  pub same_length : length new ≡ length old
+  pub each : (j : ℕ) → j < length old → slice_index_or new j false ≡ (slice_index_or old j false || (names row j && slice_index_or wanted j false))

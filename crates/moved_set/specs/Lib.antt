@@ -10,3 +10,5 @@ pub mod Rows
 pub mod Asked
 pub mod Asking
 pub mod ConsistentAsked
+pub mod Layers
+pub mod ConsistentLayers

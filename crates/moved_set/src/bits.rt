@@ -1,6 +1,6 @@
 //! Bits of words.
 
-ghost use Rattle.std.specs.Prelude.{◌≡◌, ◌≢◌, ◌<◌, ◌≤◌, ◌+◌, ◌*◌, ◌/◌, ◌||◌, ℕ, false, length, All};
+ghost use Rattle.std.specs.Prelude.{◌≡◌, ◌≢◌, ◌<◌, ◌≤◌, ◌+◌, ◌*◌, ◌/◌, ◌||◌, ◌&&◌, ℕ, false, length, All};
 ghost use Rattle.moved_set.specs.Words.{has, has_bit, hits, names};
 ghost use Rattle.moved_set.specs.Asked.{IsFirst, IsLast, IsLeastAt, IsGreatestAt};
 
@@ -95,6 +95,37 @@ pub(crate) fn unite_masks(words: &mut [u32], row: &[Mask])
     for mask in row {
         unite_mask(words, *mask);
     }
+}
+
+/// Gives each word the bits of the masks of its place too, as far as the other words have them.
+pub(crate) fn unite_masks_in(words: &mut [u32], row: &[Mask], wanted: &[u32])
+    requires row { All (λ m. m.place < length words.old) row.now }
+    requires wanted { All (λ m. m.place < length wanted.now) row.now }
+    ensures { (j : ℕ) → has words.new j ≡ (has words.old j || (names row.now j && has wanted.now j)) }
+{
+    for mask in row {
+        unite_mask(words, common(*mask, wanted));
+    }
+}
+
+/// What the mask has in common with the words.
+fn common(mask: Mask, words: &[u32]) -> Mask
+    requires { mask.place < length words.now }
+    ensures place { result.place ≡ mask.place }
+    ensures hits { (j : ℕ) → hits j result ≡ (hits j mask && has words.now j) }
+{
+    Mask {
+        place: mask.place,
+        bits: mask.bits & words[mask.place as usize],
+    }
+}
+
+/// Whether the bit of a number is 1.
+pub(crate) fn has_bit_at(words: &[u32], j: usize) -> bool
+    requires { j / 32 < length words.now }
+    ensures { result ≡ has words.now j }
+{
+    (words[j / 32] >> (j % 32)) & 1 == 1
 }
 
 /// Gives the word of a mask its bits too.

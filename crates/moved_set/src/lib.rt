@@ -12,7 +12,9 @@ mod parts;
 mod rows;
 mod set;
 mod shapes;
+mod trailed_set;
 
 pub use asked::AskedSet;
 pub use masks::Masks;
 pub use set::MovedSet;
+pub use trailed_set::TrailedSet;

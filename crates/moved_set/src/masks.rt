@@ -1,7 +1,7 @@
 //! For each variable the kernels that name it, as masks: those of which it is an own variable, and those that have a list
 //! that it is in, which stand once for each list.
 
-ghost use Rattle.std.specs.Prelude.{◌≡◌, ◌<◌, ◌^◌, ℕ, false, length, slice_index_or, All, IfOk};
+ghost use Rattle.std.specs.Prelude.{◌≡◌, ◌<◌, ◌^◌, ◌&&◌, ℕ, false, length, slice_index_or, All, IfOk};
 ghost use Rattle.std.specs.Bool.{OnTrue};
 ghost use Rattle.guarded_tell.specs.Kernels.{IsKernel};
 ghost use Rattle.guarded_tell.specs.Shapes.{AreShapesOf};
@@ -14,6 +14,7 @@ use crate::groups::Groups;
 use crate::parts::parts_of;
 use crate::rows::Rows;
 use crate::shapes::shapes_of;
+use crate::trailed_set::TrailedSet;
 use guarded_tell::{Kernel, Shape};
 use interval::NoMemory;
 use std::alloc::Global;
@@ -93,6 +94,20 @@ impl Masks {
         asked.unite(self.own.group(place));
         for list in &self.lists_of[place] {
             asked.unite(self.users.group(*list as usize));
+        }
+    }
+
+    /// Puts those kernels that name the variable and are in the wanted set into the set too.
+    pub fn ask_in(&self, v: u32, wanted: &TrailedSet, asked: &mut AskedSet)
+        requires variable { v < self.now.count }
+        requires set { length asked.old ≡ length self.now.sets }
+        requires wanted { length wanted.now.current ≡ length self.now.sets }
+        ensures { IsAsked asked.old (λ j. slice_index_or (set_at self.now j) v false && slice_index_or wanted.now.current j false) asked.new }
+    {
+        let place = v as usize;
+        asked.unite_in(self.own.group(place), wanted);
+        for list in &self.lists_of[place] {
+            asked.unite_in(self.users.group(*list as usize), wanted);
         }
     }
 }

@@ -1,6 +1,5 @@
 -- Each kernel's shape is put behind those of the kernels before it.
-use Rattle.std.proofs.Common.{ℕ, List, length, ◌+◌, refl, sym, subst, arith}
-use Rattle.guarded_tell.specs.declared.shape.Shape.{Shape}
+use Rattle.std.proofs.Common.{◌+◌, sym, subst, arith}
 use Rattle.guarded_tell.specs.Kernels.{HasNumbers}
 use Rattle.moved_set.proofs.ShapeRows.{AreFirstShapes, shapes_more}
 use Rattle.moved_set.proofs.shapes.shapes_of.Goals as goal

@@ -45,4 +45,6 @@ pub mod ClauseQuiet
 pub mod ShapeQuiet
 pub mod ProductQuiet
 pub mod ShortTellLaws
+pub mod SlightLaws
+pub mod GrowthLaws
 pub mod ShortSumLaws

@@ -84,14 +84,14 @@ module _ (quotients : QuotientOrder) (clamped : ClampOrder) (b : Bounds) where
       let rise = clamped.rises (high_of b x) (floor_of r a) le in omega (arith, ints))))
 
   -- so where its greatest value is within the room, or the demand within its least
-  at_most_wide : (x : ℕ) (a r : ℤ) → IsBound (low_of b x) → IsBound (high_of b x) → greatest_of b (a, x) ≤ℤ r → All (Keeps b) (product_at_most x a r)
+  pub at_most_wide : (x : ℕ) (a r : ℤ) → IsBound (low_of b x) → IsBound (high_of b x) → greatest_of b (a, x) ≤ℤ r → All (Keeps b) (product_at_most x a r)
   unfolding greatest_of
   at_most_wide x a r low_bound high_bound h =
       let low : (low_of b x *ℤ a) ≤ℤ r = omega (arith, ints, clamps) in
       let high : (high_of b x *ℤ a) ≤ℤ r = omega (arith, ints, clamps) in
       at_most_kept x a r (λ s. (high_bound, high)) (λ s. (low_bound, low))
 
-  at_least_wide : (x : ℕ) (a r : ℤ) → IsBound (low_of b x) → IsBound (high_of b x) → r ≤ℤ least_of b (a, x) → All (Keeps b) (product_at_least x a r)
+  pub at_least_wide : (x : ℕ) (a r : ℤ) → IsBound (low_of b x) → IsBound (high_of b x) → r ≤ℤ least_of b (a, x) → All (Keeps b) (product_at_least x a r)
   unfolding least_of
   at_least_wide x a r low_bound high_bound h =
       let low : r ≤ℤ (low_of b x *ℤ a) = omega (arith, ints, clamps) in

@@ -1,21 +1,18 @@
 -- Shapes and the kernels that they are of.
-use Rattle.std.proofs.Common.{◌≡◌, ℕ, zero, suc, ◌<◌, List, [], ◌∷◌, ◌++◌, length, get_or, ℤ, pos, negsuc, ◌≤ℤ◌, ◌⊎◌, inl, inr, ⊎_elim, Option, None, Some, refl, sym, ap, subst, ◌∙◌, arith}
+use Rattle.std.proofs.Common.{◌≡◌, ℕ, ◌<◌, List, [], ◌∷◌, ◌++◌, length, get_or, ℤ, pos, inl, inr, Option, Bool, true, false, cond, refl, sym, ap, subst, ◌∙◌, arith}
 use Rattle.std.specs.Prelude.{MatchOption}
 use Rattle.std.proofs.lemmas.List.{get_or_default}
 use mir.Val.{to_z, of_z}
 use mir.Syntax.{w64}
 use Rattle.tells.specs.declared.tell.Lit.{Lit}
-use Rattle.interval.specs.Limits.{IsNumber}
-use Rattle.interval.specs.Boxes.{Bounds, low_of, high_of}
-use Rattle.guarded_tell.specs.Words.{AreVariables, IsProperIn}
 use Rattle.guarded_tell.specs.Linear.{IsLinear}
-use Rattle.guarded_tell.specs.Clause.{clause_vars}
 use Rattle.guarded_tell.specs.declared.kernel.Kernel.{Kernel}
 use Rattle.guarded_tell.specs.declared.kernel.Kernel.TheVariants.{Le, Eq, Times, Div, Mod, Abs, Max, Min, Clause, Element, InSet, AllDiff, Cumulative}
 use Rattle.guarded_tell.specs.declared.shape.Shape.{Shape}
-use Rattle.guarded_tell.specs.declared.shape.Shape.TheVariants.{AtMost, Same, Either, Other}
-use Rattle.guarded_tell.specs.Kernels.{vars_of, HasNumbers, IsKernel}
-use Rattle.guarded_tell.specs.Shapes.{IsDifference, IsShapeOf}
+use Rattle.guarded_tell.specs.declared.shape.Shape.TheVariants.{AtMost, Same, Either, Slight, Other}
+use Rattle.guarded_tell.specs.Kernels.{HasNumbers}
+use Rattle.guarded_tell.specs.Shapes.{IsDifference, IsSlightSum, IsShapeOf}
+use Rattle.guarded_tell.specs.Slight.{AreSlight}
 use Rattle.guarded_tell.proofs.ShortLaws.{short_number}
 
 -- a list of two items
@@ -93,7 +90,7 @@ literals_of (Cumulative starts durations usages limit) = []
 
 -- ---- no short shape is of a kernel that is no difference, and of another kernel
 
-module _ (l : Lit) (coeffs : List ℤ) (vars : List ℕ) (limit : ℤ) (none : (x y : ℕ) → IsDifference coeffs vars x y → ⊥) where
+module _ (l : Lit) (coeffs : List ℤ) (vars : List ℕ) (limit : ℤ) (none : (x y : ℕ) → IsDifference coeffs vars x y → ⊥) (rough : AreSlight coeffs → ⊥) where
   no_difference : (cs : List ℤ) (vs : List ℕ) (x y : ℕ) → coeffs ≡ cs → vars ≡ vs → IsDifference cs vs x y → ⊥
   no_difference cs vs x y e f d = none x y (subst (λ (c : List ℤ). IsDifference c vars x y) (sym e) (subst (λ (v : List ℕ). IsDifference cs v x y) (sym f) d))
 
@@ -102,6 +99,8 @@ module _ (l : Lit) (coeffs : List ℤ) (vars : List ℕ) (limit : ℤ) (none : (
   other_inequality k e (AtMost m x y bound) (cs, vs, f, d) = absurd (no_difference cs vs x y (ap coeffs_of (sym e ∙ f)) (ap terms_of (sym e ∙ f)) d)
   other_inequality k e (Same m x y bound) (cs, vs, f, d) = absurd (cc)
   other_inequality k e (Either m n) f = absurd (cc)
+  other_inequality k e Slight (m, cs, vs, bound, inl f, s) = absurd (rough (subst AreSlight (ap coeffs_of (sym f ∙ e)) s))
+  other_inequality k e Slight (m, cs, vs, bound, inr f, s) = absurd (cc)
   other_inequality k e Other f = refl
 
   pub other_equation : (k : Kernel) → k ≡ Eq l coeffs vars limit → (s : Shape) → IsShapeOf k s → s ≡ Other
@@ -109,6 +108,8 @@ module _ (l : Lit) (coeffs : List ℤ) (vars : List ℕ) (limit : ℤ) (none : (
   other_equation k e (AtMost m x y bound) (cs, vs, f, d) = absurd (cc)
   other_equation k e (Same m x y bound) (cs, vs, f, d) = absurd (no_difference cs vs x y (ap coeffs_of (sym e ∙ f)) (ap terms_of (sym e ∙ f)) d)
   other_equation k e (Either m n) f = absurd (cc)
+  other_equation k e Slight (m, cs, vs, bound, inl f, s) = absurd (cc)
+  other_equation k e Slight (m, cs, vs, bound, inr f, s) = absurd (rough (subst AreSlight (ap coeffs_of (sym f ∙ e)) s))
   other_equation k e Other f = refl
 
 pub other_clause : (lits : List Lit) → (length lits ≡ 2 → ⊥) → (s : Shape) → IsShapeOf (Clause lits) s → s ≡ Other
@@ -116,6 +117,8 @@ unfolding IsShapeOf literals_of
 other_clause lits n (AtMost m x y bound) (cs, vs, f, d) = absurd (cc)
 other_clause lits n (Same m x y bound) (cs, vs, f, d) = absurd (cc)
 other_clause lits n (Either l m) f = absurd (n (ap (λ (k : Kernel). length (literals_of k)) f))
+other_clause lits n Slight (m, cs, vs, bound, inl f, s) = absurd (cc)
+other_clause lits n Slight (m, cs, vs, bound, inr f, s) = absurd (cc)
 other_clause lits n Other f = refl
 
 pub any_is_other : (k : Kernel) → IsShapeOf k Other
@@ -128,7 +131,20 @@ unfolding IsShapeOf
 other_kernel k p q r (AtMost m x y bound) (cs, vs, f, d) = absurd (p m cs vs bound f)
 other_kernel k p q r (Same m x y bound) (cs, vs, f, d) = absurd (q m cs vs bound f)
 other_kernel k p q r (Either l m) f = absurd (r (l ∷ m ∷ []) f)
+other_kernel k p q r Slight (m, cs, vs, bound, inl f, s) = absurd (p m cs vs bound f)
+other_kernel k p q r Slight (m, cs, vs, bound, inr f, s) = absurd (q m cs vs bound f)
 other_kernel k p q r Other f = refl
+
+-- ---- the shape of a sum that is no difference
+
+pub sum_made : (k : Kernel) (t : Bool) (r : Shape) → (t ≡ true → IsSlightSum k) → r ≡ cond t Slight Other → IsShapeOf k r
+unfolding IsShapeOf
+sum_made k true r h e = let P : Shape → Type 0 = λ s. IsShapeOf k s in subst P (sym e) (h refl)
+sum_made k false r h e = let P : Shape → Type 0 = λ s. IsShapeOf k s in subst P (sym e) tt
+
+pub sum_rough : (coeffs : List ℤ) (t : Bool) (r : Shape) → (AreSlight coeffs → t ≡ true) → r ≡ cond t Slight Other → r ≡ Other → AreSlight coeffs → ⊥
+sum_rough coeffs true r h e f s = absurd (cc)
+sum_rough coeffs false r h e f s = absurd (let t = h s in cc)
 
 -- ---- the short shape of a difference, by what the code reads
 
@@ -163,3 +179,14 @@ coefficients_read cs (a ∷ []) vs last limit linear e h =
     let first = short_number a (made.coefficients 0 (omega arith)) in
     let second = short_number last (made.coefficients 1 (omega arith)) in
     e ∙ (λ i. sym first i ∷ sym second i ∷ [])
+
+-- a sum of that shape has slight coefficients
+pub slight_inequality : (k : Kernel) (l : Lit) (coeffs : List ℤ) (vars : List ℕ) (limit : ℤ) → IsSlightSum k → k ≡ Le l coeffs vars limit → AreSlight coeffs
+unfolding coeffs_of
+slight_inequality k l coeffs vars limit (m, cs, vs, bound, inl f, s) e = subst AreSlight (ap coeffs_of (sym f ∙ e)) s
+slight_inequality k l coeffs vars limit (m, cs, vs, bound, inr f, s) e = absurd (cc)
+
+pub slight_equation : (k : Kernel) (l : Lit) (coeffs : List ℤ) (vars : List ℕ) (limit : ℤ) → IsSlightSum k → k ≡ Eq l coeffs vars limit → AreSlight coeffs
+unfolding coeffs_of
+slight_equation k l coeffs vars limit (m, cs, vs, bound, inl f, s) e = absurd (cc)
+slight_equation k l coeffs vars limit (m, cs, vs, bound, inr f, s) e = subst AreSlight (ap coeffs_of (sym f ∙ e)) s

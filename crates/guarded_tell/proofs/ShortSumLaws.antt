@@ -34,7 +34,7 @@ two_tells b p q p' q' t u t' u' e f g h =
     ∙ (λ i. narrowing b (when (sym e i) (sym g i ∷ [])) ++ narrowing b (when (sym f i) (sym h i ∷ [])))
 
 -- no term is told anything
-none_told : (b : Bounds) (ts : List Term) → flat_map (λ (t : Term). narrowing b (room_tells b any_room t)) ts ≡ []
+pub none_told : (b : Bounds) (ts : List Term) → flat_map (λ (t : Term). narrowing b (room_tells b any_room t)) ts ≡ []
 none_told b [] = refl
 none_told b (t ∷ ts) = none_told b ts
 

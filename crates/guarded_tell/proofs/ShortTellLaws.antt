@@ -27,7 +27,7 @@ product_rises (pos n) l z s h =
     omega (arith, ints, mul-le-mul_left n one)
 product_rises (negsuc n) l z s h = absurd (omega (arith, ints))
 
-product_falls : (a l z : ℤ) → a <ℤ pos 0 → l ≤ℤ z → (a *ℤ z) ≤ℤ (a *ℤ l)
+pub product_falls : (a l z : ℤ) → a <ℤ pos 0 → l ≤ℤ z → (a *ℤ z) ≤ℤ (a *ℤ l)
 product_falls (pos n) l z s h = absurd (omega (arith, ints))
 product_falls (negsuc n) l z s h =
     let one : up l + down z ≤ up z + down l = omega (arith, ints) in
@@ -39,28 +39,28 @@ plus_times y z a =
     let e : up (y +ℤ z) + (down y + down z) ≡ down (y +ℤ z) + (up y + up z) = omega (arith, ints) in
     omega (arith, ints, ap (λ (n : ℕ). n * up a) e, ap (λ (n : ℕ). n * down a) e)
 
-minus_times : (y z a : ℤ) → (y -ℤ z) *ℤ a ≡ y *ℤ a -ℤ z *ℤ a
+pub minus_times : (y z a : ℤ) → (y -ℤ z) *ℤ a ≡ y *ℤ a -ℤ z *ℤ a
 minus_times y z a =
     let e : up (y -ℤ z) + (down y + up z) ≡ down (y -ℤ z) + (up y + down z) = omega (arith, ints) in
     omega (arith, ints, ap (λ (n : ℕ). n * up a) e, ap (λ (n : ℕ). n * down a) e)
 
-times_opposite : (z a : ℤ) → z *ℤ (pos 0 -ℤ a) ≡ pos 0 -ℤ z *ℤ a
+pub times_opposite : (z a : ℤ) → z *ℤ (pos 0 -ℤ a) ≡ pos 0 -ℤ z *ℤ a
 times_opposite z a = let e = minus_times (pos 0) a z in omega (arith, ints)
 
 module _ (b : Bounds) (a : ℤ) (x : ℕ) (proper : low_of b x ≤ℤ high_of b x) where
-  least_above : pos 0 <ℤ a → least_of b (a, x) ≡ a *ℤ low_of b x
+  pub least_above : pos 0 <ℤ a → least_of b (a, x) ≡ a *ℤ low_of b x
   unfolding least_of
   least_above s = let r = product_rises a (low_of b x) (high_of b x) s proper in omega (arith, ints, clamps)
 
-  least_below : a <ℤ pos 0 → least_of b (a, x) ≡ a *ℤ high_of b x
+  pub least_below : a <ℤ pos 0 → least_of b (a, x) ≡ a *ℤ high_of b x
   unfolding least_of
   least_below s = let r = product_falls a (low_of b x) (high_of b x) s proper in omega (arith, ints, clamps)
 
-  greatest_above : pos 0 <ℤ a → greatest_of b (a, x) ≡ a *ℤ high_of b x
+  pub greatest_above : pos 0 <ℤ a → greatest_of b (a, x) ≡ a *ℤ high_of b x
   unfolding greatest_of
   greatest_above s = let r = product_rises a (low_of b x) (high_of b x) s proper in omega (arith, ints, clamps)
 
-  greatest_below : a <ℤ pos 0 → greatest_of b (a, x) ≡ a *ℤ low_of b x
+  pub greatest_below : a <ℤ pos 0 → greatest_of b (a, x) ≡ a *ℤ low_of b x
   unfolding greatest_of
   greatest_below s = let r = product_falls a (low_of b x) (high_of b x) s proper in omega (arith, ints, clamps)
 

@@ -19,5 +19,6 @@ pub mod Kernels
 pub mod Narrowing
 pub mod Short
 pub mod ShortTells
+pub mod Slight
 pub mod Shapes
 pub mod Products

@@ -3,11 +3,12 @@ use Rattle.std.specs.Prelude.{◌≡◌, ◌⊎◌, ℕ, ℤ, pos, negsuc, Bool,
 use Rattle.interval.specs.Boxes.{Bounds}
 use Rattle.guarded_tell.specs.Words.{Lit, is_sure, is_out}
 use Rattle.guarded_tell.specs.Short.{IsTermOf}
+use Rattle.guarded_tell.specs.Slight.{AreSlight}
 use Rattle.guarded_tell.specs.declared.pairs.Pair.{Pair}
 use Rattle.guarded_tell.specs.declared.kernel.Kernel.{Kernel}
 use Rattle.guarded_tell.specs.declared.kernel.Kernel.TheVariants.{Le, Eq, Clause}
 use Rattle.guarded_tell.specs.declared.shape.Shape.{Shape}
-use Rattle.guarded_tell.specs.declared.shape.Shape.TheVariants.{AtMost, Same, Either, Other}
+use Rattle.guarded_tell.specs.declared.shape.Shape.TheVariants.{AtMost, Same, Either, Slight, Other}
 
 -- the sum of these terms is x - y
 abbrev pub IsDifference : List ℤ → List ℕ → ℕ → ℕ → Type 0
@@ -22,11 +23,16 @@ IsAtMostOf k l x y limit = (coeffs : List ℤ) × (vars : List ℕ) × (k ≡ Le
 abbrev pub IsSameOf : Kernel → Lit → ℕ → ℕ → ℤ → Type 0
 IsSameOf k l x y limit = (coeffs : List ℤ) × (vars : List ℕ) × (k ≡ Eq l coeffs vars limit) × IsDifference coeffs vars x y
 
+-- the kernel is a sum with slight coefficients
+abbrev pub IsSlightSum : Kernel → Type 0
+IsSlightSum k = (l : Lit) × (coeffs : List ℤ) × (vars : List ℕ) × (limit : ℤ) × ((k ≡ Le l coeffs vars limit) ⊎ (k ≡ Eq l coeffs vars limit)) × AreSlight coeffs
+
 -- which kernels a shape is of
 unfoldable pub IsShapeOf : Kernel → Shape → Type 0
 IsShapeOf k (AtMost l x y limit) = IsAtMostOf k l x y limit
 IsShapeOf k (Same l x y limit) = IsSameOf k l x y limit
 IsShapeOf k (Either l m) = k ≡ Clause (l ∷ m ∷ [])
+IsShapeOf k Slight = IsSlightSum k
 IsShapeOf k Other = Unit {0}
 
 -- each shape is of the kernel at its place

@@ -57,6 +57,17 @@ pub record HasOneMore (before : Sums) (t : SmallTerm) (s : Sums) : Type 0 where
 abbrev pub growth_of : Bounds → ℤ → ℕ → ℤ
 growth_of b coeff var = greatest_of b (coeff, var) -ℤ least_of b (coeff, var)
 
+-- what a term of a sum grows by fits 64 bits
+unfoldable pub growth_limit : ℕ
+growth_limit = 9223372036854775807
+
+pub record IsShortGrowth (b : Bounds) (coeff : ℤ) (var : ℕ) : Type 0 where
+  pub bounds : HasBounds b var
+  pub short : growth_of b coeff var ≤ℤ pos growth_limit
+
+pub record AreShortGrowths (b : Bounds) (coeffs : List ℤ) (vars : List ℕ) : Type 0 where
+  pub each : (i : ℕ) → i < length coeffs → IsShortGrowth b (slice_index_or coeffs i (pos 0)) (slice_index vars i)
+
 -- the sums of all least and of all greatest values of some terms, none of which grows by more than `widest`
 pub record AreSums (b : Bounds) (coeffs : List ℤ) (vars : List ℕ) (s : Sums) : Type 0 where
   pub least : s.least ≡ sum_over (least_of b) (zip coeffs vars)

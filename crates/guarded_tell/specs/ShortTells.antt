@@ -1,6 +1,6 @@
 -- The tells of a sum whose least and greatest values are formed first: what these leave to the limit is the room by which
 -- each term may rise above its least value, or fall below its greatest.
-use Rattle.std.specs.Prelude.{ℤ, pos, ◌+ℤ◌, ◌-ℤ◌, cond, Option, None, Some, List, [], ◌++◌}
+use Rattle.std.specs.Prelude.{ℤ, pos, ◌+ℤ◌, ◌-ℤ◌, ◌≤ℤ◌, IfSome, cond, Option, None, Some, List, [], ◌++◌}
 use Rattle.tells.specs.declared.tell.Lit.{Lit}
 use Rattle.tells.specs.declared.tell.Tell.{Tell}
 use Rattle.interval.specs.Boxes.{Bounds}
@@ -26,6 +26,11 @@ room_tells b room t = rise_tells b room.rise t ++ fall_tells b room.fall t
 -- where nothing is demanded of a sum
 abbrev pub any_room : Room
 any_room = record { rise = None; fall = None }
+
+-- a term may rise and fall by no less than the slack
+pub record IsSlackOf (room : Room) (slack : ℤ) : Type 0 where
+  pub rise : IfSome room.rise (λ rise. slack ≤ℤ rise)
+  pub fall : IfSome room.fall (λ fall. slack ≤ℤ fall)
 
 -- the sum is to be at most the limit where the literal is sure, and more where it is out
 unfoldable pub room_at_most : Bounds → Lit → ℤ → Sums → Room

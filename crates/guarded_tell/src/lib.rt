@@ -25,6 +25,8 @@ mod shape;
 mod short;
 mod short_sum;
 mod short_terms;
+mod slight;
+mod slight_sum;
 mod terms;
 mod times;
 mod visit;

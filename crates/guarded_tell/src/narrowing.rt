@@ -7,7 +7,7 @@ ghost use Rattle.guarded_tell.specs.Words.{IsProperIn, Keeps};
 ghost use Rattle.guarded_tell.specs.Hearing.{MayHearAll, HearsAll};
 ghost use Rattle.guarded_tell.specs.Linear.{product_at_most, product_at_least};
 ghost use Rattle.guarded_tell.specs.Kernels.{vars_of, tells, IsKernel};
-ghost use Rattle.guarded_tell.specs.Shapes.{IsShapeOf};
+ghost use Rattle.guarded_tell.specs.Shapes.{IsShapeOf, IsSlightSum};
 ghost use Rattle.guarded_tell.specs.Narrowing.{narrowing, narrowing_tells};
 ghost use Rattle.guarded_tell.specs.Narrowing as words;
 
@@ -16,12 +16,41 @@ use crate::products::is_product_quiet;
 use crate::quiet::{Hint, is_clause_quiet};
 use crate::shape::{Shape, difference, is_either_quiet};
 use crate::short_sum::{narrow_at_most, narrow_equation};
+use crate::slight_sum::is_slight_given;
 use crate::{Hear, Kernel, Side, Tell, law_tell_place, visit_tells};
 use global_tells::{is_all_different_quiet, is_cumulative_quiet};
 use interval::{BoxOf, law_clamp_order, law_quotient_order};
 
 /// Gives the tells of the kernel that narrow the box to `h`, each once and in order. It takes no memory.
+#[tactic(auto, unfolding(crate::specs::Shapes::IsShapeOf))]
 pub fn visit_narrowing<H: Hear>(k: &Kernel, shape: &Shape, b: &BoxOf, hint: &mut Hint, h: &mut H)
+    requires kernel { IsKernel (length b.now) k.now }
+    requires shape { IsShapeOf k.now shape.now }
+    requires proper { IsProperIn (vars_of k.now) b.now }
+    requires hearer { MayHearAll H.can_hear H.hears h.old (narrowing_tells k.now b.now) }
+    ensures { HearsAll H.hears h.old (narrowing_tells k.now b.now) h.new }
+{
+    match shape {
+        Shape::Slight => visit_slight(k, b, hint, h),
+        _ => visit_by_shape(k, shape, b, hint, h),
+    }
+}
+
+/// The same of a sum with slight coefficients.
+fn visit_slight<H: Hear>(k: &Kernel, b: &BoxOf, hint: &mut Hint, h: &mut H)
+    requires kernel { IsKernel (length b.now) k.now }
+    requires slight { IsSlightSum k.now }
+    requires proper { IsProperIn (vars_of k.now) b.now }
+    requires hearer { MayHearAll H.can_hear H.hears h.old (narrowing_tells k.now b.now) }
+    ensures { HearsAll H.hears h.old (narrowing_tells k.now b.now) h.new }
+{
+    if !is_slight_given(k, b, hint, h) {
+        pass_tells(k, b, h);
+    }
+}
+
+/// The same of a kernel whose shape may say that it narrows nothing.
+fn visit_by_shape<H: Hear>(k: &Kernel, shape: &Shape, b: &BoxOf, hint: &mut Hint, h: &mut H)
     requires kernel { IsKernel (length b.now) k.now }
     requires shape { IsShapeOf k.now shape.now }
     requires proper { IsProperIn (vars_of k.now) b.now }
@@ -50,7 +79,7 @@ fn is_quiet_by_shape(k: &Kernel, shape: &Shape, b: &BoxOf) -> bool
             pair_leaves_room_on_both_sides(*lit, *limit, difference(*x, *y, b), b)
         }
         Shape::Either { first, second } => is_either_quiet(*first, *second, b),
-        Shape::Other => false,
+        Shape::Slight | Shape::Other => false,
     }
 }
 

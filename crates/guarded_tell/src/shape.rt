@@ -1,6 +1,6 @@
 //! What a visit of a kernel looks at first: a record of its own, side by side with those of the other kernels.
 
-ghost use Rattle.std.specs.Prelude.{◌≡◌, ◌<◌, ◌≤ℤ◌, ℕ, pos, [], ◌∷◌, length, MatchOption};
+ghost use Rattle.std.specs.Prelude.{◌≡◌, ◌<◌, ◌≤ℤ◌, ℕ, pos, [], ◌∷◌, cond, length, MatchOption};
 ghost use Rattle.interval.specs.Boxes.{low_of, high_of};
 ghost use Rattle.guarded_tell.specs.Linear.{IsLinear};
 ghost use Rattle.guarded_tell.specs.Kernels.{HasNumbers};
@@ -8,11 +8,12 @@ ghost use Rattle.guarded_tell.specs.Shapes.{IsShapeOf, IsDifference, IsDifferenc
 ghost use Rattle.guarded_tell.specs.Shapes as words;
 
 use crate::pairs::{Pair, opposite, plain};
+use crate::slight::{are_slight, are_slight_extended};
 use crate::{Extended, Kernel, Lit, Literals};
 use interval::BoxOf;
 use tells::{stands_false, stands_true};
 
-/// A kernel of two variables or of two literals, whole, or that it is another kernel.
+/// A kernel of two variables or of two literals, whole, or what kind of another kernel it is.
 #[derive(Clone, Copy, PartialEq, Eq, Debug)]
 pub enum Shape {
     /// The literal is true exactly where `x - y` is at most the limit.
@@ -44,6 +45,8 @@ pub enum Shape {
         /// The second literal.
         second: Lit,
     },
+    /// A sum of three terms or more with slight coefficients.
+    Slight,
     /// Any kernel.
     Other,
 }
@@ -68,7 +71,7 @@ pub fn shape_of(k: &Kernel) -> Shape
                 y,
                 limit: *limit,
             },
-            None => Shape::Other,
+            None => sum_shape(are_slight(coeffs.as_slice())),
         },
         Kernel::Eq {
             lit,
@@ -82,10 +85,21 @@ pub fn shape_of(k: &Kernel) -> Shape
                 y,
                 limit: *limit,
             },
-            None => Shape::Other,
+            None => sum_shape(are_slight_extended(coeffs)),
         },
         Kernel::Clause { lits } => clause_shape(lits),
         _ => Shape::Other,
+    }
+}
+
+/// The shape of a sum that is no difference.
+fn sum_shape(is_slight: bool) -> Shape
+    ensures { result ≡ cond is_slight Shape.Slight Shape.Other }
+{
+    if is_slight {
+        Shape::Slight
+    } else {
+        Shape::Other
     }
 }
 

@@ -108,7 +108,7 @@ fn are_small(coeff: i64, low: i64, high: i64) -> bool
 }
 
 /// The product of two numbers, where it is small.
-fn small_product(a: i64, z: i64) -> i64
+pub fn small_product(a: i64, z: i64) -> i64
     requires { unsigned_abs (a *ℤ z) ≤ small_product_limit }
     ensures value { result ≡ a *ℤ z }
     ensures in_range { unsigned_abs result ≤ small_product_limit }

@@ -58,7 +58,7 @@ pub fn narrow_at_most<H: Hear>(
 }
 
 /// Gives the tells of an inequality whose sums these are.
-fn narrow_short_at_most<H: Hear>(
+pub fn narrow_short_at_most<H: Hear>(
     lit: Lit,
     coeffs: &[i64],
     vars: &[u32],
@@ -235,7 +235,7 @@ fn narrow_possible_equation<H: Hear>(
 }
 
 /// Gives the tells of an equation that may hold and whose sums these are.
-fn narrow_short_equation<H: Hear>(
+pub fn narrow_short_equation<H: Hear>(
     lit: Lit,
     coeffs: &[i64],
     vars: &[u32],

@@ -1,11 +1,11 @@
 -- All tells of one kernel, heard by the box that they were made for.
-use Rattle.std.proofs.Common.{◌≡◌, ◌≢◌, ℕ, ℤ, ◌<◌, ◌⊎◌, inl, inr, Bool, true, false, cond, refl, List, [], ◌∷◌, length, get_or, set, sym, subst, ◌∙◌, ap, arith}
-use Rattle.std.proofs.lemmas.List.{get_or_default, get_or-set_other, get_or-set_same, length-set}
-use Rattle.std.proofs.lemmas.List.Elements.{All-filter, All-head, All-tail}
+use Rattle.std.proofs.Common.{◌≡◌, ◌≢◌, ℕ, ℤ, ◌<◌, ◌≤ℤ◌, ⊎_elim, Bool, true, false, cond, refl, List, [], ◌∷◌, length, get_or, set, sym, subst, ◌∙◌, ap, arith}
+use Rattle.std.proofs.lemmas.List.{get_or_default, get_or-set_other, length-set}
+use Rattle.std.proofs.lemmas.List.Elements.{All-filter, All-head, All-tail, All-take}
 use Rattle.std.specs.List.{All, Contains, filter}
 use Rattle.std.proofs.lemmas.Int.{ints}
 use Rattle.interval.specs.Limits.{IsBound}
-use Rattle.interval.specs.Boxes.{Bounds, IsInRange, IsInside, IsProper, InsideOrder}
+use Rattle.interval.specs.Boxes.{Bounds, low_of, high_of, IsInRange, IsInside, IsProper, InsideOrder}
 use Rattle.guarded_tell.specs.Words.{Tell}
 use Rattle.guarded_tell.specs.Words.{Side}
 use Rattle.guarded_tell.specs.Words.{Low, High}
@@ -17,12 +17,11 @@ use Rattle.guarded_tell.specs.Narrowing.{narrows, narrowing_tells}
 use Rattle.moved_set.specs.Sets.{IsIn, Naming, IsNaming, set_at}
 use Rattle.fixpoint_laws.specs.Changes.{TightensOne}
 use Rattle.moved_fixpoint.specs.declared.joiner.Progress.{Progress}
-use Rattle.moved_fixpoint.specs.declared.joiner.Progress.TheVariants.{Still, Moved, Crossed, Refused}
 use Rattle.moved_fixpoint.specs.Moved.{Set, count_of}
 use Rattle.moved_fixpoint.specs.Asked.{AreAsked}
 use Rattle.moved_fixpoint.specs.Heard.{GoesOn, Hears, joined}
-use Rattle.moved_fixpoint.specs.Runs.{SameAt, Spares, HasVisited, KernelRuns}
-use Rattle.moved_fixpoint.proofs.AskedLaws.{in_range}
+use Rattle.moved_fixpoint.specs.Gathered.{SideLeavesNone, AreCut, AreGathered}
+use Rattle.moved_fixpoint.specs.Runs.{SameAt, HasVisited, KernelRuns}
 use Rattle.moved_fixpoint.proofs.Hearing.{Effect, IsPlaced, effect, effect_of_all}
 
 -- the laws of the kernels, as their functions state them
@@ -83,6 +82,11 @@ none_narrow tight b [] keeps = refl
 none_narrow tight b (t ∷ ts) keeps =
     one_none t (filter (narrows b) ts) (narrows b t) (λ e. tight b t e (All-head (Keeps b) t ts keeps)) (none_narrow tight b ts (All-tail (Keeps b) t ts keeps))
 
+-- a bound that leaves a variable no number isn't kept by a box inside that is proper there
+none_kept : (s : Side) (a b : Bounds) (v : ℕ) (z : ℤ) → SideLeavesNone b s v z → KeepsSide a s v z → low_of b v ≤ℤ low_of a v → high_of a v ≤ℤ high_of b v → low_of a v ≤ℤ high_of a v → ⊥
+none_kept Low a b v z none keeps low high proper = absurd (omega (arith, ints))
+none_kept High a b v z none keeps low high proper = absurd (omega (arith, ints))
+
 module _ (place : TellPlace) (k : Kernel) (b : Bounds) (kernel : IsKernel (length b) k) where
   pub all_placed : All (IsPlaced (length b)) (tells k b)
   all_placed i d h = let p = place k b kernel i d h in (p.1, p.2)
@@ -95,8 +99,8 @@ module _ (place : TellPlace) (k : Kernel) (b : Bounds) (kernel : IsKernel (lengt
 
   -- the box hears what was gathered: all tells of the kernel that narrow it
   module _ (told : List Tell) (is : told ≡ narrowing_tells k b) where
-    pub gathered_placed : All (IsPlaced (length b)) told
-    gathered_placed = subst (λ (ts : List Tell). All (IsPlaced (length b)) ts) (sym is) narrowing_placed
+    whole_placed : All (IsPlaced (length b)) told
+    whole_placed = subst (λ (ts : List Tell). All (IsPlaced (length b)) ts) (sym is) narrowing_placed
 
     -- the round is over, as nothing could be gathered
     module _ (local : Local) (monotone : Monotone) (range : IsInRange b) (proper : IsProper b) (kernels : List Kernel) (i : ℕ) (here : k ≡ get_or kernels i k) (i_in : i < length kernels)
@@ -153,12 +157,64 @@ module _ (place : TellPlace) (k : Kernel) (b : Bounds) (kernel : IsKernel (lengt
           crossed = e.crossed;
         }
 
-      pub gathered_runs : InsideOrder → TightensOne → Tighter → (after : Bounds) (new : Set) (p' : Progress) → HearsAll Hears (joined b p) told (joined after p') →
+      whole_runs : InsideOrder → TightensOne → Tighter → (after : Bounds) (new : Set) (p' : Progress) → HearsAll Hears (joined b p) told (joined after p') →
           AreAsked naming told (set old i false) new → HasVisited kernels i k b old p after new p'
-      gathered_runs order tightens tighter after new p' heard asked =
-          let own : Effect b p told told after p' = effect order tightens (joined b p) told (joined after p') gathered_placed heard in
+      whole_runs order tightens tighter after new p' heard asked =
+          let own : Effect b p told told after p' = effect order tightens (joined b p) told (joined after p') whole_placed heard in
           let narrowing : Effect b p (narrowing_tells k b) told after p' = subst (λ (ts : List Tell). Effect b p ts told after p') is own in
           kernel_runs after new p' (effect_of_all tighter b (tells k b) told all_placed p after p' narrowing) asked
+
+  -- the box hears the first of them, among which one leaves its variable no number: the round is over
+  module _ (told : List Tell) (cut : AreCut b (narrowing_tells k b) told) where
+    cut_all : (P : Tell → Type 0) → All P (narrowing_tells k b) → All P told
+    cut_all P all = subst (λ (ts : List Tell). All P ts) (sym cut.first) (All-take P cut.count (narrowing_tells k b) all)
+
+    cut_last : (P : Tell → Type 0) → All P told → P cut.last
+    cut_last P all = subst P cut.among.2 (all cut.among.0 cut.last cut.among.1)
+
+    module _ (monotone : Monotone) (range : IsInRange b) (proper : IsProper b) (kernels : List Kernel) (i : ℕ) (old : Set) (p : Progress)
+        (naming : Naming) (after : Bounds) (new : Set) (p' : Progress) (e : Effect b p told told after p') (asked : AreAsked naming told (set old i false) new) where
+      never : GoesOn p' → ⊥
+      never g =
+          let placed = cut_last (IsPlaced (length b)) (cut_all (IsPlaced (length b)) narrowing_placed) in
+          let same = e.inside.same_length in
+          none_kept cut.last.side after b cut.last.var cut.last.bound cut.none (cut_last (Keeps after) (e.heard g))
+          (e.inside.lows cut.last.var placed.0) (e.inside.highs cut.last.var placed.0) (e.proper g proper cut.last.var (omega arith))
+
+      own_inside : (c : Bounds) → IsInside c b → IsInsideIn (vars_of k) c b
+      own_inside c i = record { lows = λ j h. i.lows _ (kernel.variables.each j h); highs = λ j h. i.highs _ (kernel.variables.each j h) }
+
+      cut_visited : HasVisited kernels i k b old p after new p'
+      cut_visited = record {
+        run = record {
+          inside = e.inside;
+          keeps_closed = λ c proper_c closed i. e.holds c i (cut_all (Keeps c) (All-filter (narrows b) (Keeps c) (tells k b) (monotone k b c kernel range i.same_length (proper_in proper) closed (own_inside c i))));
+        };
+        same_count = asked.same_count ∙ length-set old i false;
+        going = e.going;
+        kept = λ g j ne is_in. absurd (never g);
+        unmoved = λ g. absurd (never g);
+        heard = λ g. absurd (never g);
+        closed = λ g none. absurd (never g);
+        still = λ s. absurd (never (subst (λ (x : Progress). GoesOn x) (sym s) tt));
+        moves = e.moves;
+        proper = λ g. absurd (never g);
+        crossed = e.crossed;
+      }
+
+  -- either way
+  module _ (told : List Tell) (are : AreGathered b (narrowing_tells k b) told) where
+    pub gathered_placed : All (IsPlaced (length b)) told
+    gathered_placed = ⊎_elim (λ is. whole_placed told is) (λ cut. cut_all told cut (IsPlaced (length b)) narrowing_placed) are
+
+    pub gathered_runs : Local → Monotone → IsInRange b → IsProper b → (kernels : List Kernel) (i : ℕ) → k ≡ get_or kernels i k → i < length kernels →
+        (naming : Naming) → IsNaming kernels naming → (old : Set) → count_of old ≡ length kernels → (p : Progress) → Tight →
+        InsideOrder → TightensOne → Tighter → (after : Bounds) (new : Set) (p' : Progress) → HearsAll Hears (joined b p) told (joined after p') →
+        AreAsked naming told (set old i false) new → HasVisited kernels i k b old p after new p'
+    gathered_runs local monotone range proper kernels i here i_in naming named old count p tight order tightens tighter after new p' heard asked = ⊎_elim
+        (λ is. whole_runs told is local monotone range proper kernels i here i_in naming named old count p tight order tightens tighter after new p' heard asked)
+        (λ cut. cut_visited told cut monotone range proper kernels i old p naming after new p' (effect order tightens (joined b p) told (joined after p') gathered_placed heard) asked)
+        are
 
 -- the kernel by any default
 pub any_default : (kernels : List Kernel) (i : ℕ) (k : Kernel) (before : Bounds) (asked : Set) (p : Progress) (after : Bounds) (asked_after : Set) (p_after : Progress) →

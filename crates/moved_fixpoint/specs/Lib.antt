@@ -4,3 +4,4 @@ pub mod Heard
 pub mod Runs
 pub mod Round
 pub mod Ends
+pub mod Gathered

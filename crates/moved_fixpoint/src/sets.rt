@@ -5,6 +5,7 @@ ghost use Rattle.guarded_tell.specs.Words.{IsProperIn};
 ghost use Rattle.guarded_tell.specs.Kernels.{vars_of, IsKernel};
 ghost use Rattle.guarded_tell.specs.Narrowing.{narrowing_tells};
 ghost use Rattle.guarded_tell.specs.Shapes.{IsShapeOf};
+ghost use Rattle.moved_fixpoint.specs.Gathered.{AreGathered};
 ghost use Rattle.moved_fixpoint.specs.Moved.{count_of, Fit, IsEmpty};
 
 use crate::told::Told;
@@ -60,13 +61,13 @@ impl AskedSets {
         })
     }
 
-    /// Gathers those tells of the kernel at a place that narrow the box.
+    /// Gathers those tells of the kernel at a place that narrow the box, up to one that leaves its variable no number.
     pub(crate) fn gather(&mut self, kernel: &Kernel, shape: &Shape, place: usize, b: &BoxOf)
         requires kernel { IsKernel (length b.now) kernel.now }
         requires shape { IsShapeOf kernel.now shape.now }
         requires proper { IsProperIn (vars_of kernel.now) b.now }
         ensures asked { self.new.asked ≡ self.old.asked }
-        ensures told { self.new.told.refused ≡ false → self.new.told.tells.items ≡ narrowing_tells kernel.now b.now }
+        ensures told { self.new.told.refused ≡ false → AreGathered b.now (narrowing_tells kernel.now b.now) self.new.told.tells.items }
     {
         if place < self.hints.len() {
             self.told.gather(kernel, shape, b, &mut self.hints[place]);

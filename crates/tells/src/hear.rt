@@ -1,6 +1,6 @@
 //! Those who are given tells.
 
-ghost use Rattle.std.specs.Prelude.{◌≡◌};
+ghost use Rattle.std.specs.Prelude.{◌≡◌, List};
 ghost use Rattle.std.specs.Bool.{OnTrue};
 ghost use Rattle.tells.specs.declared.tell.Tell.{Tell};
 ghost use Rattle.tells.specs.Hearing.{MayHearAll, HearsAll};
@@ -20,6 +20,13 @@ pub trait Hear {
     fn hear(&mut self, t: Tell)
         requires { can_hear self.old t }
         ensures { hears self.old t self.new };
+
+    /// Whether it is seen to stay as it is whatever it hears. It then isn't told more. Who doesn't look says no.
+    fn is_done(&self) -> bool
+        ensures { OnTrue result ((ts : List Tell) → HearsAll hears self.now ts self.now) }
+    {
+        false
+    }
 
     /// Whether it is seen to stay as it is where it hears that `coeff` times the variable is at most `room`. It then isn't
     /// told, and the division that the tell would take is saved. Who doesn't look says no.

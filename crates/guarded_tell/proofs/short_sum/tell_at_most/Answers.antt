@@ -1,5 +1,5 @@
 -- The literal's tells are heard, and then those of the terms.
-use Rattle.std.proofs.Common.{suc, List, sym, subst, to_z, of_z, arith}
+use Rattle.std.proofs.Common.{suc, List, sym, subst, to_z, of_z, FitsSigned, rules, arith}
 use Rattle.std.proofs.lemmas.Int.{to_z-of_z}
 use Rattle.std.specs.List.{zip, flat_map}
 use mir.Syntax.{w64}
@@ -10,6 +10,7 @@ use Rattle.guarded_tell.specs.Linear.{literal_tells}
 use Rattle.guarded_tell.specs.Narrowing.{narrowing}
 use Rattle.guarded_tell.specs.ShortTells.{room_tells}
 use Rattle.guarded_tell.proofs.HearingLaws.{may_first, may_rest, hears_both}
+use Rattle.guarded_tell.proofs.GrowthLaws.{sums_grow_short}
 use Rattle.guarded_tell.proofs.ShortSumLaws.{at_most_by_room}
 use Rattle.guarded_tell.proofs.short_sum.tell_at_most.Goals as goal
 
@@ -45,3 +46,8 @@ room_at_most-room-requires-clause-variable g c = c.requires.variables.each 0 (om
 
 pub narrow_literal-requires-clause-variable : goal.narrow_literal-requires-clause-variable
 narrow_literal-requires-clause-variable g c = c.requires.variables.each 0 (omega arith)
+
+pub narrow_terms-requires-clause-growths : goal.narrow_terms-requires-clause-growths
+narrow_terms-requires-clause-growths g c =
+    let widest : FitsSigned w64 c.args.sums.widest = search rules in
+    sums_grow_short c.args.b.now c.args.coeffs.now c.args.vars.now c.args.sums widest c.requires.sums.sums

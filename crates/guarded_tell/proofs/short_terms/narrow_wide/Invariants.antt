@@ -3,7 +3,7 @@ use Rattle.std.specs.List.{zip}
 use Rattle.guarded_tell.specs.Narrowing.{narrowing}
 use Rattle.guarded_tell.specs.ShortTells.{room_tells}
 use Rattle.guarded_tell.proofs.HearingLaws.{LeadsOn}
-use Rattle.guarded_tell.proofs.short_terms.narrow_terms.Given as goal
+use Rattle.guarded_tell.proofs.short_terms.narrow_wide.Given as goal
 
 abbrev pub invariant-loop-i : goal.invariant-loop-i
 invariant-loop-i g l =

@@ -4,7 +4,7 @@ use Rattle.tells.specs.declared.tell.Tell.{Tell}
 use Rattle.guarded_tell.specs.Hearing.{HearsAll}
 use Rattle.guarded_tell.specs.Kernels.{tells}
 use Rattle.guarded_tell.proofs.NarrowingLaws.{none_narrows}
-use Rattle.guarded_tell.proofs.narrowing.visit_narrowing.Goals as goal
+use Rattle.guarded_tell.proofs.narrowing.visit_by_shape.Goals as goal
 
 pub returns-else-not-is_quiet_by_shape : goal.returns-else-not-is_quiet_by_shape
 returns-else-not-is_quiet_by_shape g c =

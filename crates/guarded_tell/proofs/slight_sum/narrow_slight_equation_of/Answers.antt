@@ -1,0 +1,22 @@
+-- The variables of the terms stand behind the literal's.
+use Rattle.std.proofs.Common.{ℤ, suc, subst, arith}
+use Rattle.std.proofs.lemmas.Bool.{OnTrue_at, OnTrue_from}
+use Rattle.std.proofs.lemmas.Int.{to_z-of_z}
+use mir.Syntax.{w64}
+use Rattle.std.specs.List.{All}
+use Rattle.guarded_tell.specs.Words.{Keeps}
+use Rattle.guarded_tell.specs.Equality.{eq_tells}
+use Rattle.guarded_tell.proofs.ShortSumLaws.{quiet_heard}
+use Rattle.guarded_tell.proofs.slight_sum.narrow_slight_equation_of.Goals as goal
+
+pub slight_sums-sums-requires-clause-variables : goal.slight_sums-sums-requires-clause-variables
+slight_sums-sums-requires-clause-variables g c = record { each = λ i h. c.requires.variables.each (suc i) (omega arith) }
+
+pub slight_sums-sums-requires-clause-proper : goal.slight_sums-sums-requires-clause-proper
+slight_sums-sums-requires-clause-proper g c = λ i h. c.requires.proper (suc i) (omega arith)
+
+pub returns-then-stands_false-clause-given : goal.returns-then-stands_false-clause-given
+returns-then-stands_false-clause-given g c = OnTrue_from _ _ (λ e.
+    let Q : ℤ → Type 0 = λ z. All (Keeps c.args.b.now) (eq_tells c.args.lit c.args.coeffs.now c.args.vars.now z c.args.b.now) in
+    quiet_heard g.H.Hear.hears c.args.h.now c.args.b.now (eq_tells c.args.lit c.args.coeffs.now c.args.vars.now c.args.limit c.args.b.now)
+    (subst Q (to_z-of_z w64 c.args.limit c.ranges.limit) (OnTrue_at e c.is_equation_quiet.ensures)))

@@ -1,5 +1,5 @@
 -- What is seen of a kernel in a box and holds in all boxes inside.
-use Rattle.std.proofs.Common.{◌≡◌, ℕ, zero, suc, ◌<◌, List, [], ◌∷◌, length, get_or, Bool, true, false, ◌||◌, ℤ, pos, negsuc, ◌+ℤ◌, ◌*ℤ◌, ◌≤ℤ◌, ◌<ℤ◌, ◌⊎◌, inl, inr, ⊎_elim, to_z, of_z, refl, sym, subst, ◌∙◌, ap, arith}
+use Rattle.std.proofs.Common.{◌≡◌, ℕ, zero, suc, ◌<◌, List, [], ◌∷◌, length, get_or, true, ℤ, pos, ◌*ℤ◌, ◌≤ℤ◌, ◌<ℤ◌, ◌⊎◌, inl, inr, ⊎_elim, to_z, of_z, refl, sym, subst, ap, arith}
 use Rattle.std.proofs.lemmas.Int.{ints, clamps}
 use Rattle.std.proofs.lemmas.List.{length-map, get_or-map}
 use Rattle.std.specs.Int.RustNames.{int_lt}
@@ -12,21 +12,18 @@ use Rattle.interval.specs.Boxes.{Bounds, low_of, high_of, IsInside}
 use Rattle.guarded_tell.specs.Words.{Keeps, is_sure, is_out, AreVariables, IsProperIn}
 use Rattle.guarded_tell.specs.Linear.{IsLinear, least_of, greatest_of}
 use Rattle.guarded_tell.specs.Clause.{clause_vars}
-use Rattle.guarded_tell.specs.declared.short.SmallTerm.{SmallTerm}
 use Rattle.guarded_tell.specs.declared.pairs.Pair.{Pair}
 use Rattle.guarded_tell.specs.declared.kernel.Kernel.{Kernel}
-use Rattle.guarded_tell.specs.declared.kernel.Kernel.TheVariants.{Le, Eq, Clause}
-use Rattle.guarded_tell.specs.declared.shape.Shape.{Shape}
+use Rattle.guarded_tell.specs.declared.kernel.Kernel.TheVariants.{Eq, Clause}
 use Rattle.guarded_tell.specs.declared.shape.Shape.TheVariants.{AtMost, Same, Either}
-use Rattle.guarded_tell.specs.Short.{IsTermOf, IsPairAtMostQuiet, IsPairEquationQuiet, IsPairUnequalQuiet, AreTwoOpen}
+use Rattle.guarded_tell.specs.Short.{IsPairUnequalQuiet, AreTwoOpen}
 use Rattle.guarded_tell.specs.Kernels.{vars_of, tells, HasNumbers, IsKernel, IsClosedUnder}
 use Rattle.guarded_tell.specs.Shapes.{IsDifferenceIn, IsShapeOf}
-use Rattle.guarded_tell.specs.Rests.{IsFixedAt, FixesNoOther, IsEntailed, IsQuietUntilFixed, IsAtMostSettled, IsNeverSame, IsOpenUnequal, IsSureAt}
+use Rattle.guarded_tell.specs.Rests.{IsFixedAt, IsEntailed, IsQuietUntilFixed, IsAtMostSettled, IsNeverSame, IsOpenUnequal, IsSureAt}
 use Rattle.guarded_tell.proofs.LiteralLaws.{by_bool, sure_inside, out_inside}
-use Rattle.guarded_tell.proofs.ShortLaws.{short_number}
 use Rattle.guarded_tell.proofs.PairLaws.{plain_term, opposite_term}
 use Rattle.guarded_tell.proofs.QuietLaws.{not_sure}
-use Rattle.guarded_tell.proofs.ShapeQuiet.{HasPlaces, at_most_places, same_places, HasLiterals, either_places, at_most_shape, same_shape}
+use Rattle.guarded_tell.proofs.ShapeQuiet.{HasPlaces, at_most_places, same_places, either_places, at_most_shape, same_shape}
 use Rattle.guarded_tell.proofs.ClauseQuiet.{sure_quiet}
 use Rattle.guarded_tell.proofs.OpenLaws.{open_term, open_quiet}
 
@@ -120,6 +117,7 @@ term_open b a x h = (coefficient, variable)
     coefficient e =
         let none : least_of b (pos 0, x) <ℤ greatest_of b (pos 0, x) = subst (λ (z : ℤ). least_of b (z, x) <ℤ greatest_of b (z, x)) e h in
         omega (arith, ints, clamps, none)
+
     variable : low_of b x ≡ high_of b x → ⊥
     variable e =
         let p : (a *ℤ low_of b x) ≡ (a *ℤ high_of b x) = ap (λ z. a *ℤ z) e in
@@ -177,12 +175,12 @@ module _ (quotients : QuotientOrder) (clamped : ClampOrder) (b : Bounds) (k : Ke
         record {
           proper = prop;
           kept = at_most_shape quotients clamped c k kc l x y limit t.now t.are shape (record {
-                sure_first = λ e. omega (arith, ints);
-                sure_second = λ e. omega (arith, ints);
-                out_first = λ e o. absurd (cc);
-                out_second = λ e o. absurd (cc);
-                open_low = λ e o. absurd (cc);
-                open_high = λ e o. absurd (cc);
+            sure_first = λ e. omega (arith, ints);
+            sure_second = λ e. omega (arith, ints);
+            out_first = λ e o. absurd (cc);
+            out_second = λ e o. absurd (cc);
+            open_low = λ e o. absurd (cc);
+            open_high = λ e o. absurd (cc);
           });
         }
     at_most_entailed shape (inr (out, more)) c inside prop =
@@ -195,12 +193,12 @@ module _ (quotients : QuotientOrder) (clamped : ClampOrder) (b : Bounds) (k : Ke
         record {
           proper = prop;
           kept = at_most_shape quotients clamped c k kc l x y limit t.now t.are shape (record {
-                sure_first = λ e. absurd (cc);
-                sure_second = λ e. absurd (cc);
-                out_first = λ e o. omega (arith, ints);
-                out_second = λ e o. omega (arith, ints);
-                open_low = λ e o. absurd (cc);
-                open_high = λ e o. absurd (cc);
+            sure_first = λ e. absurd (cc);
+            sure_second = λ e. absurd (cc);
+            out_first = λ e o. omega (arith, ints);
+            out_second = λ e o. omega (arith, ints);
+            open_low = λ e o. absurd (cc);
+            open_high = λ e o. absurd (cc);
           });
         }
 
@@ -213,12 +211,12 @@ module _ (quotients : QuotientOrder) (clamped : ClampOrder) (b : Bounds) (k : Ke
         record {
           proper = prop;
           kept = same_shape quotients clamped c k kc l x y limit t are shape (record {
-                sure_first = λ e. absurd (cc);
-                sure_second = λ e. absurd (cc);
-                out = λ e o. quiet;
-                open_low = λ e o. absurd (cc);
-                open_high = λ e o. absurd (cc);
-                open_wide = λ e o. absurd (cc);
+            sure_first = λ e. absurd (cc);
+            sure_second = λ e. absurd (cc);
+            out = λ e o. quiet;
+            open_low = λ e o. absurd (cc);
+            open_high = λ e o. absurd (cc);
+            open_wide = λ e o. absurd (cc);
           });
         }
 
@@ -309,7 +307,7 @@ module _ (quotients : QuotientOrder) (clamped : ClampOrder) (b : Bounds) (k : Ke
       let len = linear.same_length in
       let rise = o.rising in let in_all = o.inside in
       let open_at : (i : ℕ) → i < length vars → least_of b (get_or coeffs i (pos 0), get_or vars i 0) <ℤ greatest_of b (get_or coeffs i (pos 0), get_or vars i 0)
-          → least_of c (get_or coeffs i (pos 0), get_or vars i 0) <ℤ greatest_of c (get_or coeffs i (pos 0), get_or vars i 0) =
+      → least_of c (get_or coeffs i (pos 0), get_or vars i 0) <ℤ greatest_of c (get_or coeffs i (pos 0), get_or vars i 0) =
       λ i h lt.
       let was = term_open b (get_or coeffs i (pos 0)) (get_or vars i 0) lt in
       open_term c (get_or coeffs i (pos 0)) (get_or vars i 0) was.0
@@ -318,12 +316,12 @@ module _ (quotients : QuotientOrder) (clamped : ClampOrder) (b : Bounds) (k : Ke
         proper = prop;
         kept = subst (λ (j : Kernel). All (Keeps c) (tells j c)) (sym e)
             (open_quiet clamped c l coeffs vars limit linear.same_length (not_sure clamped c l s) s (record {
-                first = o.first;
-                second = o.second;
-                rising = o.rising;
-                inside = o.inside;
-                first_open = open_at o.first (omega arith) o.first_open;
-                second_open = open_at o.second (omega arith) o.second_open;
+              first = o.first;
+              second = o.second;
+              rising = o.rising;
+              inside = o.inside;
+              first_open = open_at o.first (omega arith) o.first_open;
+              second_open = open_at o.second (omega arith) o.second_open;
             }));
       }
 

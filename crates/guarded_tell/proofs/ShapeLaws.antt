@@ -1,20 +1,16 @@
 -- Shapes and the kernels that they are of.
-use Rattle.std.proofs.Common.{◌≡◌, ℕ, zero, suc, ◌<◌, List, [], ◌∷◌, ◌++◌, length, get_or, ℤ, pos, negsuc, ◌≤ℤ◌, ◌⊎◌, inl, inr, ⊎_elim, Option, None, Some, refl, sym, ap, subst, ◌∙◌, arith}
+use Rattle.std.proofs.Common.{◌≡◌, ℕ, ◌<◌, List, [], ◌∷◌, ◌++◌, length, get_or, ℤ, pos, Option, refl, sym, ap, subst, ◌∙◌, arith}
 use Rattle.std.specs.Prelude.{MatchOption}
 use Rattle.std.proofs.lemmas.List.{get_or_default}
 use mir.Val.{to_z, of_z}
 use mir.Syntax.{w64}
 use Rattle.tells.specs.declared.tell.Lit.{Lit}
-use Rattle.interval.specs.Limits.{IsNumber}
-use Rattle.interval.specs.Boxes.{Bounds, low_of, high_of}
-use Rattle.guarded_tell.specs.Words.{AreVariables, IsProperIn}
 use Rattle.guarded_tell.specs.Linear.{IsLinear}
-use Rattle.guarded_tell.specs.Clause.{clause_vars}
 use Rattle.guarded_tell.specs.declared.kernel.Kernel.{Kernel}
 use Rattle.guarded_tell.specs.declared.kernel.Kernel.TheVariants.{Le, Eq, Times, Div, Mod, Abs, Max, Min, Clause, Element, InSet, AllDiff, Cumulative}
 use Rattle.guarded_tell.specs.declared.shape.Shape.{Shape}
 use Rattle.guarded_tell.specs.declared.shape.Shape.TheVariants.{AtMost, Same, Either, Other}
-use Rattle.guarded_tell.specs.Kernels.{vars_of, HasNumbers, IsKernel}
+use Rattle.guarded_tell.specs.Kernels.{HasNumbers}
 use Rattle.guarded_tell.specs.Shapes.{IsDifference, IsShapeOf}
 use Rattle.guarded_tell.proofs.ShortLaws.{short_number}
 

@@ -1,5 +1,5 @@
 -- What is seen of a shape is so of its kernel in all boxes inside.
-use Rattle.std.proofs.Common.{subst, sym, inl, inr, ◌∙◌, arith}
+use Rattle.std.proofs.Common.{subst, sym, inl, inr, ◌∙◌}
 use Rattle.std.proofs.lemmas.Bool.{OnTrue_at, OnTrue_from}
 use Rattle.guarded_tell.specs.declared.shape.Shape.{Shape}
 use Rattle.guarded_tell.specs.Shapes.{IsShapeOf}

@@ -1,5 +1,5 @@
 -- A sum that must not be the limit, and of which two terms are open.
-use Rattle.std.proofs.Common.{◌≡◌, ◌∷◌, suc, ℕ, ℤ, List, length, subst, sym, ◌∙◌, arith}
+use Rattle.std.proofs.Common.{◌∷◌, suc, ℕ, ℤ, List, length, subst, sym, ◌∙◌, arith}
 use Rattle.std.proofs.lemmas.Bool.{OnTrue_at, OnTrue_from}
 use Rattle.guarded_tell.specs.declared.kernel.Kernel.{Kernel}
 use Rattle.guarded_tell.specs.Words.{AreVariables}

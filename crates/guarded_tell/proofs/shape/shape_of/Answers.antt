@@ -1,6 +1,5 @@
 -- A difference makes the short shape of the kernel; where there is none, no other shape is the kernel's.
-use Rattle.std.proofs.Common.{ℤ, List, ℕ, ◌≡◌, refl, sym, subst, ◌∙◌, ap, arith}
-use Rattle.guarded_tell.specs.declared.kernel.Kernel.{Kernel}
+use Rattle.std.proofs.Common.{◌≡◌, refl}
 use Rattle.guarded_tell.proofs.ShapeLaws.{any_is_other, other_inequality, other_equation, other_kernel, at_most_made, same_made, none_read}
 use Rattle.guarded_tell.proofs.shape.shape_of.Goals as goal
 

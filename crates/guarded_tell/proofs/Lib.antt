@@ -48,3 +48,4 @@ pub mod ShortTellLaws
 pub mod SlightLaws
 pub mod GrowthLaws
 pub mod ShortSumLaws
+pub mod RestLaws

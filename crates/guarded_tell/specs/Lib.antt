@@ -22,3 +22,4 @@ pub mod ShortTells
 pub mod Slight
 pub mod Shapes
 pub mod Products
+pub mod Rests

@@ -7,7 +7,6 @@ use mir.Syntax.{w64}
 use Rattle.interval.specs.Limits.{largest_number}
 use Rattle.tells.specs.declared.tell.Tell.{Tell}
 use Rattle.global_tells.specs.Cumulative.{tasks_of, cumulative_tells, AreTasks}
-use Rattle.guarded_tell.specs.declared.kernel.Kernel.{Kernel}
 use Rattle.guarded_tell.specs.Words.{Keeps}
 use Rattle.guarded_tell.specs.Kernels.{tells, HasNumbers}
 use Rattle.guarded_tell.proofs.narrowing.is_quiet.Goals as goal

@@ -1,5 +1,5 @@
 -- A shape's variables are its kernel's, and what leaves it room leaves its kernel room.
-use Rattle.std.proofs.Common.{subst, sym, ◌∙◌, arith}
+use Rattle.std.proofs.Common.{subst, sym, ◌∙◌}
 use Rattle.std.proofs.lemmas.Bool.{OnTrue_at, OnTrue_from}
 use Rattle.guarded_tell.specs.declared.shape.Shape.{Shape}
 use Rattle.guarded_tell.specs.Shapes.{IsShapeOf}

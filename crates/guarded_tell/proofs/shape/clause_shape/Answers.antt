@@ -1,7 +1,5 @@
 -- A clause of two literals is that of its literals at the two places.
-use Rattle.std.proofs.Common.{List, ap, ◌∙◌, arith}
-use Rattle.std.proofs.lemmas.List.{get_or_read}
-use Rattle.tells.specs.declared.tell.Lit.{Lit}
+use Rattle.std.proofs.Common.{ap, arith}
 use Rattle.guarded_tell.specs.declared.kernel.Kernel.TheVariants.{Clause}
 use Rattle.guarded_tell.specs.Shapes.{IsShapeOf}
 use Rattle.guarded_tell.proofs.ShapeLaws.{two_items, other_clause, any_is_other}

@@ -1,5 +1,5 @@
 -- The lists have two items each.
-use Rattle.std.proofs.Common.{pos, refl, get_or, arith}
+use Rattle.std.proofs.Common.{pos, get_or, arith}
 use Rattle.std.proofs.lemmas.List.{get_or_default}
 use Rattle.guarded_tell.proofs.ShapeLaws.{two_items, says_signs, coefficient_read}
 use Rattle.guarded_tell.proofs.shape.difference_of.Goals as goal

@@ -65,7 +65,7 @@ fn is_entailed(k: &Kernel, shape: &Shape, b: &BoxOf, hint: Hint) -> bool
             is_never_same(*lit, *limit, difference(*x, *y, b), b)
         }
         Shape::Either { first, second } => stands_true(*first, b) || stands_true(*second, b),
-        Shape::Other => is_other_entailed(k, b, hint),
+        Shape::Slight | Shape::Other => is_other_entailed(k, b, hint),
     }
 }
 
@@ -102,8 +102,8 @@ fn is_quiet_until_fixed(k: &Kernel, shape: &Shape, b: &BoxOf, hint: Hint) -> boo
     law_clamp_order();
     match shape {
         Shape::Same { lit, x, y, .. } => is_open_unequal(*lit, difference(*x, *y, b), b),
-        Shape::Other => is_other_quiet_until_fixed(k, b, hint),
-        _ => false,
+        Shape::Slight | Shape::Other => is_other_quiet_until_fixed(k, b, hint),
+        Shape::AtMost { .. } | Shape::Either { .. } => false,
     }
 }
 

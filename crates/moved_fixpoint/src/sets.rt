@@ -132,19 +132,16 @@ impl AskedSets {
     }
 
     /// How long the kernel at a place needs no visit.
-    fn rest_at(&mut self, kernel: &Kernel, shape: &Shape, place: usize, b: &BoxOf) -> Rest
+    fn rest_at(&self, kernel: &Kernel, shape: &Shape, place: usize, b: &BoxOf) -> Rest
         requires kernel { IsKernel (length b.now) kernel.now }
         requires shape { IsShapeOf kernel.now shape.now }
         requires proper { IsProperIn (vars_of kernel.now) b.now }
-        ensures asked { self.new.asked ≡ self.old.asked }
-        ensures rests { self.new.rests ≡ self.old.rests }
-        ensures told { self.new.told ≡ self.old.told }
-        ensures rest { IsRest kernel.now b.now result }
+        ensures { IsRest kernel.now b.now result }
     {
         if place < self.hints.len() {
-            rest_of(kernel, shape, b, &mut self.hints[place])
+            rest_of(kernel, shape, b, self.hints[place])
         } else {
-            rest_of(kernel, shape, b, &mut Hint::new())
+            rest_of(kernel, shape, b, Hint::new())
         }
     }
 

@@ -94,6 +94,36 @@ pub(crate) fn equal(
     })
 }
 
+/// The literal that is false in each box here.
+const FALSE: Lit = Lit {
+    var: 0,
+    positive: false,
+};
+
+/// The kernel of a sum that isn't a limit.
+pub(crate) fn unequal(
+    alloc: Global,
+    coeffs: &[i64],
+    vars: &[u32],
+    limit: i64,
+) -> Result<Kernel, AllocError>
+    requires coeffs { IsTrue (are_small coeffs.now) }
+    requires vars { IsTrue (are_below_four vars.now) }
+    requires same_length { length coeffs.now ≡ length vars.now }
+    requires short { length coeffs.now ≤ 3 }
+    requires limit { IsTrue (is_small limit) }
+    ensures { IfOk result (IsKernel 4) }
+{
+    let numbers = SharedList::from_vec(Vec::from_slice(alloc, coeffs)?)?;
+    let variables = SharedList::from_vec(Vec::from_slice(alloc, vars)?)?;
+    Ok(Kernel::Eq {
+        lit: FALSE,
+        coeffs: Extended::from_list(numbers),
+        vars: Extended::from_list(variables),
+        limit,
+    })
+}
+
 /// The kernels of x < y and of y < x.
 pub(crate) fn opposed(alloc: Global) -> Result<[Kernel; 2], AllocError>
     ensures { IfOk result (All (IsKernel 4)) }

@@ -243,7 +243,7 @@ fn a_limit_stops_rounds_that_creep(rt: HostRuntime) -> Result<(), Fail> {
 
 /// Lets lane 1's turn 0 end only after lane 0's turn 0 was called, and that one only after lane 1's turn 1 was called.
 #[derive(Drop)]
-struct Meet {
+pub(crate) struct Meet {
     first: AtomicBool,
     second: AtomicBool,
     third: AtomicBool,
@@ -251,7 +251,7 @@ struct Meet {
 }
 
 impl Meet {
-    fn new() -> Meet {
+    pub(crate) fn new() -> Meet {
         Meet {
             first: AtomicBool::new(false),
             second: AtomicBool::new(false),
@@ -261,7 +261,7 @@ impl Meet {
     }
 
     /// Whether all three passes were called, and no wait gave up.
-    fn was_passed(&self) -> bool {
+    pub(crate) fn was_passed(&self) -> bool {
         let first = self.first.load(Ordering::SeqCst);
         let second = self.second.load(Ordering::SeqCst);
         let third = self.third.load(Ordering::SeqCst);
@@ -297,7 +297,7 @@ impl Gate for Meet {
 }
 
 /// The kernels of x <= 3 and of y <= 3, each twice: in an even cut each of two lanes has two.
-fn twice_at_most_three(alloc: Global) -> Result<[Kernel; 4], AllocError>
+pub(crate) fn twice_at_most_three(alloc: Global) -> Result<[Kernel; 4], AllocError>
     ensures { IfOk result (All (IsKernel 4)) }
 {
     Ok([

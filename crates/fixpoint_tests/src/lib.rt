@@ -12,6 +12,8 @@ mod drawn;
 #[cfg(test)]
 mod lanes;
 #[cfg(test)]
+mod mixes;
+#[cfg(test)]
 mod naming;
 #[cfg(test)]
 mod sets;

@@ -4,7 +4,7 @@
 ghost use Rattle.std.specs.Prelude.{◌≡◌, ◌≤◌, length, IfOk};
 ghost use Rattle.std.specs.List.{All};
 ghost use Rattle.guarded_tell.specs.Kernels.{IsKernel};
-ghost use Rattle.lanes.specs.Cuts.{IsCut};
+ghost use Rattle.shared_lanes.specs.Cuts.{IsCut};
 
 use crate::boxes::{at_most, equal, four, opposed, unequal};
 use crate::lanes::{Meet, twice_at_most_three};

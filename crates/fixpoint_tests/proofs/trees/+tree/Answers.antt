@@ -24,8 +24,8 @@ tree-2-requires t c =
     let h : v < length here.current = let b = c.below-v.ensures in omega arith in (
       omega (arith, some),
       (c.in_ok-go_back.ensures c.args.kernels.now c.args.masks.now here rests part c.in_ok-tree.ensures.are_for
-      (leaves_on part here c.go_down.new.b c.tree.new.b rests c.go_down.new.sets.asking.rests c.tree.new.sets.asking.rests c.in_ok-go_down.ensures.leaves c.in_ok-tree.ensures.keeps)
-      settled (highest_part here.current v h settled.closed.proper)).0,
+          (leaves_on part here c.go_down.new.b c.tree.new.b rests c.go_down.new.sets.asking.rests c.tree.new.sets.asking.rests c.in_ok-go_down.ensures.leaves c.in_ok-tree.ensures.keeps)
+          settled (highest_part here.current v h settled.closed.proper)).0,
     )
 
 pub returns-clause-keeps : goal.returns-clause-keeps
@@ -38,6 +38,6 @@ returns-clause-keeps t c =
     let settled = c.in_ok-fixed.ensures.settled down.0 in
     let h : v < length here.current = let b = c.below-v.ensures in omega arith in
     let back = (c.in_ok-go_back.ensures c.args.kernels.now c.args.masks.now here rests part c.in_ok-tree.ensures.are_for
-        (leaves_on part here c.go_down.new.b c.tree.new.b rests c.go_down.new.sets.asking.rests c.tree.new.sets.asking.rests c.in_ok-go_down.ensures.leaves c.in_ok-tree.ensures.keeps)
-        settled (highest_part here.current v h settled.closed.proper)).1 in
+    (leaves_on part here c.go_down.new.b c.tree.new.b rests c.go_down.new.sets.asking.rests c.tree.new.sets.asking.rests c.in_ok-go_down.ensures.leaves c.in_ok-tree.ensures.keeps)
+    settled (highest_part here.current v h settled.closed.proper)).1 in
     keeps_on c.args.b.now here _ _ rests _ c.in_ok-fixed.ensures.keeps (keeps_on here _ _ rests _ _ back c.in_ok-tree-2.ensures.keeps)

@@ -46,3 +46,4 @@ pub mod ShapeQuiet
 pub mod ProductQuiet
 pub mod ShortTellLaws
 pub mod ShortSumLaws
+pub mod RestLaws

@@ -21,3 +21,4 @@ pub mod Short
 pub mod ShortTells
 pub mod Shapes
 pub mod Products
+pub mod Rests

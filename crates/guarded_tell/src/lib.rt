@@ -21,6 +21,7 @@ mod parted_quiet;
 mod products;
 mod quiet;
 mod remainder;
+mod resting;
 mod shape;
 mod short;
 mod short_sum;
@@ -35,6 +36,7 @@ pub use laws::{law_local, law_monotone, law_narrowing, law_point, law_tell_place
 pub use literal_list::Literals;
 pub use narrowing::visit_narrowing;
 pub use quiet::Hint;
+pub use resting::{Rest, rest_of};
 pub use shape::{Shape, shape_of};
 pub use tells::{Hear, Lit, Side, Tell};
 pub use visit::visit_tells;

@@ -177,7 +177,7 @@ pub fn is_apart(y: i64, z: i64) -> bool
 
 /// The sum of two small numbers.
 #[tactic(auto, unfolding(crate::specs::Short::small_product_limit, crate::specs::Short::small_limit))]
-fn sum(a: i64, z: i64) -> i64
+pub fn sum(a: i64, z: i64) -> i64
     requires first { unsigned_abs a ≤ small_product_limit }
     requires second { unsigned_abs z ≤ small_product_limit }
     ensures { result ≡ a +ℤ z }

@@ -113,7 +113,7 @@ fn are_two_open(coeffs: &[i64], vars: &[u32], b: &BoxOf, hint: &mut Hint) -> boo
 }
 
 /// Whether the terms at the hint's two places aren't fixed.
-fn are_open_at(coeffs: &[i64], vars: &[u32], hint: Hint, b: &BoxOf) -> bool
+pub fn are_open_at(coeffs: &[i64], vars: &[u32], hint: Hint, b: &BoxOf) -> bool
     requires linear { IsLinear coeffs.now vars.now (pos 0) }
     requires variables { AreVariables (length b.now) vars.now }
     ensures { OnTrue result (AreTwoOpen b.now coeffs.now vars.now) }
@@ -224,8 +224,8 @@ fn leaves_bounds_alone(limit: i64, sums: Sums) -> bool
 #[derive(Clone, Copy, PartialEq, Eq, Debug)]
 pub struct Hint {
     // two places of a clause or of a sum, the lower first, or one place twice
-    first: u32,
-    second: u32,
+    pub(crate) first: u32,
+    pub(crate) second: u32,
 }
 
 impl Hint {

@@ -1,0 +1,54 @@
+-- How long a kernel needs no visit.
+use Rattle.std.specs.Prelude.{ℕ, ℤ, ◌≡◌, ◌⊎◌, ◌+ℤ◌, ◌≤ℤ◌, ◌<ℤ◌, ◌<◌, true, List, length, slice_index_or}
+use Rattle.std.specs.List.{All}
+use Rattle.interval.specs.Boxes.{Bounds, low_of, high_of, IsInside}
+use Rattle.guarded_tell.specs.declared.kernel.Kernel.{Kernel}
+use Rattle.guarded_tell.specs.declared.resting.Rest.{Rest}
+use Rattle.guarded_tell.specs.declared.resting.Rest.TheVariants.{Awake, UntilFixed, ForGood}
+use Rattle.tells.specs.declared.tell.Lit.{Lit}
+use Rattle.guarded_tell.specs.declared.pairs.Pair.{Pair}
+use Rattle.guarded_tell.specs.Words.{IsProperIn, is_sure, is_out}
+use Rattle.guarded_tell.specs.Kernels.{vars_of, IsClosedUnder}
+
+-- the variable has one number left
+abbrev pub IsFixedAt : Bounds → ℕ → Type 0
+IsFixedAt b v = low_of b v ≡ high_of b v
+
+-- of these variables, those that are fixed in the inner box were fixed in the outer one
+abbrev pub FixesNoOther : List ℕ → Bounds → Bounds → Type 0
+FixesNoOther vars outer inner = All (λ v. IsFixedAt inner v → IsFixedAt outer v) vars
+
+-- the kernel narrows no box inside this one
+abbrev pub IsEntailed : Kernel → Bounds → Type 0
+IsEntailed k b = (c : Bounds) → IsInside c b → IsProperIn (vars_of k) c → IsClosedUnder k c
+
+-- nor, as long as no other of its variables is fixed, a box inside this one
+abbrev pub IsQuietUntilFixed : Kernel → Bounds → Type 0
+IsQuietUntilFixed k b = (c : Bounds) → IsInside c b → IsProperIn (vars_of k) c → FixesNoOther (vars_of k) b c → IsClosedUnder k c
+
+-- the kernel rests so long
+abbrev pub IsRest : Kernel → Bounds → Rest → Type 0
+IsRest k b Awake = Unit {0}
+IsRest k b UntilFixed = IsQuietUntilFixed k b
+IsRest k b ForGood = IsEntailed k b
+
+-- ---- what is seen of the sum of two terms
+
+-- whatever their numbers become, the literal stays as it is, and so does whether the sum is at most the limit
+abbrev pub IsAtMostSettled : Bounds → Lit → ℤ → Pair → Type 0
+IsAtMostSettled b l limit p =
+    ((is_sure l b ≡ true) × ((p.first.greatest +ℤ p.second.greatest) ≤ℤ limit))
+    ⊎ ((is_out l b ≡ true) × (limit <ℤ (p.first.least +ℤ p.second.least)))
+
+-- the sum must not be the limit, and can't be
+abbrev pub IsNeverSame : Bounds → Lit → ℤ → Pair → Type 0
+IsNeverSame b l limit p =
+    (is_out l b ≡ true) × ((limit <ℤ (p.first.least +ℤ p.second.least)) ⊎ ((p.first.greatest +ℤ p.second.greatest) <ℤ limit))
+
+-- the sum must not be the limit, and neither term is fixed
+abbrev pub IsOpenUnequal : Bounds → Lit → Pair → Type 0
+IsOpenUnequal b l p = (is_out l b ≡ true) × (p.first.least <ℤ p.first.greatest) × (p.second.least <ℤ p.second.greatest)
+
+-- the literal at a place is sure
+abbrev pub IsSureAt : List Lit → ℕ → Bounds → Type 0
+IsSureAt lits place b = (place < length lits) × ((d : Lit) → is_sure (slice_index_or lits place d) b ≡ true)

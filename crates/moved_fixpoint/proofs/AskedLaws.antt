@@ -1,14 +1,18 @@
 -- Sets of kernels that are asked.
-use Rattle.std.proofs.Common.{◌≡◌, ◌≢◌, ℕ, ◌+◌, ◌<◌, Bool, true, false, ◌||◌, List, [], ◌∷◌, ◌++◌, length, take, get_or, set, refl, sym, ◌∙◌, ap, subst, ◌⊎◌, ⊎_elim, inl, inr, arith}
+use Rattle.std.proofs.Common.{◌≡◌, ℕ, ◌+◌, ◌<◌, Bool, true, false, ◌||◌, ◌&&◌, List, [], length, take, get_or, set, refl, sym, ◌∙◌, ap, subst, ◌⊎◌, inl, inr, arith}
 use Rattle.std.specs.List.{All}
 use Rattle.std.proofs.lemmas.Bool.{true≢false, cases_lt, cases_eq}
-use Rattle.std.proofs.lemmas.List.{get_or_past, get_or-set_other, get_or-set_same, length-set, take_more, length_push}
+use Rattle.std.proofs.lemmas.List.{get_or_past, get_or-set_other, get_or-set_same, take_more, length_push}
 use Rattle.std.proofs.lemmas.List.Elements.{All-nil, All-push}
+use Rattle.interval.specs.Boxes.{Bounds}
 use Rattle.guarded_tell.specs.Words.{Tell}
+use Rattle.guarded_tell.specs.Rests.{IsFixedAt}
 use Rattle.moved_set.specs.Sets.{IsIn, Naming, set_at}
 use Rattle.moved_set.specs.Asking.{IsAsked}
-use Rattle.moved_fixpoint.specs.Moved.{Set, count_of}
-use Rattle.moved_fixpoint.specs.Asked.{AreAsked}
+use Rattle.moved_fixpoint.specs.declared.rests.Rests.{Rests}
+use Rattle.moved_fixpoint.specs.Moved.{Set}
+use Rattle.moved_fixpoint.specs.Rested.{Heeds}
+use Rattle.moved_fixpoint.specs.Asked.{AreAsked, IsAskedFor}
 
 pub in_range : (s : Set) (j : ℕ) → IsIn s j → j < length s
 in_range s j is_in = elim (cases_lt j (length s)) [
@@ -27,23 +31,50 @@ pub or_right : (a b : Bool) → b ≡ true → (a || b) ≡ true
 or_right true b e = refl
 or_right false b e = e
 
-pub asked_none : (rows : Naming) (s : Set) → AreAsked rows [] s s
-asked_none rows s = record { same_count = refl; kept = λ j i. i; told = λ j h. All-nil (λ (t : Tell). IsIn (set_at rows j) t.var → IsIn s j); none = λ e. refl }
+both : (a b : Bool) → a ≡ true → b ≡ true → (a && b) ≡ true
+both true b e f = f
+both false b e f = absurd (true≢false (sym e))
+
+-- where the variable is fixed all that are open are asked, else those that are alert
+module _ (naming : Naming) (rests : Rests) (b : Bounds) (v : ℕ) (old new : Set) where
+  pub ask_open : IsAsked old (λ j. get_or (set_at naming j) v false && get_or rests.open.current j false) new → IsAskedFor naming rests b v old new
+  ask_open more = record {
+    same_count = more.same_length;
+    kept = λ j is_in. more.each j (in_range old j is_in) ∙ or_left (get_or old j false) _ is_in;
+    told = λ j h names heeds. more.each j h ∙ or_right (get_or old j false) _ (both (get_or (set_at naming j) v false) _ names heeds.0);
+  }
+
+  pub ask_alert : (IsFixedAt b v → ⊥) → IsAsked old (λ j. get_or (set_at naming j) v false && get_or rests.alert.current j false) new → IsAskedFor naming rests b v old new
+  ask_alert not_fixed more = record {
+    same_count = more.same_length;
+    kept = λ j is_in. more.each j (in_range old j is_in) ∙ or_left (get_or old j false) _ is_in;
+    told = λ j h names heeds. elim heeds.1 [
+      | inl alert ↦ more.each j h ∙ or_right (get_or old j false) _ (both (get_or (set_at naming j) v false) _ names alert)
+      | inr fixed ↦ absurd (not_fixed fixed)
+    ];
+  }
+
+pub asked_none : (naming : Naming) (rests : Rests) (b : Bounds) (s : Set) → AreAsked naming rests b [] s s
+asked_none naming rests b s = record {
+  same_count = refl;
+  kept = λ j i. i;
+  told = λ j h. All-nil (λ (t : Tell). IsIn (set_at naming j) t.var → Heeds rests b j t.var → IsIn s j);
+  none = λ e. refl;
+}
 
 -- one tell more
-pub asked_more : (rows : Naming) (ts : List Tell) (i : ℕ) (d : Tell) (old mid new : Set) → i < length ts → AreAsked rows (take i ts) old mid
-    → IsAsked mid (λ j. get_or (set_at rows j) (get_or ts i d).var false) new → AreAsked rows (take (i + 1) ts) old new
-asked_more rows ts i d old mid new h asked more =
+pub asked_more : (naming : Naming) (rests : Rests) (b : Bounds) (ts : List Tell) (i : ℕ) (d : Tell) (old mid new : Set) → i < length ts →
+    AreAsked naming rests b (take i ts) old mid → IsAskedFor naming rests b (get_or ts i d).var mid new → AreAsked naming rests b (take (i + 1) ts) old new
+asked_more naming rests b ts i d old mid new h asked more =
     let len = asked.same_count in
-    let keeps : (j : ℕ) → IsIn mid j → IsIn new j = λ j is_in. more.each j (in_range mid j is_in) ∙ or_left (get_or mid j false) _ is_in in
     record {
-      same_count = more.same_length ∙ asked.same_count;
-      kept = λ j is_in. keeps j (asked.kept j is_in);
+      same_count = more.same_count ∙ asked.same_count;
+      kept = λ j is_in. more.kept j (asked.kept j is_in);
       told = λ j k.
-          let old_ones : All (λ (t : Tell). IsIn (set_at rows j) t.var → IsIn new j) (take i ts) = λ x e l names. keeps j (asked.told j k x e l names) in
-          let here : IsIn (set_at rows j) (get_or ts i d).var → IsIn new j = λ names. more.each j (omega arith) ∙ or_right (get_or mid j false) _ names in
-          subst (λ (xs : List Tell). All (λ (t : Tell). IsIn (set_at rows j) t.var → IsIn new j) xs) (sym (take_more ts i d h))
-          (All-push (λ (t : Tell). IsIn (set_at rows j) t.var → IsIn new j) (take i ts) (get_or ts i d) old_ones here);
+          let old_ones : All (λ (t : Tell). IsIn (set_at naming j) t.var → Heeds rests b j t.var → IsIn new j) (take i ts) =
+          λ x e l names heeds. more.kept j (asked.told j k x e l names heeds) in
+          subst (λ (xs : List Tell). All (λ (t : Tell). IsIn (set_at naming j) t.var → Heeds rests b j t.var → IsIn new j) xs) (sym (take_more ts i d h))
+          (All-push (λ (t : Tell). IsIn (set_at naming j) t.var → Heeds rests b j t.var → IsIn new j) (take i ts) (get_or ts i d) old_ones (more.told j (omega arith)));
       none = λ e. let more_is = ap length (take_more ts i d h) ∙ length_push (take i ts) (get_or ts i d) in absurd (omega arith);
     }
 

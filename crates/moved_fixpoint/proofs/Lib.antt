@@ -2,6 +2,7 @@ pub mod Joining
 pub mod Telling
 pub mod Hearing
 pub mod Gathering
+pub mod RestLaws
 pub mod AskedLaws
 pub mod RunLemmas
 pub mod Rounding
@@ -9,3 +10,4 @@ pub mod Settling
 pub mod Widths
 pub mod DrawnLaws
 pub mod QuietLaws
+pub mod KnownLaws

@@ -30,10 +30,10 @@ all_moved place b k set kernel each misses (suc n) e =
     absurd (misses 0 0 some (each (get_or (vars_of k) 0 0) (kernel.variables.each 0 some)))
 
 -- a set with one more variable
-marked : (set : Set) (v : ℕ) → v < count_of set → IsIn (slice_set set v true) v
+pub marked : (set : Set) (v : ℕ) → v < count_of set → IsIn (slice_set set v true) v
 marked set v h = get_or-set_same set v true false h
 
-marked_more : (set : Set) (v w : ℕ) → v < count_of set → IsIn set w → IsIn (slice_set set v true) w
+pub marked_more : (set : Set) (v w : ℕ) → v < count_of set → IsIn set w → IsIn (slice_set set v true) w
 marked_more set v w h is_in = elim (cases_eq w v) [
   | inl e ↦ subst (λ (x : ℕ). IsIn (slice_set set v true) x) (sym e) (marked set v h)
   | inr ne ↦ get_or-set_other set v w true false ne ∙ is_in

@@ -1,6 +1,6 @@
 -- All tells of one kernel, heard by the box that they were made for.
-use Rattle.std.proofs.Common.{◌≡◌, ◌≢◌, ℕ, ℤ, ◌<◌, ◌⊎◌, inl, inr, Bool, true, false, cond, refl, List, [], ◌∷◌, length, get_or, set, sym, subst, ◌∙◌, ap, arith}
-use Rattle.std.proofs.lemmas.List.{get_or_default, get_or-set_other, get_or-set_same, length-set}
+use Rattle.std.proofs.Common.{◌≡◌, ◌≢◌, ℕ, ℤ, ◌<◌, inl, inr, Bool, true, false, cond, refl, List, [], ◌∷◌, length, get_or, set, sym, subst, ◌∙◌, ap, arith}
+use Rattle.std.proofs.lemmas.List.{get_or_default, get_or-set_other, length-set}
 use Rattle.std.proofs.lemmas.List.Elements.{All-filter, All-head, All-tail}
 use Rattle.std.specs.List.{All, Contains, filter}
 use Rattle.std.proofs.lemmas.Int.{ints}
@@ -16,13 +16,16 @@ use Rattle.guarded_tell.specs.Kernels.{vars_of, tells, IsKernel, IsClosedUnder}
 use Rattle.guarded_tell.specs.Narrowing.{narrows, narrowing_tells}
 use Rattle.moved_set.specs.Sets.{IsIn, Naming, IsNaming, set_at}
 use Rattle.fixpoint_laws.specs.Changes.{TightensOne}
+use Rattle.fixpoint_laws.specs.Rounds.{HasRun}
+use Rattle.moved_fixpoint.specs.declared.rests.Rests.{Rests}
 use Rattle.moved_fixpoint.specs.declared.joiner.Progress.{Progress}
-use Rattle.moved_fixpoint.specs.declared.joiner.Progress.TheVariants.{Still, Moved, Crossed, Refused}
+use Rattle.moved_fixpoint.specs.declared.joiner.Progress.TheVariants.{Crossed, Refused}
 use Rattle.moved_fixpoint.specs.Moved.{Set, count_of}
+use Rattle.moved_fixpoint.specs.Rested.{Heeds, HasRested}
 use Rattle.moved_fixpoint.specs.Asked.{AreAsked}
 use Rattle.moved_fixpoint.specs.Heard.{GoesOn, Hears, joined}
-use Rattle.moved_fixpoint.specs.Runs.{SameAt, Spares, HasVisited, KernelRuns}
-use Rattle.moved_fixpoint.proofs.AskedLaws.{in_range}
+use Rattle.moved_fixpoint.specs.Runs.{SameAt, HasVisited, KernelRuns}
+use Rattle.moved_fixpoint.proofs.RestLaws.{in_or_not, proper_of, entailed_here, quiet_here}
 use Rattle.moved_fixpoint.proofs.Hearing.{Effect, IsPlaced, effect, effect_of_all}
 
 -- the laws of the kernels, as their functions state them
@@ -98,24 +101,48 @@ module _ (place : TellPlace) (k : Kernel) (b : Bounds) (kernel : IsKernel (lengt
     pub gathered_placed : All (IsPlaced (length b)) told
     gathered_placed = subst (λ (ts : List Tell). All (IsPlaced (length b)) ts) (sym is) narrowing_placed
 
-    -- the round is over, as nothing could be gathered
     module _ (local : Local) (monotone : Monotone) (range : IsInRange b) (proper : IsProper b) (kernels : List Kernel) (i : ℕ) (here : k ≡ get_or kernels i k) (i_in : i < length kernels)
-        (naming : Naming) (named : IsNaming kernels naming) (old : Set) (count : count_of old ≡ length kernels) (p : Progress) (tight : Tight) where
+        (naming : Naming) (named : IsNaming kernels naming) (old : Set) (count : count_of old ≡ length kernels) (rests : Rests) (p : Progress) (tight : Tight) where
       inside_own : (c : Bounds) → IsInside c b → IsInsideIn (vars_of k) c b
       inside_own c i = record { lows = λ j h. i.lows _ (kernel.variables.each j h); highs = λ j h. i.highs _ (kernel.variables.each j h) }
 
-      module _ (after : Bounds) (new : Set) (p' : Progress) (e : Effect b p (tells k b) told after p') (asked : AreAsked naming told (set old i false) new) where
-        -- of a kernel that isn't asked then, no variable moved
-        spared : GoesOn p' → (j : ℕ) (d : Kernel) → j < length kernels → (IsIn new j → ⊥) → All (SameAt after b) (vars_of (get_or kernels j d))
-        spared g j d h none x w l =
+      has_run : (after : Bounds) (p' : Progress) → Effect b p (tells k b) told after p' → HasRun k b after
+      has_run after p' e = record {
+        inside = e.inside;
+        keeps_closed = λ c proper_c closed i. e.holds c i (monotone k b c kernel range i.same_length (proper_in proper) closed (inside_own c i));
+      }
+
+      -- the round is over
+      over_runs : (after : Bounds) (p' p'' : Progress) → Effect b p (tells k b) told after p' → (GoesOn p'' → ⊥) → (p'' ≡ Crossed → p' ≡ Crossed) →
+          (rests' : Rests) → HasVisited kernels i k b old rests p after (set old i false) rests' p''
+      over_runs after p' p'' e over same rests' = record {
+        run = has_run after p' e;
+        same_count = length-set old i false;
+        going = λ g. absurd (over g);
+        kept = λ g. absurd (over g);
+        unmoved = λ g. absurd (over g);
+        rested = λ g. absurd (over g);
+        heard = λ g. absurd (over g);
+        closed = λ g. absurd (over g);
+        still = λ s. absurd (over (subst (λ (x : Progress). GoesOn x) (sym s) tt));
+        moves = λ s. absurd (over (subst (λ (x : Progress). GoesOn x) (sym s) tt));
+        proper = λ g. absurd (over g);
+        crossed = λ s. e.crossed (same s);
+      }
+
+      module _ (order : InsideOrder) (after : Bounds) (new : Set) (rests' : Rests) (p' : Progress) (e : Effect b p (tells k b) told after p')
+          (asked : AreAsked naming rests' after told (set old i false) new) (rested : HasRested k i after rests rests') where
+        -- of a kernel that isn't asked then, no variable moved of which it would heed that
+        spared : GoesOn p' → (j : ℕ) (d : Kernel) → j < length kernels → (IsIn new j → ⊥) → All (λ v. Heeds rests' after j v → SameAt after b v) (vars_of (get_or kernels j d))
+        spared g j d h none x w l heeds =
             let v : ℕ = get_or (vars_of (get_or kernels j d)) x w in
             let len = length-set old i false in
             e.unmoved g v (λ y t m same.
             let names : IsIn (set_at naming j) v = (named.each j d v h).1 (x, l, get_or_default (vars_of (get_or kernels j d)) x v w l) in
-            none (asked.told j (omega arith) y t m (subst (λ (n : ℕ). IsIn (set_at naming j) n) same names)))
+            none (asked.told j (omega arith) y t m (subst (λ (n : ℕ). IsIn (set_at naming j) n) same names) (subst (λ (n : ℕ). Heeds rests' after j n) same heeds)))
 
-        own_spared : GoesOn p' → (IsIn new i → ⊥) → All (SameAt after b) (vars_of k)
-        own_spared g none = subst (λ (x : Kernel). All (SameAt after b) (vars_of x)) (sym here) (spared g i k i_in none)
+        own_spared : GoesOn p' → (IsIn new i → ⊥) → IsIn rests'.open.current i → IsIn rests'.alert.current i → All (SameAt after b) (vars_of k)
+        own_spared g none is_open alert = subst (λ (x : Kernel). All (SameAt after b) (vars_of x)) (sym here) (λ x w l. spared g i k i_in none x w l (is_open, inl alert))
 
         kept_set : (j : ℕ) → j ≢ i → IsIn old j → IsIn new j
         kept_set j ne is_in = asked.kept j (get_or-set_other old i j false false ne ∙ is_in)
@@ -127,24 +154,37 @@ module _ (place : TellPlace) (k : Kernel) (b : Bounds) (kernel : IsKernel (lengt
         silent : after ≡ b → All (Keeps after) (tells k b) → new ≡ set old i false
         silent same heard = asked.none (ap length is ∙ none_narrow tight b (tells k b) (subst (λ (x : Bounds). All (Keeps x) (tells k b)) same heard))
 
-        closed_own : GoesOn p' → (IsIn new i → ⊥) → IsClosedUnder k after
-        closed_own g none =
-            let same = agree_in k after b (own_spared g none) in
+        closed_alert : GoesOn p' → (IsIn new i → ⊥) → IsIn rests'.open.current i → IsIn rests'.alert.current i → IsClosedUnder k after
+        closed_alert g none is_open alert =
+            let same = agree_in k after b (own_spared g none is_open alert) in
             record {
               proper = proper_unless k after b same (proper_in proper);
               kept = subst (λ (ts : List Tell). All (Keeps after) ts) (sym (local k after b same)) (e.heard g);
             }
 
-        kernel_runs : HasVisited kernels i k b old p after new p'
+        proper_then : GoesOn p' → IsProperIn (vars_of k) after
+        proper_then g = proper_of k (length b) after kernel e.inside.same_length (e.proper g proper)
+
+        closed_own : GoesOn p' → (IsIn new i → ⊥) → IsIn rests.open.current i → IsClosedUnder k after
+        closed_own g none was_open = elim (in_or_not rests'.open.current i) [
+          | inr shut ↦ elim (rested.entailed shut) [
+            | inl was_shut ↦ absurd (was_shut was_open)
+            | inr entailed ↦ entailed_here order k after (proper_then g) entailed
+          ]
+          | inl is_open ↦ elim (in_or_not rests'.alert.current i) [
+            | inl alert ↦ closed_alert g none is_open alert
+            | inr dozing ↦ quiet_here order k after (proper_then g) (rested.dormant dozing)
+          ]
+        ]
+
+        kernel_runs : HasVisited kernels i k b old rests p after new rests' p'
         kernel_runs = record {
-          run = record {
-            inside = e.inside;
-            keeps_closed = λ c proper_c closed i. e.holds c i (monotone k b c kernel range i.same_length (proper_in proper) closed (inside_own c i));
-          };
+          run = has_run after p' e;
           same_count = asked.same_count ∙ length-set old i false;
           going = e.going;
           kept = λ g j ne is_in. kept_set j ne is_in;
           unmoved = spared;
+          rested = λ g. rested;
           heard = e.heard;
           closed = closed_own;
           still = λ s. let q = e.still s in let h = e.heard (subst (λ (x : Progress). GoesOn x) (sym s) tt) in (q.0, q.1, closed_still q.1 h, silent q.1 h);
@@ -153,19 +193,49 @@ module _ (place : TellPlace) (k : Kernel) (b : Bounds) (kernel : IsKernel (lengt
           crossed = e.crossed;
         }
 
-      pub gathered_runs : InsideOrder → TightensOne → Tighter → (after : Bounds) (new : Set) (p' : Progress) → HearsAll Hears (joined b p) told (joined after p') →
-          AreAsked naming told (set old i false) new → HasVisited kernels i k b old p after new p'
-      gathered_runs order tightens tighter after new p' heard asked =
-          let own : Effect b p told told after p' = effect order tightens (joined b p) told (joined after p') gathered_placed heard in
-          let narrowing : Effect b p (narrowing_tells k b) told after p' = subst (λ (ts : List Tell). Effect b p ts told after p') is own in
-          kernel_runs after new p' (effect_of_all tighter b (tells k b) told all_placed p after p' narrowing) asked
+      module _ (order : InsideOrder) (tightens : TightensOne) (tighter : Tighter) (after : Bounds) (p' : Progress) (heard : HearsAll Hears (joined b p) told (joined after p')) where
+        all_heard : Effect b p (tells k b) told after p'
+        all_heard =
+            let own : Effect b p told told after p' = effect order tightens (joined b p) told (joined after p') gathered_placed heard in
+            let narrowing : Effect b p (narrowing_tells k b) told after p' = subst (λ (ts : List Tell). Effect b p ts told after p') is own in
+            effect_of_all tighter b (tells k b) told all_placed p after p' narrowing
+
+        pub gathered_over : (GoesOn p' → ⊥) → (new : Set) → new ≡ set old i false → (rests' : Rests) → HasVisited kernels i k b old rests p after new rests' p'
+        gathered_over over new e rests' =
+            subst (λ (s : Set). HasVisited kernels i k b old rests p after s rests' p') (sym e) (over_runs after p' p' all_heard over (λ s. s) rests')
+
+        pub gathered_refused : (new : Set) → new ≡ set old i false → (rests' : Rests) → HasVisited kernels i k b old rests p after new rests' Refused
+        gathered_refused new e rests' =
+            subst (λ (s : Set). HasVisited kernels i k b old rests p after s rests' Refused) (sym e) (over_runs after p' Refused all_heard (λ g. g) (λ s. absurd (cc)) rests')
+
+        -- the kernel can be asked how long it rests on the box as it is then
+        module _ (then : Bounds) (then_is : then ≡ after) where
+          pub kernel_after : IsKernel (length then) k
+          kernel_after = let same = ap length then_is ∙ all_heard.inside.same_length in subst (λ (n : ℕ). IsKernel n k) (sym same) kernel
+
+          pub length_after : length then ≡ length b
+          length_after = ap length then_is ∙ all_heard.inside.same_length
+
+          pub proper_after : GoesOn p' → IsProperIn (vars_of k) then
+          proper_after g = proper_of k (length b) then kernel length_after (subst IsProper (sym then_is) (all_heard.proper g proper))
+
+        pub gathered_runs : (rested_on : Bounds) → rested_on ≡ after → (rests_before : Rests) → rests_before ≡ rests → (rests' : Rests) → HasRested k i rested_on rests_before rests' →
+            (asked_on : Bounds) → asked_on ≡ after → (told' : List Tell) → told' ≡ told → (mid new : Set) → mid ≡ set old i false → AreAsked naming rests' asked_on told' mid new →
+            HasVisited kernels i k b old rests p after new rests' p'
+        gathered_runs rested_on on_is rests_before before_is rests' rested asked_on asked_is told' told_is mid new mid_is asked =
+            kernel_runs order after new rests' p' all_heard
+            (subst (λ (s : Set). AreAsked naming rests' after told s new) mid_is
+            (subst (λ (ts : List Tell). AreAsked naming rests' after ts mid new) told_is
+            (subst (λ (x : Bounds). AreAsked naming rests' x told' mid new) asked_is asked)))
+            (subst (λ (r : Rests). HasRested k i after r rests') before_is
+            (subst (λ (x : Bounds). HasRested k i x rests_before rests') on_is rested))
 
 -- the kernel by any default
-pub any_default : (kernels : List Kernel) (i : ℕ) (k : Kernel) (before : Bounds) (asked : Set) (p : Progress) (after : Bounds) (asked_after : Set) (p_after : Progress) →
-    i < length kernels → k ≡ get_or kernels i k → HasVisited kernels i k before asked p after asked_after p_after →
-    KernelRuns kernels i before asked p after asked_after p_after
-any_default kernels i k before asked p after asked_after p_after h is v d =
-    subst (λ (x : Kernel). HasVisited kernels i x before asked p after asked_after p_after) (is ∙ get_or_default kernels i k d h) v
+pub any_default : (kernels : List Kernel) (i : ℕ) (k : Kernel) (before : Bounds) (asked : Set) (rests : Rests) (p : Progress) (after : Bounds) (asked_after : Set) (rests_after : Rests) (p_after : Progress) →
+    i < length kernels → k ≡ get_or kernels i k → HasVisited kernels i k before asked rests p after asked_after rests_after p_after →
+    KernelRuns kernels i before asked rests p after asked_after rests_after p_after
+any_default kernels i k before asked rests p after asked_after rests_after p_after h is v d =
+    subst (λ (x : Kernel). HasVisited kernels i x before asked rests p after asked_after rests_after p_after) (is ∙ get_or_default kernels i k d h) v
 
 pub here_is : (kernels : List Kernel) (n i : ℕ) (k : Kernel) → All (IsKernel n) kernels → i < length kernels → k ≡ get_or kernels i k → IsKernel n k
 here_is kernels n i k all h is = subst (IsKernel n) (sym is) (all i k h)

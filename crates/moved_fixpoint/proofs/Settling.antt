@@ -11,12 +11,14 @@ use Rattle.fixpoint_laws.specs.OneRound.{LeadsIn, RoundsLead}
 use Rattle.fixpoint_laws.specs.declared.limited.Limited.TheVariants.{Fixed, Failed, RoundsSpent}
 use Rattle.moved_fixpoint.specs.declared.joiner.Progress.TheVariants.{Still, Moved, Crossed}
 use Rattle.moved_fixpoint.specs.Moved.{Set, count_of, IsEmpty}
-use Rattle.moved_fixpoint.specs.Asked.{AreAskedOrQuiet}
+use Rattle.moved_fixpoint.specs.declared.rests.Rests.{Rests}
+use Rattle.moved_fixpoint.specs.Resting.{AreResting, KeepStacks}
+use Rattle.moved_fixpoint.specs.Asked.{AreAtRest}
 use Rattle.moved_fixpoint.specs.Round.{IsRound}
 use Rattle.moved_fixpoint.specs.Ends.{HasEnded}
 
 -- where propagation from a stands after some rounds, before the next
-pub record Goes (kernels : List Kernel) (limit : ℕ) (a : Bounds) (rounds : ℕ) (b : Bounds) (m : Set) : Type 0 where
+pub record Goes (kernels : List Kernel) (limit : ℕ) (a : Bounds) (rounds : ℕ) (b : Bounds) (m : Set) (rests : Rests) : Type 0 where
   pub proper : IsProper b
   pub run : HaveRun kernels a b
   pub first : rounds ≡ 0 → b ≡ a
@@ -24,14 +26,24 @@ pub record Goes (kernels : List Kernel) (limit : ℕ) (a : Bounds) (rounds : ℕ
   pub widths : rounds + width_sum_of b ≤ width_sum_of a
   pub within_limit : limit ≢ 0 → rounds < limit
   pub fit : count_of m ≡ length kernels
-  pub quiet : AreAskedOrQuiet m b kernels
+  pub at_rest : AreAtRest m rests b kernels
+
+-- a round that moved nothing leaves none asked, so those that aren't alert rest
+pub rest_at_end : (kernels : List Kernel) (b c : Bounds) (m : Set) (rests : Rests) → IsRound kernels b c m rests Still → AreResting rests.open.current rests.alert.current c kernels
+rest_at_end kernels b c m rests r =
+    let then = r.at_rest tt in
+    let still = r.still refl in
+    record { entailed = then.entailed; dormant = λ j k h dozing. then.dormant j k h (still.2 j) dozing }
+
+pub stacks_through : (a b c : Rests) → KeepStacks a b → KeepStacks b c → KeepStacks a c
+stacks_through a b c s t = record { open_stack = t.open_stack ∙ s.open_stack; alert_stack = t.alert_stack ∙ s.alert_stack }
 
 not_both : (b : Bounds) → IsCrossed b → IsProper b → ⊥
 not_both b (v, h, c) p = omega (arith, ints, p v h)
 
 module _ (order : InsideOrder) (lead : RoundsLead) (kernels : List Kernel) (limit : ℕ) (a : Bounds) where
-  pub goes_first : (m : Set) → IsProper a → count_of m ≡ length kernels → AreAskedOrQuiet m a kernels → Goes kernels limit a 0 a m
-  goes_first m proper fit quiet = record {
+  pub goes_first : (m : Set) (rests : Rests) → IsProper a → count_of m ≡ length kernels → AreAtRest m rests a kernels → Goes kernels limit a 0 a m rests
+  goes_first m rests proper fit at_rest = record {
     proper = proper;
     run = record { inside = order.itself a; keeps_closed = λ c closed i. i };
     first = λ e. refl;
@@ -39,19 +51,19 @@ module _ (order : InsideOrder) (lead : RoundsLead) (kernels : List Kernel) (limi
     widths = omega arith;
     within_limit = λ ne. zero_below limit ne;
     fit = fit;
-    quiet = quiet;
+    at_rest = at_rest;
   } where
     zero_below : (l : ℕ) → l ≢ 0 → 0 < l
     zero_below l ne = omega arith
 
-  module _ (rounds : ℕ) (b : Bounds) (m : Set) (g : Goes kernels limit a rounds b m) where
+  module _ (rounds : ℕ) (b : Bounds) (m : Set) (rests : Rests) (g : Goes kernels limit a rounds b m rests) where
     proper_start : IsProper a
     proper_start = order.outer_is_proper b a g.proper g.run.inside
 
     never_zero : (r : ℕ) → (r + 1 ≡ 0) ↔ IsCrossed a
     never_zero r = ((λ e. absurd (omega arith)), (λ x. absurd (not_both a x proper_start)))
 
-    module _ (c : Bounds) (m' : Set) where
+    module _ (c : Bounds) (m' : Set) (rests' : Rests) where
       run_on : HaveRun kernels b c → HaveRun kernels a c
       run_on r = record {
         inside = order.through c b a r.inside g.run.inside;
@@ -59,7 +71,7 @@ module _ (order : InsideOrder) (lead : RoundsLead) (kernels : List Kernel) (limi
       }
 
       -- a round that moved nothing
-      pub ended_fixed : IsRound kernels b c m' Still → HasEnded kernels limit a c (Fixed (rounds + 1))
+      pub ended_fixed : IsRound kernels b c m' rests' Still → HasEnded kernels limit a c (Fixed (rounds + 1))
       ended_fixed r = record {
         same_length = all_run.inside.same_length;
         fixed = record { closed = closed; inside = all_run.inside; greatest = all_run.keeps_closed };
@@ -86,7 +98,7 @@ module _ (order : InsideOrder) (lead : RoundsLead) (kernels : List Kernel) (limi
         closed = record { proper = r.proper tt; quiet = still.1 }
 
       -- a round that crossed the box
-      pub ended_failed : IsRound kernels b c m' Crossed → HasEnded kernels limit a c (Failed (rounds + 1))
+      pub ended_failed : IsRound kernels b c m' rests' Crossed → HasEnded kernels limit a c (Failed (rounds + 1))
       ended_failed r = record {
         same_length = all_run.inside.same_length;
         fixed = tt;
@@ -103,7 +115,7 @@ module _ (order : InsideOrder) (lead : RoundsLead) (kernels : List Kernel) (limi
         all_run : HaveRun kernels a c
         all_run = run_on r.run
 
-      module _ (r : IsRound kernels b c m' Moved) where
+      module _ (r : IsRound kernels b c m' rests' Moved) where
         moved_proper : IsProper c
         moved_proper = r.proper tt
 
@@ -139,7 +151,7 @@ module _ (order : InsideOrder) (lead : RoundsLead) (kernels : List Kernel) (limi
           all_run = run_on r.run
 
         -- the next round asks for what is asked at the end of this one
-        pub goes_on : (limit ≢ 0 → rounds + 1 ≢ limit) → Goes kernels limit a (rounds + 1) c m'
+        pub goes_on : (limit ≢ 0 → rounds + 1 ≢ limit) → Goes kernels limit a (rounds + 1) c m' rests'
         goes_on below = record {
           proper = moved_proper;
           run = run_on r.run;
@@ -148,7 +160,7 @@ module _ (order : InsideOrder) (lead : RoundsLead) (kernels : List Kernel) (limi
           widths = let v = g.widths in let f = falls in omega arith;
           within_limit = λ ne. below_limit (g.within_limit ne) (below ne);
           fit = r.same_count;
-          quiet = r.quiet tt;
+          at_rest = r.at_rest tt;
         } where
           below_limit : rounds < limit → rounds + 1 ≢ limit → rounds + 1 < limit
           below_limit l ne = omega arith

@@ -1,4 +1,6 @@
 pub mod Moved
+pub mod Resting
+pub mod Rested
 pub mod Asked
 pub mod Heard
 pub mod Runs

@@ -8,9 +8,11 @@ use Rattle.guarded_tell.specs.Kernels.{vars_of, IsClosedUnder}
 use Rattle.fixpoint_laws.specs.Rounds.{HasRun}
 use Rattle.fixpoint_laws.specs.OneRound.{LeavesAlone}
 use Rattle.moved_set.specs.Sets.{IsIn}
+use Rattle.moved_fixpoint.specs.declared.rests.Rests.{Rests}
 use Rattle.moved_fixpoint.specs.declared.joiner.Progress.{Progress}
 use Rattle.moved_fixpoint.specs.declared.joiner.Progress.TheVariants.{Still, Moved, Crossed}
 use Rattle.moved_fixpoint.specs.Moved.{Set, count_of}
+use Rattle.moved_fixpoint.specs.Rested.{Heeds, HasRested}
 use Rattle.moved_fixpoint.specs.Heard.{GoesOn}
 
 -- both boxes have the same bounds of variable w
@@ -23,23 +25,25 @@ abbrev pub Spares : List Tell → ℕ → Type 0
 Spares ts w = All (λ t. w ≢ t.var) ts
 
 -- the kernel was run on a box: no closed box was lost; unless the round is over, the others that were asked still are, of one
--- that isn't asked then no variable moved, no tell of the kernel on the box before narrows the one after, and if it isn't
--- asked then it is quiet there
-pub record HasVisited (kernels : List Kernel) (i : ℕ) (kernel : Kernel) (before : Bounds) (asked : Set) (p : Progress)
-    (after : Bounds) (asked_after : Set) (p_after : Progress) : Type 0 where
+-- that isn't asked then no variable moved of which it would heed that, no tell of the kernel on the box before narrows the one
+-- after, and if it isn't asked then and was open then it is quiet there; and it rests as long as it needs no visit
+pub record HasVisited (kernels : List Kernel) (i : ℕ) (kernel : Kernel) (before : Bounds) (asked : Set) (rests : Rests) (p : Progress)
+    (after : Bounds) (asked_after : Set) (rests_after : Rests) (p_after : Progress) : Type 0 where
   pub run : HasRun kernel before after
   pub same_count : count_of asked_after ≡ count_of asked
   pub going : GoesOn p_after → GoesOn p
   pub kept : GoesOn p_after → (j : ℕ) → j ≢ i → IsIn asked j → IsIn asked_after j
-  pub unmoved : GoesOn p_after → (j : ℕ) (k : Kernel) → j < length kernels → (IsIn asked_after j → ⊥) → All (SameAt after before) (vars_of (slice_index_or kernels j k))
+  pub unmoved : GoesOn p_after → (j : ℕ) (k : Kernel) → j < length kernels → (IsIn asked_after j → ⊥) →
+      All (λ v. Heeds rests_after after j v → SameAt after before v) (vars_of (slice_index_or kernels j k))
+  pub rested : GoesOn p_after → HasRested kernel i after rests rests_after
   pub heard : GoesOn p_after → LeavesAlone kernel before after
-  pub closed : GoesOn p_after → (IsIn asked_after i → ⊥) → IsClosedUnder kernel after
+  pub closed : GoesOn p_after → (IsIn asked_after i → ⊥) → IsIn rests.open.current i → IsClosedUnder kernel after
   pub still : p_after ≡ Still → (p ≡ Still) × (after ≡ before) × IsClosedUnder kernel after × (asked_after ≡ slice_set asked i false)
   pub moves : p_after ≡ Moved → (p ≡ Moved) ⊎ (after ≢ before)
   pub proper : GoesOn p_after → IsProper before → IsProper after
   pub crossed : p_after ≡ Crossed → (p ≡ Crossed) ⊎ IsCrossed after
 
 -- the kernel at a place was
-abbrev pub KernelRuns : List Kernel → ℕ → Bounds → Set → Progress → Bounds → Set → Progress → Type 0
-KernelRuns kernels i before asked p after asked_after p_after =
-    (k : Kernel) → HasVisited kernels i (slice_index_or kernels i k) before asked p after asked_after p_after
+abbrev pub KernelRuns : List Kernel → ℕ → Bounds → Set → Rests → Progress → Bounds → Set → Rests → Progress → Type 0
+KernelRuns kernels i before asked rests p after asked_after rests_after p_after =
+    (k : Kernel) → HasVisited kernels i (slice_index_or kernels i k) before asked rests p after asked_after rests_after p_after

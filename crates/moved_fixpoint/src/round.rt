@@ -5,7 +5,8 @@ ghost use Rattle.std.specs.List.{All};
 ghost use Rattle.interval.specs.Boxes.{IsProper};
 ghost use Rattle.guarded_tell.specs.Kernels.{IsKernel};
 ghost use Rattle.moved_fixpoint.specs.Moved.{AreMasksOf, count_of};
-ghost use Rattle.moved_fixpoint.specs.Asked.{AreAskedOrQuiet};
+ghost use Rattle.moved_fixpoint.specs.Resting.{FitRests, KeepStacks};
+ghost use Rattle.moved_fixpoint.specs.Asked.{AreAtRest};
 ghost use Rattle.moved_fixpoint.specs.Round.{IsRound};
 
 use crate::joiner::Progress;
@@ -26,10 +27,13 @@ pub(crate) fn run_up(
     requires kernels { All (IsKernel (length b.old.current)) kernels.now }
     requires masks { AreMasksOf kernels.now (length b.old.current) masks.now }
     requires set { count_of sets.old.asked ≡ length kernels.now }
+    requires rests { FitRests (length kernels.now) sets.old.rests }
     requires proper { IsProper b.old.current }
-    requires quiet { AreAskedOrQuiet sets.old.asked b.old.current kernels.now }
+    requires at_rest { AreAtRest sets.old.asked sets.old.rests b.old.current kernels.now }
     ensures stack { b.new.stack ≡ b.old.stack }
-    ensures round { IsRound kernels.now b.old.current b.new.current sets.new.asked result }
+    ensures rests { FitRests (length kernels.now) sets.new.rests }
+    ensures stacks { KeepStacks sets.old.rests sets.new.rests }
+    ensures round { IsRound kernels.now b.old.current b.new.current sets.new.asked sets.new.rests result }
 {
     law_inside_order();
     law_local();
@@ -56,10 +60,13 @@ pub(crate) fn run_down(
     requires kernels { All (IsKernel (length b.old.current)) kernels.now }
     requires masks { AreMasksOf kernels.now (length b.old.current) masks.now }
     requires set { count_of sets.old.asked ≡ length kernels.now }
+    requires rests { FitRests (length kernels.now) sets.old.rests }
     requires proper { IsProper b.old.current }
-    requires quiet { AreAskedOrQuiet sets.old.asked b.old.current kernels.now }
+    requires at_rest { AreAtRest sets.old.asked sets.old.rests b.old.current kernels.now }
     ensures stack { b.new.stack ≡ b.old.stack }
-    ensures round { IsRound kernels.now b.old.current b.new.current sets.new.asked result }
+    ensures rests { FitRests (length kernels.now) sets.new.rests }
+    ensures stacks { KeepStacks sets.old.rests sets.new.rests }
+    ensures round { IsRound kernels.now b.old.current b.new.current sets.new.asked sets.new.rests result }
 {
     law_inside_order();
     law_local();

@@ -5,30 +5,36 @@ ghost use Rattle.std.specs.List.{All};
 ghost use Rattle.interval.specs.Boxes.{IsProper};
 ghost use Rattle.guarded_tell.specs.Kernels.{IsKernel};
 ghost use Rattle.moved_fixpoint.specs.Moved.{AreMasksOf, count_of};
+ghost use Rattle.moved_fixpoint.specs.Resting.{FitRests, KeepStacks};
 ghost use Rattle.moved_fixpoint.specs.Asked.{AreAsked};
 ghost use Rattle.moved_fixpoint.specs.Runs.{KernelRuns};
 
+use crate::drawing::ask;
 use crate::joiner::{Progress, join_all};
+use crate::rests::Rests;
 use crate::sets::AskedSets;
 use fixpoint_laws::law_tightens_one;
 use guarded_tell::{Kernel, Tell, law_local, law_monotone, law_narrowing, law_tell_place};
-use interval::law_inside_order;
+use interval::{BoxOf, law_inside_order};
 use moved_set::{AskedSet, Masks};
 use trailed_box::TrailedBox;
 
-/// Asks all kernels that name a variable of these tells.
-pub(crate) fn ask_told(masks: &Masks, told: &[Tell], asked: &mut AskedSet)
+/// Asks for each variable of these tells.
+fn ask_told(masks: &Masks, told: &[Tell], b: &BoxOf, rests: &Rests, asked: &mut AskedSet)
     requires variables { All (λ t. t.var < masks.now.count) told.now }
+    requires length { masks.now.count ≡ length b.now }
     requires set { count_of asked.old ≡ length masks.now.sets }
-    ensures { AreAsked masks.now told.now asked.old asked.new }
+    requires rests { FitRests (length masks.now.sets) rests.now }
+    ensures { AreAsked masks.now rests.now b.now told.now asked.old asked.new }
 {
     for t in told {
-        masks.ask(t.var, asked);
+        ask(masks, t.var, b, rests, asked);
     }
 }
 
 /// Runs the kernel at a place on the box, and says how far the round has come then. It is forgotten before, and asked again
-/// if a variable of its own moves. It tells what it does on the box as it is before any of that is joined.
+/// if a variable of its own moves and it heeds that. It tells what it does on the box as it is before any of that is joined,
+/// and rests if it needs no visit on the box as it is then.
 pub(crate) fn run_kernel(
     kernels: &[Kernel],
     masks: &Masks,
@@ -41,9 +47,12 @@ pub(crate) fn run_kernel(
     requires kernels { All (IsKernel (length b.old.current)) kernels.now }
     requires masks { AreMasksOf kernels.now (length b.old.current) masks.now }
     requires set { count_of sets.old.asked ≡ length kernels.now }
+    requires rests { FitRests (length kernels.now) sets.old.rests }
     requires proper { IsProper b.old.current }
     ensures stack { b.new.stack ≡ b.old.stack }
-    ensures run { KernelRuns kernels.now place b.old.current sets.old.asked progress b.new.current sets.new.asked result }
+    ensures rests { FitRests (length kernels.now) sets.new.rests }
+    ensures stacks { KeepStacks sets.old.rests sets.new.rests }
+    ensures run { KernelRuns kernels.now place b.old.current sets.old.asked sets.old.rests progress b.new.current sets.new.asked sets.new.rests result }
 {
     law_inside_order();
     law_tightens_one();
@@ -55,11 +64,24 @@ pub(crate) fn run_kernel(
     let _length = b.len();
     let kernel = &kernels[place];
     sets.asked.forget(place);
-    sets.gather(kernel, masks.shape(place), place, b.current());
+    let shape = masks.shape(place);
+    sets.gather(kernel, shape, place, b.current());
     if sets.told.refused {
         return Progress::Refused;
     }
     let after = join_all(sets.told.tells.as_slice(), b, progress);
-    ask_told(masks, sets.told.tells.as_slice(), &mut sets.asked);
+    if !after.goes_on() {
+        return after;
+    }
+    if sets.rest(kernel, shape, place, b.current()).is_err() {
+        return Progress::Refused;
+    }
+    ask_told(
+        masks,
+        sets.told.tells.as_slice(),
+        b.current(),
+        &sets.rests,
+        &mut sets.asked,
+    );
     after
 }

@@ -1,14 +1,18 @@
 //! What propagation keeps from round to round and from call to call.
 
-ghost use Rattle.std.specs.Prelude.{◌≡◌, false, length, IfOk};
+ghost use Rattle.std.specs.Prelude.{◌≡◌, ◌<◌, false, length, IfOk, OnOk, OnErr};
 ghost use Rattle.guarded_tell.specs.Words.{IsProperIn};
 ghost use Rattle.guarded_tell.specs.Kernels.{vars_of, IsKernel};
 ghost use Rattle.guarded_tell.specs.Narrowing.{narrowing_tells};
 ghost use Rattle.guarded_tell.specs.Shapes.{IsShapeOf};
+ghost use Rattle.guarded_tell.specs.Rests.{IsRest};
 ghost use Rattle.moved_fixpoint.specs.Moved.{count_of, Fit, IsEmpty};
+ghost use Rattle.moved_fixpoint.specs.Resting.{AreAwake, AreFresh, AreLeft, FitRests, HasEach, IsBack, KeepCounts, KeepStacks};
+ghost use Rattle.moved_fixpoint.specs.Rested.{HasRested};
 
+use crate::rests::Rests;
 use crate::told::Told;
-use guarded_tell::{Hint, Kernel, Shape};
+use guarded_tell::{Hint, Kernel, Rest, Shape, rest_of};
 use interval::{BoxOf, NoMemory};
 use moved_set::{AskedSet, MovedSet};
 use std::alloc::Global;
@@ -18,29 +22,77 @@ use std::alloc::Global;
 pub struct MovedSets {
     /// Those variables.
     pub moved: MovedSet,
-    /// The kernels that are asked.
+    /// The kernels that are asked, and those that rest.
     pub asking: AskedSets,
 }
 
 impl MovedSets {
-    /// No variable of so many moved, and no kernel of so many is asked.
+    /// No variable of so many moved, no kernel of so many is asked, and none rests for good.
     pub fn new(alloc: Global, count: u32, kernels: usize) -> Result<MovedSets, NoMemory>
         ensures moved { IfOk result (λ s. IsEmpty s.moved) }
         ensures asked { IfOk result (λ s. IsEmpty s.asking.asked) }
         ensures fit { IfOk result (λ s. Fit count kernels s.moved s.asking.asked) }
+        ensures fit_rests { IfOk result (λ s. FitRests kernels s.asking.rests) }
+        ensures fresh { IfOk result (λ s. AreFresh s.asking.rests) }
     {
         Ok(MovedSets {
             moved: MovedSet::new(alloc, count)?,
             asking: AskedSets::new(alloc, kernels)?,
         })
     }
+
+    /// For a box of which nothing is known: all variables moved, all kernels are asked, none rests, and none that was left is kept.
+    pub fn note_all(&mut self)
+        ensures moved_count { count_of self.new.moved ≡ count_of self.old.moved }
+        ensures moved { HasEach (count_of self.old.moved) self.new.moved }
+        ensures asked_count { count_of self.new.asking.asked ≡ count_of self.old.asking.asked }
+        ensures asked { HasEach (count_of self.old.asking.asked) self.new.asking.asked }
+        ensures rests_count { KeepCounts self.old.asking.rests self.new.asking.rests }
+        ensures fresh { AreFresh self.new.asking.rests }
+    {
+        self.moved.mark_all();
+        self.asking.asked.ask_all();
+        self.asking.rests.renew();
+    }
+
+    /// Leaves which kernels rest, to go back to it. Where memory is refused all is as it was.
+    pub fn leave(&mut self) -> Result<(), NoMemory>
+        ensures moved { self.new.moved ≡ self.old.moved }
+        ensures asked { self.new.asking.asked ≡ self.old.asking.asked }
+        ensures left { OnOk result (AreLeft self.old.asking.rests self.new.asking.rests) }
+        ensures err { OnErr result (self.new.asking.rests ≡ self.old.asking.rests) }
+    {
+        self.asking.rests.leave()
+    }
+
+    /// Goes back to the kernels that rested when that was left last, as the box goes back.
+    pub fn back(&mut self)
+        ensures moved { self.new.moved ≡ self.old.moved }
+        ensures asked { self.new.asking.asked ≡ self.old.asking.asked }
+        ensures open { IsBack self.old.asking.rests.open self.new.asking.rests.open }
+        ensures alert { IsBack self.old.asking.rests.alert self.new.asking.rests.alert }
+    {
+        self.asking.rests.back();
+    }
+
+    /// No kernel rests, on whatever box; none that was left is kept.
+    pub fn wake_all(&mut self)
+        ensures moved { self.new.moved ≡ self.old.moved }
+        ensures asked { self.new.asking.asked ≡ self.old.asking.asked }
+        ensures rests_count { KeepCounts self.old.asking.rests self.new.asking.rests }
+        ensures awake { AreAwake self.new.asking.rests }
+    {
+        self.asking.rests.wake();
+    }
 }
 
-/// The kernels that are asked, and what makes their visits faster: room for what one tells, and hints.
+/// The kernels that are asked and those that rest, and what makes visits faster: room for what one tells, and hints.
 #[derive(Drop)]
 pub struct AskedSets {
     /// Those that are asked for in this round or in the next.
     pub asked: AskedSet,
+    /// Those that rest.
+    pub rests: Rests,
     /// What the kernel told that was visited last.
     pub(crate) told: Told,
     // one for each kernel
@@ -48,13 +100,16 @@ pub struct AskedSets {
 }
 
 impl AskedSets {
-    /// No kernel of so many is asked.
+    /// No kernel of so many is asked, and none rests for good.
     fn new(alloc: Global, kernels: usize) -> Result<AskedSets, NoMemory>
         ensures none { IfOk result (λ s. IsEmpty s.asked) }
         ensures count { IfOk result (λ s. count_of s.asked ≡ kernels) }
+        ensures fit { IfOk result (λ s. FitRests kernels s.rests) }
+        ensures fresh { IfOk result (λ s. AreFresh s.rests) }
     {
         Ok(AskedSets {
             asked: AskedSet::new(alloc, kernels)?,
+            rests: Rests::new(alloc, kernels)?,
             told: Told::new(alloc),
             hints: vec![in alloc; Hint::new(); kernels]?,
         })
@@ -66,6 +121,7 @@ impl AskedSets {
         requires shape { IsShapeOf kernel.now shape.now }
         requires proper { IsProperIn (vars_of kernel.now) b.now }
         ensures asked { self.new.asked ≡ self.old.asked }
+        ensures rests { self.new.rests ≡ self.old.rests }
         ensures told { self.new.told.refused ≡ false → self.new.told.tells.items ≡ narrowing_tells kernel.now b.now }
     {
         if place < self.hints.len() {
@@ -73,5 +129,42 @@ impl AskedSets {
         } else {
             self.told.gather(kernel, shape, b, &mut Hint::new());
         }
+    }
+
+    /// How long the kernel at a place needs no visit.
+    fn rest_at(&self, kernel: &Kernel, shape: &Shape, place: usize, b: &BoxOf) -> Rest
+        requires kernel { IsKernel (length b.now) kernel.now }
+        requires shape { IsShapeOf kernel.now shape.now }
+        requires proper { IsProperIn (vars_of kernel.now) b.now }
+        ensures { IsRest kernel.now b.now result }
+    {
+        if place < self.hints.len() {
+            rest_of(kernel, shape, b, self.hints[place])
+        } else {
+            rest_of(kernel, shape, b, Hint::new())
+        }
+    }
+
+    /// Lets the kernel at a place rest as long as it needs no visit.
+    pub(crate) fn rest(
+        &mut self,
+        kernel: &Kernel,
+        shape: &Shape,
+        place: usize,
+        b: &BoxOf,
+    ) -> Result<(), NoMemory>
+        requires kernel { IsKernel (length b.now) kernel.now }
+        requires shape { IsShapeOf kernel.now shape.now }
+        requires proper { IsProperIn (vars_of kernel.now) b.now }
+        requires open { place < count_of self.old.rests.open.current }
+        requires alert { place < count_of self.old.rests.alert.current }
+        ensures asked { self.new.asked ≡ self.old.asked }
+        ensures told { self.new.told ≡ self.old.told }
+        ensures counts { KeepCounts self.old.rests self.new.rests }
+        ensures stacks { KeepStacks self.old.rests self.new.rests }
+        ensures rested { OnOk result (HasRested kernel.now place b.now self.old.rests self.new.rests) }
+    {
+        let rest = self.rest_at(kernel, shape, place, b);
+        self.rests.note(place, rest)
     }
 }

@@ -5,8 +5,10 @@ ghost use Rattle.std.specs.List.{All};
 ghost use Rattle.interval.specs.Boxes.{IsProper};
 ghost use Rattle.guarded_tell.specs.Kernels.{IsKernel};
 ghost use Rattle.fixpoint_laws.specs.Rounds.{HaveRun};
+ghost use Rattle.fixpoint_laws.specs.LimitedEnds.{IfFixedIn};
 ghost use Rattle.moved_fixpoint.specs.Moved.{AreMasksOf, AreMovedOrQuiet, Fit, IsEmpty, count_of};
-ghost use Rattle.moved_fixpoint.specs.Asked.{AreAskedOrQuiet};
+ghost use Rattle.moved_fixpoint.specs.Resting.{AreResting, FitRests, KeepStacks, Knows};
+ghost use Rattle.moved_fixpoint.specs.Asked.{AreAtRest};
 ghost use Rattle.moved_fixpoint.specs.Round.{IsRound};
 ghost use Rattle.moved_fixpoint.specs.Ends.{HasEnded};
 
@@ -31,10 +33,13 @@ fn run_round(
     requires kernels { All (IsKernel (length b.old.current)) kernels.now }
     requires masks { AreMasksOf kernels.now (length b.old.current) masks.now }
     requires set { count_of sets.old.asked ≡ length kernels.now }
+    requires rests { FitRests (length kernels.now) sets.old.rests }
     requires proper { IsProper b.old.current }
-    requires quiet { AreAskedOrQuiet sets.old.asked b.old.current kernels.now }
+    requires at_rest { AreAtRest sets.old.asked sets.old.rests b.old.current kernels.now }
     ensures stack { b.new.stack ≡ b.old.stack }
-    ensures round { IsRound kernels.now b.old.current b.new.current sets.new.asked result }
+    ensures rests { FitRests (length kernels.now) sets.new.rests }
+    ensures stacks { KeepStacks sets.old.rests sets.new.rests }
+    ensures round { IsRound kernels.now b.old.current b.new.current sets.new.asked sets.new.rests result }
 {
     if up {
         run_up(kernels, masks, b, sets)
@@ -61,11 +66,15 @@ fn run_rounds(
     requires kernels { All (IsKernel (length b.old.current)) kernels.now }
     requires masks { AreMasksOf kernels.now (length b.old.current) masks.now }
     requires set { count_of sets.old.asked ≡ length kernels.now }
+    requires rests { FitRests (length kernels.now) sets.old.rests }
     requires proper { IsProper b.old.current }
-    requires quiet { AreAskedOrQuiet sets.old.asked b.old.current kernels.now }
+    requires at_rest { AreAtRest sets.old.asked sets.old.rests b.old.current kernels.now }
     ensures stack { b.new.stack ≡ b.old.stack }
     ensures empty { IsEmpty sets.new.asked }
     ensures set { count_of sets.new.asked ≡ length kernels.now }
+    ensures rests { FitRests (length kernels.now) sets.new.rests }
+    ensures stacks { KeepStacks sets.old.rests sets.new.rests }
+    ensures resting { IfOk result (λ ending. IfFixedIn ending (λ rounds. AreResting sets.new.rests.open.current sets.new.rests.alert.current b.new.current kernels.now)) }
     ensures ends { IfOk result (HasEnded kernels.now round_limit b.old.current b.new.current) }
     ensures err { OnErr result (HaveRun kernels.now b.old.current b.new.current) }
 {
@@ -98,9 +107,10 @@ fn run_rounds(
 }
 
 /// Narrows the proper box of `b` to the greatest closed box inside it, in rounds that visit only those kernels of which some
-/// variable moved since their last visit, until a round moves nothing. Where no closed box is inside, the box ends crossed.
-/// After `round_limit` rounds (0: no limit) it stops. Each kernel that names none of the variables of `sets.moved` has to be
-/// quiet on the box; that set is empty then, and no kernel is asked. The stack stays as it is.
+/// variable moved since their last visit and that don't rest, until a round moves nothing. Where no closed box is inside, the
+/// box ends crossed. After `round_limit` rounds (0: no limit) it stops. Each kernel that names none of the variables of
+/// `sets.moved` has to be quiet on the box, and those that aren't open or alert to rest; that set is empty then, and no kernel
+/// is asked. The stacks stay as they are.
 pub fn settle_proper(
     b: &mut TrailedBox,
     kernels: &[Kernel],
@@ -111,16 +121,22 @@ pub fn settle_proper(
     requires kernels { All (IsKernel (length b.old.current)) kernels.now }
     requires masks { AreMasksOf kernels.now (length b.old.current) masks.now }
     requires sets { Fit (length b.old.current) (length kernels.now) sets.old.moved sets.old.asking.asked }
+    requires rests { FitRests (length kernels.now) sets.old.asking.rests }
     requires quiet { AreMovedOrQuiet sets.old.moved b.old.current kernels.now }
+    requires knows { Knows sets.old.asking.asked sets.old.asking.rests.open.current sets.old.asking.rests.alert.current sets.old.moved b.old.current kernels.now }
     requires proper { IsProper b.old.current }
     ensures stack { b.new.stack ≡ b.old.stack }
     ensures sets { Fit (length b.old.current) (length kernels.now) sets.new.moved sets.new.asking.asked }
     ensures empty { IsEmpty sets.new.moved }
     ensures none_asked { IsEmpty sets.new.asking.asked }
+    ensures rests { FitRests (length kernels.now) sets.new.asking.rests }
+    ensures stacks { KeepStacks sets.old.asking.rests sets.new.asking.rests }
+    ensures resting { IfOk result (λ ending. IfFixedIn ending (λ rounds. AreResting sets.new.asking.rests.open.current sets.new.asking.rests.alert.current b.new.current kernels.now)) }
     ensures ends { IfOk result (HasEnded kernels.now round_limit b.old.current b.new.current) }
     ensures err { OnErr result (HaveRun kernels.now b.old.current b.new.current) }
 {
-    draw(masks, &sets.moved, &mut sets.asking.asked);
+    law_inside_order();
+    draw(masks, &sets.moved, b.current(), &mut sets.asking);
     sets.moved.clear();
     run_rounds(b, kernels, masks, &mut sets.asking, round_limit)
 }
@@ -136,11 +152,16 @@ pub fn settle_moved(
     requires kernels { All (IsKernel (length b.old.current)) kernels.now }
     requires masks { AreMasksOf kernels.now (length b.old.current) masks.now }
     requires sets { Fit (length b.old.current) (length kernels.now) sets.old.moved sets.old.asking.asked }
+    requires rests { FitRests (length kernels.now) sets.old.asking.rests }
     requires quiet { AreMovedOrQuiet sets.old.moved b.old.current kernels.now }
+    requires knows { Knows sets.old.asking.asked sets.old.asking.rests.open.current sets.old.asking.rests.alert.current sets.old.moved b.old.current kernels.now }
     ensures stack { b.new.stack ≡ b.old.stack }
     ensures sets { Fit (length b.old.current) (length kernels.now) sets.new.moved sets.new.asking.asked }
     ensures empty { IsEmpty sets.new.moved }
     ensures none_asked { IsEmpty sets.new.asking.asked }
+    ensures rests { FitRests (length kernels.now) sets.new.asking.rests }
+    ensures stacks { KeepStacks sets.old.asking.rests sets.new.asking.rests }
+    ensures resting { IfOk result (λ ending. IfFixedIn ending (λ rounds. AreResting sets.new.asking.rests.open.current sets.new.asking.rests.alert.current b.new.current kernels.now)) }
     ensures ends { IfOk result (HasEnded kernels.now round_limit b.old.current b.new.current) }
     ensures err { OnErr result (HaveRun kernels.now b.old.current b.new.current) }
 {

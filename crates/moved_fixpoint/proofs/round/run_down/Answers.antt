@@ -1,42 +1,47 @@
-use Rattle.std.proofs.Common.{◌-◌, ◌∙◌, length, get_or, refl, sym, arith}
+use Rattle.std.proofs.Common.{◌-◌, ◌∙◌, length, refl, sym, arith}
 use Rattle.std.proofs.lemmas.Bool.{true≢false}
 use Rattle.moved_fixpoint.proofs.Rounding.{stands_over, stands_first, stands_last, stands_down, passed_down, run_count}
+use Rattle.moved_fixpoint.proofs.Settling.{stacks_through}
 use Rattle.moved_fixpoint.proofs.round.run_down.Goals as goal
 
 pub kernels-init : goal.kernels-init
 kernels-init c = record {
   stack = refl;
+  fit = c.requires.rests;
+  stacks = record { open_stack = refl; alert_stack = refl };
   within = c.next_back-left.ensures.at_most;
   going = tt;
   stands =
       passed_down c.law_inside_order.ensures c.law_tell_place.ensures c.law_local.ensures.tells c.args.kernels.now c.args.b.now.current c.requires.kernels
-      c.args.b.now.current c.args.sets.now.asked _ (length c.args.kernels.now) c.next_back-left.result
-      (stands_first c.law_inside_order.ensures c.args.kernels.now c.args.b.now.current (length c.args.kernels.now) c.args.sets.now.asked c.requires.proper c.requires.set c.requires.quiet)
+      c.args.b.now.current c.args.sets.now.asked c.args.sets.now.rests _ (length c.args.kernels.now) c.next_back-left.result
+      (stands_first c.law_inside_order.ensures c.args.kernels.now c.args.b.now.current (length c.args.kernels.now) c.args.sets.now.asked c.args.sets.now.rests c.requires.proper c.requires.set c.requires.at_rest)
       c.next_back-left.ensures.passed;
 }
 
 pub returns-then-not-goes_on-clause-round : goal.returns-then-not-goes_on-clause-round
-returns-then-not-goes_on-clause-round c = stands_over _ _ _ _ _ _ _
+returns-then-not-goes_on-clause-round c = stands_over _ _ _ _ _ _ _ _
     (stands_down c.law_inside_order.ensures c.law_tell_place.ensures c.law_local.ensures.tells c.args.kernels.now c.args.b.now.current c.requires.kernels
-    _ _ _ _ c.kernels.invariant.stands c.kernels-test.true c.kernels.invariant.within _ _ _ c.run_kernel-progress.ensures.run)
+    _ _ _ _ _ c.kernels.invariant.stands c.kernels-test.true c.kernels.invariant.within _ _ _ _ c.run_kernel-progress.ensures.run)
     (λ g. true≢false (sym (c.if-not-goes_on.ensures.1 g)))
 
 pub next_back-left-requires-in-kernels : goal.next_back-left-requires-in-kernels
 next_back-left-requires-in-kernels c =
-    omega (arith, c.kernels.invariant.within, run_count _ (c.kernels.left - 1) _ _ _ _ _ _ (omega (arith, c.kernels-test.true, c.kernels.invariant.within)) c.run_kernel-progress.ensures.run, c.kernels.invariant.stands.same_count)
+    omega (arith, c.kernels.invariant.within, run_count _ (c.kernels.left - 1) _ _ _ _ _ _ _ _ (omega (arith, c.kernels-test.true, c.kernels.invariant.within)) c.run_kernel-progress.ensures.run, c.kernels.invariant.stands.same_count)
 
 pub kernels-preserved : goal.kernels-preserved
 kernels-preserved c = record {
   stack = c.run_kernel-progress.ensures.stack ∙ c.kernels.invariant.stack;
   within = omega (arith, c.next_back-left-in-kernels.ensures.at_most, c.kernels.invariant.within);
+  fit = c.run_kernel-progress.ensures.rests;
+  stacks = stacks_through c.args.sets.now.rests c.kernels.sets.rests _ c.kernels.invariant.stacks c.run_kernel-progress.ensures.stacks;
   going = c.if-not-goes_on.ensures.0 refl;
   stands =
       passed_down c.law_inside_order.ensures c.law_tell_place.ensures c.law_local.ensures.tells c.args.kernels.now c.args.b.now.current c.requires.kernels
-      _ _ _ (c.kernels.left - 1) c.next_back-left-in-kernels.result
+      _ _ _ _ (c.kernels.left - 1) c.next_back-left-in-kernels.result
       (stands_down c.law_inside_order.ensures c.law_tell_place.ensures c.law_local.ensures.tells c.args.kernels.now c.args.b.now.current c.requires.kernels
-      _ _ _ _ c.kernels.invariant.stands c.kernels-test.true c.kernels.invariant.within _ _ _ c.run_kernel-progress.ensures.run)
+      _ _ _ _ _ c.kernels.invariant.stands c.kernels-test.true c.kernels.invariant.within _ _ _ _ c.run_kernel-progress.ensures.run)
       c.next_back-left-in-kernels.ensures.passed;
 }
 
 pub returns-clause-round : goal.returns-clause-round
-returns-clause-round c = stands_last _ _ _ _ _ _ _ c.kernels.invariant.stands (omega (arith, c.kernels-test.false)) (omega arith)
+returns-clause-round c = stands_last _ _ _ _ _ _ _ _ c.kernels.invariant.stands (omega (arith, c.kernels-test.false)) (omega arith)

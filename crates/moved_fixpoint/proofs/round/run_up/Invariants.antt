@@ -1,5 +1,6 @@
 use Rattle.std.proofs.Common.{◌≡◌, ◌-◌, ◌≤◌, length}
 use Rattle.moved_fixpoint.specs.Heard.{GoesOn}
+use Rattle.moved_fixpoint.specs.Resting.{FitRests, KeepStacks}
 use Rattle.moved_fixpoint.proofs.Rounding.{Stands}
 use Rattle.moved_fixpoint.proofs.round.run_up.Given as goal
 
@@ -7,8 +8,10 @@ abbrev pub invariant-kernels : goal.invariant-kernels
 invariant-kernels l = record {
   stack : l.b.stack ≡ l.initial.b.stack;
   within : l.place ≤ length l.kernels;
+  fit : FitRests (length l.kernels) l.sets.rests;
+  stacks : KeepStacks l.initial.sets.rests l.sets.rests;
   going : GoesOn l.progress;
-  stands : Stands l.kernels l.initial.b.current 0 l.place l.b.current l.sets.asked l.progress;
+  stands : Stands l.kernels l.initial.b.current 0 l.place l.b.current l.sets.asked l.sets.rests l.progress;
 }
 
 abbrev pub decreases-kernels : goal.decreases-kernels

@@ -1,7 +1,7 @@
 use Rattle.std.proofs.Common.{◌<◌, ◌^◌, refl, sym, arith}
 use Rattle.std.proofs.lemmas.Bool.{true≢false}
 use Rattle.interval.specs.Boxes.{width_sum_of}
-use Rattle.moved_fixpoint.proofs.Settling.{ended_fixed, ended_failed, ended_spent, falls, goes_on}
+use Rattle.moved_fixpoint.proofs.Settling.{rest_at_end, stacks_through, ended_fixed, ended_failed, ended_spent, falls, goes_on}
 use Rattle.moved_fixpoint.proofs.Widths.{widths_fit}
 use Rattle.moved_fixpoint.proofs.settle.run_rounds.Goals as goal
 
@@ -13,32 +13,37 @@ overflow_add-rounds c =
 pub returns-in-Still-clause-ends : goal.returns-in-Still-clause-ends
 returns-in-Still-clause-ends c =
     ended_fixed c.law_inside_order.ensures c.law_rounds_lead.ensures c.args.kernels.now c.args.round_limit c.args.b.now.current
-    c.rounds.rounds c.rounds.b.current _ c.rounds.invariant.goes _ _ c.in-Still.ensures.round
+    c.rounds.rounds c.rounds.b.current _ _ c.rounds.invariant.goes _ _ _ c.in-Still.ensures.round
 
 pub returns-in-Crossed-clause-ends : goal.returns-in-Crossed-clause-ends
 returns-in-Crossed-clause-ends c =
     ended_failed c.law_inside_order.ensures c.law_rounds_lead.ensures c.args.kernels.now c.args.round_limit c.args.b.now.current
-    c.rounds.rounds c.rounds.b.current _ c.rounds.invariant.goes _ _ c.in-Crossed.ensures.round
+    c.rounds.rounds c.rounds.b.current _ _ c.rounds.invariant.goes _ _ _ c.in-Crossed.ensures.round
 
 pub returns-then-are_spent-clause-ends : goal.returns-then-are_spent-clause-ends
 returns-then-are_spent-clause-ends c =
     let spent = c.if-are_spent.ensures.0 refl in
     ended_spent c.law_inside_order.ensures c.law_rounds_lead.ensures c.args.kernels.now c.args.round_limit c.args.b.now.current
-    c.rounds.rounds c.rounds.b.current _ c.rounds.invariant.goes _ _ c.in-Moved.ensures.round spent.0 spent.1
+    c.rounds.rounds c.rounds.b.current _ _ c.rounds.invariant.goes _ _ _ c.in-Moved.ensures.round spent.0 spent.1
 
 pub rounds-smaller : goal.rounds-smaller
 rounds-smaller c =
     falls c.law_inside_order.ensures c.law_rounds_lead.ensures c.args.kernels.now c.args.round_limit c.args.b.now.current
-    c.rounds.rounds c.rounds.b.current _ c.rounds.invariant.goes _ _ c.in-Moved.ensures.round
+    c.rounds.rounds c.rounds.b.current _ _ c.rounds.invariant.goes _ _ _ c.in-Moved.ensures.round
 
 pub rounds-preserved : goal.rounds-preserved
 rounds-preserved c = record {
   stack = cc;
+  fit = c.in-Moved.ensures.rests;
+  stacks = stacks_through c.args.sets.now.rests c.rounds.sets.rests _ c.rounds.invariant.stacks c.in-Moved.ensures.stacks;
   goes =
       goes_on c.law_inside_order.ensures c.law_rounds_lead.ensures c.args.kernels.now c.args.round_limit c.args.b.now.current
-      c.rounds.rounds c.rounds.b.current _ c.rounds.invariant.goes _ _ c.in-Moved.ensures.round
+      c.rounds.rounds c.rounds.b.current _ _ c.rounds.invariant.goes _ _ _ c.in-Moved.ensures.round
       (λ ne e. true≢false (sym (c.if-are_spent.ensures.1 (ne, e))));
 }
 
 pub returns-in-Still-clause-empty : goal.returns-in-Still-clause-empty
 returns-in-Still-clause-empty c = (c.in-Still.ensures.round.still refl).2
+
+pub returns-in-Still-clause-resting : goal.returns-in-Still-clause-resting
+returns-in-Still-clause-resting c = rest_at_end c.args.kernels.now c.rounds.b.current _ _ _ c.in-Still.ensures.round

@@ -2,3 +2,4 @@ mod AloneEnds
 mod LaneEnds
 mod Copies
 mod Noting
+pub mod RestNoting

@@ -1,14 +1,13 @@
 -- What a narrower that notes variables may narrow.
-use Rattle.std.proofs.Common.{◌≡◌, ℕ, ℤ, true, false, ◌<◌, List, length, replicate, sym, subst, arith}
+use Rattle.std.proofs.Common.{◌≡◌, ℕ, ℤ, true, ◌<◌, List, length, sym, subst, arith}
 use Rattle.std.specs.Prelude.{slice_set}
 use Rattle.std.specs.List.{All}
-use Rattle.std.proofs.lemmas.List.{get_or-replicate}
 use Rattle.interval.specs.Boxes.{Bounds, put_of}
 use Rattle.guarded_tell.specs.declared.kernel.Kernel.{Kernel}
 use Rattle.guarded_tell.specs.Kernels.{IsKernel}
 use Rattle.fixpoint_laws.specs.Fixpoints.{IsClosed}
-use Rattle.moved_set.specs.Sets.{IsIn}
 use Rattle.moved_fixpoint.specs.Moved.{Set, count_of, AreMovedOrQuiet, QuietUnlessMoved}
+use Rattle.moved_fixpoint.specs.Resting.{HasEach}
 use Rattle.narrowing.specs.declared.alone.Alone.{Alone}
 use Rattle.narrowing.specs.declared.narrower.Narrower.{Narrower}
 use Rattle.narrowing.specs.Narrowers.{len_of, AreQuietUnlessNoted}
@@ -28,9 +27,9 @@ module _ (law : QuietUnlessMoved) where
         subst (λ (s : Set). AreMovedOrQuiet s (put_of b v low high) kernels) (sym set) (law.put b kernels alone.sets.moved v low high are below known)
 
     -- all are noted
-    pub all_noted : moved ≡ replicate (count_of alone.sets.moved) true → (kernels : List Kernel) (b : Bounds) → length b ≡ len_of n →
+    pub all_noted : HasEach (count_of alone.sets.moved) moved → (kernels : List Kernel) (b : Bounds) → length b ≡ len_of n →
         All (IsKernel (length b)) kernels → AreMovedOrQuiet moved b kernels
-    all_noted set kernels b e are =
+    all_noted each kernels b e are =
         let same : length b ≡ count_of alone.sets.moved = subst (λ (m : Narrower). length b ≡ len_of m) is e in
         law.all b kernels moved are
-        (λ v h. subst (λ (s : Set). IsIn s v) (sym set) (get_or-replicate (count_of alone.sets.moved) v true false (omega arith)))
+        (λ v h. each v (omega arith))

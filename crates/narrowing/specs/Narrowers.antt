@@ -1,18 +1,22 @@
 -- What a narrower knows of the boxes that it narrows.
-use Rattle.std.specs.Prelude.{◌≡◌, ◌≤◌, ℕ, List, [], ◌∷◌, length}
+use Rattle.std.specs.Prelude.{◌≡◌, ◌≤◌, ◌<◌, ℕ, List, [], ◌∷◌, length, slice_index_or}
 use Rattle.interval.specs.Boxes.{Bounds}
 use Rattle.guarded_tell.specs.declared.kernel.Kernel.{Kernel}
 use Rattle.fixpoint_laws.specs.Fixpoints.{IsClosed}
-use Rattle.moved_fixpoint.specs.Moved.{count_of, Fit, IsEmpty, AreMovedOrQuiet}
+use Rattle.trailed_box.specs.Trailed.{Left}
+use Rattle.moved_fixpoint.specs.Moved.{Set, count_of, Fit, IsEmpty, AreMovedOrQuiet}
+use Rattle.moved_fixpoint.specs.Resting.{FitRests, AreResting, Knows as KnowsOn}
 use Rattle.rounds.specs.Shares.{IsCut}
 use Rattle.rounds.specs.Engines.{engine_len, engine_shares}
 use Rattle.narrowing.specs.declared.alone.Alone.{Alone}
 use Rattle.narrowing.specs.declared.lanes.Lanes.{Lanes}
 use Rattle.narrowing.specs.declared.narrower.Narrower.{Narrower}
+use Rattle.narrowing.specs.declared.narrowed.Narrowed.{Narrowed}
 
 -- what narrows alone serves these kernels and boxes of so many variables
-abbrev pub IsAloneFor : Alone → List Kernel → ℕ → Type 0
-IsAloneFor alone kernels count = Fit count (length kernels) alone.sets.moved alone.sets.asking.asked
+pub record IsAloneFor (alone : Alone) (kernels : List Kernel) (count : ℕ) : Type 0 where
+  pub sets : Fit count (length kernels) alone.sets.moved alone.sets.asking.asked
+  pub rests : FitRests (length kernels) alone.sets.asking.rests
 
 -- lanes serve these kernels and boxes of so many variables
 pub record AreLanesFor (lanes : Lanes) (kernels : List Kernel) (count : ℕ) : Type 0 where
@@ -59,3 +63,37 @@ NotesNone (Narrower.Lanes lanes) = Unit {0}
 -- on a closed box all kernels are quiet, whatever is noted
 abbrev pub QuietWhereClosed : Type 0
 QuietWhereClosed = (n : Narrower) (kernels : List Kernel) (b : Bounds) → IsClosed b kernels → AreQuietUnlessNoted n kernels b
+
+-- ---- kernels that rest. Lanes let none rest
+
+-- the kernels that aren't asked where the box is narrowed rest on it, but for those of which a noted variable is fixed
+abbrev pub Knows : Narrower → List Kernel → Bounds → Type 0
+Knows (Narrower.Alone alone) kernels b =
+    KnowsOn alone.sets.asking.asked alone.sets.asking.rests.open.current alone.sets.asking.rests.alert.current alone.sets.moved b kernels
+Knows (Narrower.Lanes lanes) kernels b = Unit {0}
+
+-- the kernels that it lets rest do so on the box
+abbrev pub LetsRest : Narrower → List Kernel → Bounds → Type 0
+LetsRest (Narrower.Alone alone) kernels b = AreResting alone.sets.asking.rests.open.current alone.sets.asking.rests.alert.current b kernels
+LetsRest (Narrower.Lanes lanes) kernels b = Unit {0}
+
+-- so do those that it let rest where boxes were left for later, on the bases of these
+pub record AreLayers (kernels : List Kernel) (open_ones alert : List Set) (stack : List Left) : Type 0 where
+  pub open_count : length open_ones ≡ length stack
+  pub alert_count : length alert ≡ length stack
+  pub each : (i : ℕ) (o a : Set) (l : Left) → i < length stack →
+      AreResting (slice_index_or open_ones i o) (slice_index_or alert i a) (slice_index_or stack i l).base kernels
+
+abbrev pub LetRest : Narrower → List Kernel → List Left → Type 0
+LetRest (Narrower.Alone alone) kernels stack = AreLayers kernels alone.sets.asking.rests.open.stack alone.sets.asking.rests.alert.stack stack
+LetRest (Narrower.Lanes lanes) kernels stack = Unit {0}
+
+-- where a box was narrowed to a fixed one, the kernels that it lets rest do so there
+abbrev pub LetsRestWhereFixed : Narrower → List Kernel → Bounds → Narrowed → Type 0
+LetsRestWhereFixed n kernels b (Narrowed.Fixed rounds) = LetsRest n kernels b
+LetsRestWhereFixed n kernels b (Narrowed.Failed rounds) = Unit {0}
+LetsRestWhereFixed n kernels b (Narrowed.GivenUp rounds) = Unit {0}
+
+-- what it lets rest is known where a box is narrowed further
+abbrev pub KnownWhereRests : Type 0
+KnownWhereRests = (n : Narrower) (kernels : List Kernel) (b : Bounds) → LetsRest n kernels b → Knows n kernels b

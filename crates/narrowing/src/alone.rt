@@ -8,7 +8,9 @@ ghost use Rattle.guarded_tell.specs.Kernels.{IsKernel};
 ghost use Rattle.fixpoint_laws.specs.Rounds.{HaveRun};
 ghost use Rattle.moved_fixpoint.specs.Moved.{AreMasksOf, IsEmpty, AreMovedOrQuiet};
 ghost use Rattle.narrowing.specs.Narrowing.{IsNarrowed};
-ghost use Rattle.narrowing.specs.Narrowers.{IsAloneFor};
+ghost use Rattle.moved_fixpoint.specs.Resting.{KeepStacks};
+ghost use Rattle.narrowing.specs.declared.narrower.Narrower.{Narrower};
+ghost use Rattle.narrowing.specs.Narrowers.{IsAloneFor, Knows, LetsRestWhereFixed};
 
 use crate::narrowed::Narrowed;
 use crate::propagation::Propagation;
@@ -49,6 +51,7 @@ impl Alone {
     pub(crate) fn forget(&mut self)
         ensures fits { (kernels : List Kernel) (count : ℕ) → IsAloneFor self.old kernels count → IsAloneFor self.new kernels count }
         ensures none { IsEmpty self.new.sets.moved }
+        ensures stacks { KeepStacks self.old.sets.asking.rests self.new.sets.asking.rests }
     {
         self.sets.moved.clear();
     }
@@ -63,11 +66,14 @@ impl Alone {
         requires masks { AreMasksOf what.now.kernels.now (length b.old.current) what.now.masks.now }
         requires fits { IsAloneFor self.old what.now.kernels.now (length b.old.current) }
         requires quiet { AreMovedOrQuiet self.old.sets.moved b.old.current what.now.kernels.now }
+        requires knows { Knows (Narrower.Alone self.old) what.now.kernels.now b.old.current }
         requires proper { IsProper b.old.current }
         ensures fits { IsAloneFor self.new what.now.kernels.now (length b.old.current) }
         ensures stack { b.new.stack ≡ b.old.stack }
         ensures same_length { length b.new.current ≡ length b.old.current }
         ensures none { IsEmpty self.new.sets.moved }
+        ensures stacks { KeepStacks self.old.sets.asking.rests self.new.sets.asking.rests }
+        ensures rests { IfOk result (LetsRestWhereFixed (Narrower.Alone self.new) what.now.kernels.now b.new.current) }
         ensures narrowed { IfOk result (IsNarrowed what.now.kernels.now what.now.round_limit b.old.current b.new.current) }
         ensures err { OnErr result (HaveRun what.now.kernels.now b.old.current b.new.current) }
     {

@@ -11,7 +11,7 @@ mod propagation;
 
 pub use alone::Alone;
 pub use lanes::Lanes;
-pub use laws::law_quiet_where_closed;
+pub use laws::{law_known_where_rests, law_quiet_where_closed};
 pub use narrowed::Narrowed;
 pub use narrower::Narrower;
 pub use propagation::Propagation;

@@ -163,3 +163,17 @@ told_cut tightens b v low high was true h i told (inr lt) k = record {
   proper = λ e. absurd (let f : true ≡ false = e in cc);
 }
 told_cut tightens b v low high was false h i told j (e, le) = told_proper (put_of b v low high) (tightens.proper b v low high h (told.proper e) le)
+
+-- where some number is left for a pair, its bounds are in order
+pub pair_proper : (b : Bounds) (v : ℕ) (low high : ℤ) → v < length b → IsProper (put_of b v low high) → low ≤ℤ high
+pair_proper b v low high h proper =
+    let at = get_or-set_same b v (low, high) (pos 0, pos 0) h in
+    let l : low_of (put_of b v low high) v ≡ low = ap (λ (q : ℤ × ℤ). q.0) at in
+    let u : high_of (put_of b v low high) v ≡ high = ap (λ (q : ℤ × ℤ). q.1) at in
+    let same = length-set b v (low, high) in
+    let le = proper v (omega (arith, h, same)) in
+    omega (arith, ints, l, u, le)
+
+-- it wasn't crossed, and the cut leaves some number
+pub not_crossed : (t : Bool) (P : Type 0) → t ≡ false → OnFalse t P → P
+not_crossed t P e h = subst (λ (u : Bool). OnFalse u P) e h

@@ -7,7 +7,7 @@ use Rattle.constraint_model.specs.declared.model.FznModel.{FznModel}
 use Rattle.trailed_box.specs.Trailed.{Left, box_of, boxes_of as left_boxes}
 use Rattle.branching.specs.declared.fronts.Front.{Front}
 use Rattle.branching.specs.Fronts.{IsFrontOf}
-use Rattle.narrowing.specs.Narrowers.{Fits, AreQuietUnlessNoted}
+use Rattle.narrowing.specs.Narrowers.{Fits, AreQuietUnlessNoted, Knows, LetRest}
 use Rattle.search.specs.declared.run.Run.{Run}
 use Rattle.search.specs.declared.searcher.Searcher.{Searcher}
 
@@ -49,15 +49,17 @@ pub record AreSound (model : FznModel) (kernels : List Kernel) (stack : List Lef
   pub parts : All (IsLeft kernels) stack
   pub fronts : AreFronts model stack kept
 
--- what is left is sound, and the narrower serves the kernels
+-- what is left is sound, and the narrower serves the kernels, and knows which rest in the boxes of which parts are left
 pub record AreLeft {L : Type 0} (run : Run L) (s : Searcher) : Type 0 where
   pub sound : AreSound run.model.now run.program.now.kernels s.boxes.stack s.fronts.items
   pub fits : Fits s.narrower run.program.now.kernels (length s.boxes.current)
+  pub let_rest : LetRest s.narrower run.program.now.kernels s.boxes.stack
 
--- so is the current box, if it is still to be searched: a kernel that narrows it names a variable that is noted, and it is
--- known whether it is crossed
+-- so is the current box, if it is still to be searched: a kernel that narrows it names a variable that is noted, it is known
+-- whether it is crossed, and if it isn't, which kernels rest
 pub record IsReady {L : Type 0} (run : Run L) (s : Searcher) : Type 0 where
   pub left : AreLeft run s
   pub quiet : s.is_open ≡ true → AreQuietUnlessNoted s.narrower run.program.now.kernels s.boxes.current
+  pub knows : s.is_open ≡ true → s.is_crossed ≡ false → Knows s.narrower run.program.now.kernels s.boxes.current
   pub front : s.is_open ≡ true → IsFrontNear run.model.now s.boxes.current s.front
   pub told : s.is_open ≡ true → TellsCrossed s.is_crossed s.boxes.current

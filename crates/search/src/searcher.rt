@@ -3,15 +3,15 @@
 ghost use Rattle.std.specs.Prelude.{◌≡◌, ◌≢◌, ◌<◌, ◌-◌, ◌<ℤ◌, ◌≤ℤ◌, ◌⊎◌, ℕ, List, true, false, [], ◌∷◌, ◌++◌, length, All, IfOk, OnOk, IfSome};
 ghost use Rattle.std.specs.Bool.{OnTrue, OnFalse};
 ghost use Rattle.interval.specs.Limits.{IsNumber};
-ghost use Rattle.interval.specs.Boxes.{put_of};
+ghost use Rattle.interval.specs.Boxes.{IsInside, put_of};
 ghost use Rattle.guarded_tell.specs.declared.kernel.Kernel.{Kernel};
 ghost use Rattle.guarded_tell.specs.Kernels.{IsKernel};
 ghost use Rattle.fixpoint_laws.specs.Fixpoints.{IsClosed};
-ghost use Rattle.trailed_box.specs.Trailed.{IsPart, left_of, boxes_of as left_boxes};
+ghost use Rattle.trailed_box.specs.Trailed.{Left, IsPart, left_of, boxes_of as left_boxes};
 ghost use Rattle.branching.specs.Fronts.{IsFrontOf, FitsBox, left_by, right_by};
 ghost use Rattle.branching.specs.Parts.{AreParts};
 ghost use Rattle.narrowing.specs.Narrowing.{IsNarrowed};
-ghost use Rattle.narrowing.specs.Narrowers.{Fits, AreQuietUnlessNoted, len_of};
+ghost use Rattle.narrowing.specs.Narrowers.{Fits, AreQuietUnlessNoted, Knows, LetsRest, LetRest, LetsRestWhereFixed, len_of};
 ghost use Rattle.search.specs.declared.kind.Kind.TheVariants.{Least};
 ghost use Rattle.search.specs.Costs.{IsObjectiveIn};
 ghost use Rattle.search.specs.Machine.{cut_by};
@@ -27,7 +27,7 @@ use fixpoint_laws::law_tightens_one;
 use guarded_tell::Kernel;
 use interval::{BoxOf, NoMemory, is_crossed, law_inside_order};
 use list_of::ListOf;
-use narrowing::{Narrowed, Narrower, Propagation, law_quiet_where_closed};
+use narrowing::{Narrowed, Narrower, Propagation, law_known_where_rests, law_quiet_where_closed};
 use rounds::Gate;
 use std::alloc::{AllocError, Global};
 use std::thread::Threads;
@@ -58,6 +58,9 @@ fn put(boxes: &mut TrailedBox, narrower: &mut Narrower, part: Part) -> Result<()
     ensures fits { OnOk result ((kernels : List Kernel) (count : ℕ) → Fits narrower.old kernels count → Fits narrower.new kernels count) }
     ensures quiet { OnOk result ((kernels : List Kernel) → All (IsKernel (length boxes.old.current)) kernels →
         AreQuietUnlessNoted narrower.old kernels boxes.old.current → AreQuietUnlessNoted narrower.new kernels boxes.new.current) }
+    ensures knows { OnOk result ((kernels : List Kernel) → IsInside (put_of boxes.old.current part.var part.low part.high) boxes.old.current → part.low ≤ℤ part.high →
+        Knows narrower.old kernels boxes.old.current → Knows narrower.new kernels boxes.new.current) }
+    ensures let_rest { OnOk result ((kernels : List Kernel) (stack : List Left) → LetRest narrower.old kernels stack → LetRest narrower.new kernels stack) }
 {
     boxes.put(part.var, part.low, part.high)?;
     narrower.note(part.var);
@@ -98,6 +101,8 @@ fn narrower_for<L>(alloc: Global, run: &Run<'_, L>, b: &BoxOf) -> Result<Narrowe
     requires { CanSearch run.now (length b.now) }
     ensures fits { IfOk result (λ n. Fits n run.now.program.now.kernels (length b.now)) }
     ensures quiet { IfOk result (λ n. AreQuietUnlessNoted n run.now.program.now.kernels b.now) }
+    ensures knows { IfOk result (λ n. Knows n run.now.program.now.kernels b.now) }
+    ensures let_rest { IfOk result (λ n. LetRest n run.now.program.now.kernels []) }
 {
     let kernels = run.program.kernels.as_slice();
     let mut narrower = Narrower::new(alloc, kernels, b.len(), run.lanes)?;
@@ -165,6 +170,7 @@ impl Searcher {
         ensures boxes { OnOk result (boxes_of self.new ≡ left_boxes self.old.boxes.stack) }
     {
         law_quiet_where_closed();
+        law_known_where_rests();
         match self.boxes.pop() {
             None => {
                 self.is_open = false;
@@ -174,6 +180,7 @@ impl Searcher {
                 let front = last(&mut self.fronts);
                 self.front = front;
                 self.is_crossed = false;
+                self.narrower.back();
                 put(&mut self.boxes, &mut self.narrower, part)?;
                 Ok(())
             }
@@ -186,6 +193,7 @@ impl Searcher {
         requires left { AreLeft run.now self.old }
         requires open { self.old.is_open ≡ true }
         requires closed { IsClosed self.old.boxes.current run.now.program.now.kernels }
+        requires rests { LetsRest self.old.narrower run.now.program.now.kernels self.old.boxes.current }
         requires fits { FitsBox self.old.boxes.current parts }
         requires front { IsFrontOf run.now.model.now self.old.boxes.current front }
         requires parts { AreParts self.old.boxes.current (left_by self.old.boxes.current parts) (right_by self.old.boxes.current parts) }
@@ -194,8 +202,10 @@ impl Searcher {
         ensures boxes { OnOk result (boxes_of self.new ≡ left_boxes self.old.boxes.stack ++ right_by self.old.boxes.current parts ∷ left_by self.old.boxes.current parts ∷ []) }
     {
         law_quiet_where_closed();
+        law_known_where_rests();
         leave(&mut self.boxes, parts)?;
         keep(&mut self.fronts, front)?;
+        self.narrower.leave()?;
         self.front = front;
         self.is_crossed = false;
         put(&mut self.boxes, &mut self.narrower, first_part(parts))?;
@@ -213,6 +223,7 @@ impl Searcher {
         requires left { AreLeft run.now self.old }
         requires open { self.old.is_open ≡ true }
         requires closed { IsClosed self.old.boxes.current run.now.program.now.kernels }
+        requires rests { LetsRest self.old.narrower run.now.program.now.kernels self.old.boxes.current }
         requires front { IsFrontNear run.now.model.now self.old.boxes.current self.old.front }
         ensures ready { OnOk result (IsReady run.now self.new) }
         ensures count { OnOk result (count_of self.new ≡ count_of self.old) }
@@ -272,6 +283,7 @@ impl Searcher {
         ensures front { IfOk result (λ _. self.new.front ≡ self.old.front) }
         ensures count { IfOk result (λ _. count_of self.new ≡ count_of self.old) }
         ensures stack { IfOk result (λ _. self.new.boxes.stack ≡ self.old.boxes.stack) }
+        ensures rests { IfOk result (LetsRestWhereFixed self.new.narrower run.now.program.now.kernels self.new.boxes.current) }
         ensures narrowed { IfOk result (IsNarrowed run.now.program.now.kernels run.now.round_limit self.old.boxes.current self.new.boxes.current) }
     {
         if self.is_crossed {

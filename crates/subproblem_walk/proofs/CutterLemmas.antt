@@ -14,6 +14,8 @@ use Rattle.constraint_model.specs.declared.model.FznModel.{FznModel}
 use Rattle.branching.specs.Tree.{AreFixed}
 use Rattle.moved_set.specs.Sets.{IsIn}
 use Rattle.moved_fixpoint.specs.Moved.{Set, count_of, AreMovedOrQuiet, QuietUnlessMoved}
+use Rattle.moved_fixpoint.specs.declared.rests.Rests.{Rests}
+use Rattle.moved_fixpoint.specs.Resting.{AreAwake, FitRests, KeepCounts, Knows, KnownUnlessMoved}
 use Rattle.moved_fixpoint.specs.Ends.{HasEnded, AreSpent}
 use Rattle.subproblem_walk.specs.declared.cutter.Node.{Node}
 use Rattle.subproblem_walk.specs.Nodes.{IsMadeAt, IsNodeOf, IsKeptOrParted}
@@ -33,6 +35,16 @@ pub all_noted : QuietUnlessMoved → (old new : Set) → new ≡ replicate (leng
     (kernels : List Kernel) (b : Bounds) → length b ≡ count_of old → All (IsKernel (length b)) kernels → AreMovedOrQuiet new b kernels
 all_noted law old new is kernels b e are =
     law.all b kernels new are (λ v h. subst (λ (s : Set). IsIn s v) (sym is) (get_or-replicate (length old) v true false (omega arith)))
+
+-- no kernel rests
+pub all_awake : KnownUnlessMoved → (kernels : List Kernel) (b : Bounds) (asked moved : Set) (old new : Rests) → FitRests (length kernels) old → KeepCounts old new → AreAwake new →
+    Knows asked new.open.current new.alert.current moved b kernels
+all_awake law kernels b asked moved old new fit counts awake =
+    let o = fit.open_count in
+    let a = fit.alert_count in
+    law.all_alert b kernels asked new.open.current new.alert.current moved
+    (λ j h. awake.open_each j (omega (arith, counts.open_count)))
+    (λ j h. awake.alert_each j (omega (arith, counts.alert_count)))
 
 -- how propagation without a limit on its rounds ends
 module _ (kernels : List Kernel) (start after : Bounds) (ending : Limited) (ended : HasEnded kernels 0 start after ending) (rounds : ℕ) where

@@ -7,6 +7,7 @@ use Rattle.constraint_model.specs.declared.model.FznModel.{FznModel}
 use Rattle.branching.specs.Parts.{IsBranch, AreParts}
 use Rattle.branching.specs.Tree.{AreFixed}
 use Rattle.moved_fixpoint.specs.Moved.{Fit}
+use Rattle.moved_fixpoint.specs.Resting.{FitRests}
 use Rattle.subproblems.specs.declared.cutting.Cut.{Cut}
 use Rattle.subproblems.specs.Cuts.{IsCutInto}
 use Rattle.subproblem_walk.specs.declared.cutter.Bench.{Bench}
@@ -60,5 +61,6 @@ IsKeptOrParted model closed (Node.Fixed kept) = (kept ≡ closed) × AreFixed mo
 IsKeptOrParted model closed (Node.Parted pair left right) = IsPartedAt model closed pair left right
 
 -- what propagation of these kernels works with, on boxes of so many variables
-abbrev pub IsBenchFor : Bench → List Kernel → ℕ → Type 0
-IsBenchFor bench kernels count = Fit count (length kernels) bench.sets.moved bench.sets.asking.asked
+pub record IsBenchFor (bench : Bench) (kernels : List Kernel) (count : ℕ) : Type 0 where
+  pub sets : Fit count (length kernels) bench.sets.moved bench.sets.asking.asked
+  pub rests : FitRests (length kernels) bench.sets.asking.rests

@@ -18,7 +18,7 @@ use constraint_model::FznModel;
 use fixpoint_laws::Limited;
 use guarded_tell::Kernel;
 use interval::{BoxOf, NoMemory, is_crossed, law_inside_order};
-use moved_fixpoint::{MovedSets, law_quiet_unless_moved, settle_proper};
+use moved_fixpoint::{MovedSets, law_known_unless_moved, law_quiet_unless_moved, settle_proper};
 use std::alloc::Global;
 use trailed_box::TrailedBox;
 
@@ -62,6 +62,7 @@ fn note(sets: &mut MovedSets, changed: Option<u32>)
     requires { IfSome changed (λ pair. pair < count_of sets.old.moved) }
     ensures moved { count_of sets.new.moved ≡ count_of sets.old.moved }
     ensures asked { sets.new.asking.asked ≡ sets.old.asking.asked }
+    ensures rests { sets.new.asking.rests ≡ sets.old.asking.rests }
     ensures quiet { (kernels : List Kernel) (b : Bounds) → length b ≡ count_of sets.old.moved → All (IsKernel (length b)) kernels →
         IsMadeBy changed kernels b → AreMovedOrQuiet sets.new.moved b kernels }
 {
@@ -131,10 +132,13 @@ pub(crate) fn cut_changed(
     ensures bench { IsBenchFor bench.new tree.now.program.now.kernels (length b) }
 {
     law_inside_order();
+    law_known_unless_moved();
     if is_crossed_start(&b, changed) {
         return Ok(Node::Failed);
     }
     note(&mut bench.sets, changed);
+    // the box is one of its own, and which kernels rest on others says nothing of it
+    bench.sets.wake_all();
     let mut settled = TrailedBox::new(alloc, b)?;
     let kernels = tree.program.kernels.as_slice();
     match settle_proper(&mut settled, kernels, tree.masks, &mut bench.sets, 0)? {

@@ -1,16 +1,25 @@
-use Rattle.std.proofs.Common.{List, sym, subst}
+use Rattle.std.proofs.Common.{ℕ, List, length, ap, sym, subst}
 use Rattle.interval.specs.Boxes.{Bounds, IsProper}
 use Rattle.guarded_tell.specs.declared.kernel.Kernel.{Kernel}
 use Rattle.fixpoint_laws.specs.Fixpoints.{IsGreatest}
-use Rattle.moved_fixpoint.specs.Moved.{AreMovedOrQuiet}
-use Rattle.subproblem_walk.proofs.CutterLemmas.{ended_fixed, node_of_closed}
+use Rattle.moved_fixpoint.specs.Moved.{Set, AreMovedOrQuiet}
+use Rattle.moved_fixpoint.specs.Resting.{FitRests}
+use Rattle.subproblem_walk.proofs.CutterLemmas.{all_awake, ended_fixed, node_of_closed}
 use Rattle.subproblem_walk.proofs.cutter.cut_changed.Goals as goal
 
 pub settle_proper-requires-clause-quiet : goal.settle_proper-requires-clause-quiet
 settle_proper-requires-clause-quiet c =
-    subst (λ (ks : List Kernel). AreMovedOrQuiet c.note.new.sets.moved c.in_ok-settled.settled.current ks) (sym c.as_slice-kernels.ensures)
+    subst (λ (s : Set). AreMovedOrQuiet s c.in_ok-settled.settled.current c.as_slice-kernels.result.now) (sym c.wake_all.ensures.moved)
+    (subst (λ (ks : List Kernel). AreMovedOrQuiet c.note.new.sets.moved c.in_ok-settled.settled.current ks) (sym c.as_slice-kernels.ensures)
     (subst (λ (x : Bounds). AreMovedOrQuiet c.note.new.sets.moved x c.args.tree.now.program.now.kernels) (sym c.in_ok-settled.ensures.current)
-    (c.note.ensures.quiet c.args.tree.now.program.now.kernels c.args.b (sym c.requires.bench.moved_count) c.requires.cut.fit c.requires.changed))
+    (c.note.ensures.quiet c.args.tree.now.program.now.kernels c.args.b (sym c.requires.bench.sets.moved_count) c.requires.cut.fit c.requires.changed)))
+
+pub settle_proper-requires-clause-knows : goal.settle_proper-requires-clause-knows
+settle_proper-requires-clause-knows c =
+    let same = ap length c.as_slice-kernels.ensures in
+    let rests = c.note.ensures.rests in
+    all_awake c.law_known_unless_moved.ensures c.as_slice-kernels.result.now c.in_ok-settled.settled.current c.wake_all.new.self.asking.asked c.wake_all.new.self.moved c.note.new.sets.asking.rests c.wake_all.new.self.asking.rests
+    (subst (λ (n : ℕ). FitRests n c.note.new.sets.asking.rests) (sym same) (subst (FitRests (length c.args.tree.now.program.now.kernels)) (sym rests) c.requires.bench.rests)) c.wake_all.ensures.rests_count c.wake_all.ensures.awake
 
 pub returns-in-Fixed-clause-node : goal.returns-in-Fixed-clause-node
 returns-in-Fixed-clause-node c =

@@ -4,12 +4,12 @@ use Rattle.std.proofs.lemmas.List.{length-set}
 use Rattle.interval.specs.Limits.{IsNumber}
 use Rattle.interval.specs.Boxes.{Bounds, IsInside, put_of}
 use Rattle.trailed_box.specs.Trailed.{Left, IsPart}
-use Rattle.narrowing.specs.Narrowers.{Fits}
+use Rattle.narrowing.specs.Narrowers.{Fits, LetRest}
 use Rattle.search.specs.declared.kind.Kind.{Kind}
 use Rattle.search.specs.Costs.{IsObjectiveIn}
 use Rattle.search.specs.Machine.{cut_by}
 use Rattle.search.specs.Stacks.{AreSound, TellsCrossed}
-use Rattle.search.proofs.SearcherLaws.{near_inside, cut_lies, told_cut}
+use Rattle.search.proofs.SearcherLaws.{near_inside, cut_lies, told_cut, not_crossed}
 use Rattle.search.proofs.searcher.Searcher.cut.Goals as goal
 
 pub cut_below-requires-clause-some : goal.cut_below-requires-clause-some
@@ -42,8 +42,15 @@ returns-in_ok-put-in-Some-clause-ready g c =
       left = record {
         sound = subst (λ (ls : List Left). AreSound c.args.run.now.model.now c.args.run.now.program.now.kernels ls c.args.self.now.fronts.items) (sym c.in_ok-put-in-Some.ensures.stack) c.requires.ready.left.sound;
         fits = subst (λ (n : ℕ). Fits c.put.new.narrower c.args.run.now.program.now.kernels n) (sym lengths) (c.in_ok-put-in-Some.ensures.fits c.args.run.now.program.now.kernels (length old) c.requires.ready.left.fits);
+        let_rest = subst (λ (ls : List Left). LetRest c.put.new.narrower c.args.run.now.program.now.kernels ls) (sym c.in_ok-put-in-Some.ensures.stack)
+            (c.in_ok-put-in-Some.ensures.let_rest c.args.run.now.program.now.kernels c.args.self.now.boxes.stack c.requires.ready.left.let_rest);
       };
       quiet = λ _. c.in_ok-put-in-Some.ensures.quiet c.args.run.now.program.now.kernels c.requires.run.kernels (c.requires.ready.quiet c.requires.open);
+      knows = λ _ e.
+          let left = not_crossed c.is_crossed_by-self.result _ e c.is_crossed_by-self.ensures.proper in
+          c.in_ok-put-in-Some.ensures.knows c.args.run.now.program.now.kernels
+          (subst (λ (b : Bounds). IsInside b old) (sym is_cut ∙ c.in_ok-put-in-Some.ensures.current) (cut_lies c.law_inside_order.ensures c.args.run.now.model.now.goal c.args.best old))
+          left.1 (c.requires.ready.knows c.requires.open left.0);
       front = λ _. near_inside c.law_inside_order.ensures c.args.run.now.model.now old c.put.new.boxes.current c.args.self.now.front
           (subst (λ (b : Bounds). IsInside b old) (sym is_cut) (cut_lies c.law_inside_order.ensures c.args.run.now.model.now.goal c.args.best old)) (c.requires.ready.front c.requires.open);
       told = λ _. subst (TellsCrossed c.is_crossed_by-self.result) (sym c.in_ok-put-in-Some.ensures.current)

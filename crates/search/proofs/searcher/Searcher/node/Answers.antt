@@ -2,6 +2,7 @@ use Rattle.std.proofs.Common.{List, [], ◌∷◌, ◌++◌, ap, sym, subst, ref
 use Rattle.branching.specs.declared.fronts.Front.{Front}
 use Rattle.trailed_box.specs.Trailed.{Left, boxes_of as left_boxes}
 use Rattle.narrowing.specs.Narrowing.{IsNarrowed}
+use Rattle.narrowing.specs.Narrowers.{LetsRestWhereFixed}
 use Rattle.search.specs.Nodes.{IsSettled}
 use Rattle.search.specs.Stacks.{boxes_of, IsFrontNear}
 use Rattle.search.proofs.SearcherLaws.{opened, when_open, near_inside}
@@ -24,6 +25,9 @@ returns-in_ok-back-in-Failed-clause-visit g c =
 
 pub settle-requires-clause-closed : goal.settle-requires-clause-closed
 settle-requires-clause-closed g c = (subst (IsNarrowed c.args.run.now.program.now.kernels c.args.run.now.round_limit c.cut.new.self.boxes.current c.narrow.new.self.boxes.current) c.in-Fixed.is c.in_ok-narrow.ensures.narrowed).0.closed
+
+pub settle-requires-clause-rests : goal.settle-requires-clause-rests
+settle-requires-clause-rests g c = subst (LetsRestWhereFixed c.narrow.new.self.narrower c.args.run.now.program.now.kernels c.narrow.new.self.boxes.current) c.in-Fixed.is c.in_ok-narrow.ensures.rests
 
 pub settle-requires-clause-front : goal.settle-requires-clause-front
 settle-requires-clause-front g c =

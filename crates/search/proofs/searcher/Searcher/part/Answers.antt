@@ -1,13 +1,13 @@
-use Rattle.std.proofs.Common.{◌≡◌, ℕ, [], ◌∷◌, ◌++◌, length, ap, sym, subst, ◌∙◌, arith}
+use Rattle.std.proofs.Common.{◌≡◌, ◌≤ℤ◌, ℕ, List, [], ◌∷◌, ◌++◌, length, ap, sym, subst, ◌∙◌, arith}
 use Rattle.std.specs.List.{All}
 use Rattle.std.proofs.lemmas.List.{length-set}
 use Rattle.interval.specs.Boxes.{Bounds, IsInside, IsProper, put_of}
 use Rattle.guarded_tell.specs.Kernels.{IsKernel}
 use Rattle.trailed_box.specs.declared.trail.Part.{Part}
-use Rattle.trailed_box.specs.Trailed.{IsPart, left_of, boxes_of as left_boxes}
+use Rattle.trailed_box.specs.Trailed.{Left, IsPart, left_of, boxes_of as left_boxes}
 use Rattle.branching.specs.Fronts.{right_by, left_by}
-use Rattle.narrowing.specs.Narrowers.{Fits, AreQuietUnlessNoted}
-use Rattle.search.proofs.SearcherLaws.{sound_push, boxes_parted, told_proper}
+use Rattle.narrowing.specs.Narrowers.{Fits, AreQuietUnlessNoted, Knows, LetRest}
+use Rattle.search.proofs.SearcherLaws.{sound_push, boxes_parted, told_proper, pair_proper}
 use Rattle.search.proofs.searcher.Searcher.part.Goals as goal
 
 pub put-requires-clause-part : goal.put-requires-clause-part
@@ -19,7 +19,7 @@ put-requires-clause-part g c =
 pub put-requires-clause-noted : goal.put-requires-clause-noted
 put-requires-clause-noted g c =
     let v = c.requires.fits.pair in
-    let e = c.requires.left.fits.len in
+    let e = (c.in_ok-leave-2.ensures.fits c.args.run.now.program.now.kernels (length c.args.self.now.boxes.current) c.requires.left.fits).len in
     let f = ap (λ (p : Part). p.var) c.first_part.ensures in
     omega (arith, v, e, f)
 
@@ -31,14 +31,25 @@ returns-clause-ready g c =
     let is_base : c.put.new.boxes.current ≡ left_by base c.args.parts =
     c.in_ok-put.ensures.current ∙ ap (λ (p : Part). put_of c.leave.new.boxes.current p.var p.low p.high) c.first_part.ensures ∙ ap (λ (b : Bounds). left_by b c.args.parts) same in
     let lengths : length c.put.new.boxes.current ≡ length base = ap length is_base ∙ length-set base c.args.parts.pair _ in
+    let kernels = c.args.run.now.program.now.kernels in
+    let n = c.leave-2.new.self in
+    let first_inside : IsInside (left_by base c.args.parts) base = c.requires.parts.first_part.inside in
     record {
       left = record {
         sound = sound_push c.args.run.now.model.now c.args.run.now.program.now.kernels c.args.self.now.boxes.stack c.put.new.boxes.stack c.args.self.now.fronts.items c.keep.new.fronts.items left c.args.front
             (c.in_ok-put.ensures.stack ∙ c.in_ok-leave.ensures.stack) c.in_ok-keep.ensures (record { closed = c.requires.closed; inside = c.requires.parts.second_part.inside; proper = c.requires.parts.second_part.proper }) c.requires.front c.requires.left.sound;
-        fits = subst (λ (n : ℕ). Fits c.put.new.narrower c.args.run.now.program.now.kernels n) (sym lengths) (c.in_ok-put.ensures.fits c.args.run.now.program.now.kernels (length base) c.requires.left.fits);
+        fits = subst (λ (n : ℕ). Fits c.put.new.narrower c.args.run.now.program.now.kernels n) (sym lengths) (c.in_ok-put.ensures.fits c.args.run.now.program.now.kernels (length base) (c.in_ok-leave-2.ensures.fits kernels (length base) c.requires.left.fits));
+        let_rest = subst (λ (ls : List Left). LetRest c.put.new.narrower kernels ls) (sym (c.in_ok-put.ensures.stack ∙ c.in_ok-leave.ensures.stack))
+            (c.in_ok-put.ensures.let_rest kernels _ (c.in_ok-leave-2.ensures.let_rest kernels c.args.self.now.boxes.stack base c.args.parts.pair c.args.parts.right_low c.args.parts.right_high c.requires.rests c.requires.left.let_rest));
       };
       quiet = λ _. c.in_ok-put.ensures.quiet c.args.run.now.program.now.kernels (subst (λ (b : Bounds). All (IsKernel (length b)) c.args.run.now.program.now.kernels) (sym same) c.requires.run.kernels)
-          (subst (λ (b : Bounds). AreQuietUnlessNoted c.args.self.now.narrower c.args.run.now.program.now.kernels b) (sym same) (c.law_quiet_where_closed.ensures c.args.self.now.narrower c.args.run.now.program.now.kernels base c.requires.closed));
+          (subst (λ (b : Bounds). AreQuietUnlessNoted n c.args.run.now.program.now.kernels b) (sym same) (c.law_quiet_where_closed.ensures n c.args.run.now.program.now.kernels base c.requires.closed));
+      knows = λ _ _. c.in_ok-put.ensures.knows kernels
+          (subst (λ (p : Part). IsInside (put_of c.leave.new.boxes.current p.var p.low p.high) c.leave.new.boxes.current) (sym c.first_part.ensures)
+          (subst (λ (b : Bounds). IsInside (left_by b c.args.parts) b) (sym same) first_inside))
+          (subst (λ (p : Part). p.low ≤ℤ p.high) (sym c.first_part.ensures)
+          (pair_proper base c.args.parts.pair c.args.parts.left_low c.args.parts.left_high c.requires.fits.pair c.requires.parts.first_part.proper))
+          (subst (λ (b : Bounds). Knows n kernels b) (sym same) (c.law_known_where_rests.ensures n kernels base (c.in_ok-leave-2.ensures.rests kernels base c.requires.rests)));
       front = λ _. record {
         outer = base;
         inside = subst (λ (b : Bounds). IsInside b base) (sym is_base) c.requires.parts.first_part.inside;

@@ -10,6 +10,8 @@ use Rattle.guarded_tell.specs.declared.kernel.Kernel.{Kernel}
 use Rattle.guarded_tell.specs.declared.kernel.Kernel.TheVariants.{Abs}
 use Rattle.guarded_tell.specs.Kernels.{vars_of, HasNumbers, IsKernel}
 use Rattle.moved_set.specs.Sets.{IsIn}
+use Rattle.moved_fixpoint.specs.declared.rests.Rests.{Rests}
+use Rattle.moved_fixpoint.specs.Resting.{AreAwake, FitRests, KeepCounts, Knows, KnownUnlessMoved}
 use Rattle.moved_fixpoint.specs.Moved.{Set, count_of, AreMovedOrQuiet, Fit, QuietUnlessMoved}
 
 two_variables : (i : ℕ) → i < 2 → slice_index (0 ∷ 1 ∷ []) i < 4
@@ -56,3 +58,13 @@ put_quiet law count b next kernels set marked v low high n all e f h same quiet 
 pub is_true : (b : Bool) → not b ≡ false → b ≡ true
 is_true true e = refl
 is_true false e = sym e
+
+-- where no kernel rests, all is known that propagation begins with
+pub all_awake : KnownUnlessMoved → (kernels : List Kernel) (b : Bounds) (asked moved : Set) (old new : Rests) → FitRests (length kernels) old → KeepCounts old new → AreAwake new →
+    Knows asked new.open.current new.alert.current moved b kernels
+all_awake law kernels b asked moved old new fit counts awake =
+    let o = fit.open_count in
+    let a = fit.alert_count in
+    law.all_alert b kernels asked new.open.current new.alert.current moved
+    (λ j h. awake.open_each j (omega (arith, counts.open_count)))
+    (λ j h. awake.alert_each j (omega (arith, counts.alert_count)))

@@ -9,7 +9,7 @@ use crate::boxes::four;
 use fixpoint_laws::Limited;
 use guarded_tell::Kernel;
 use interval::NoMemory;
-use moved_fixpoint::{MovedSets, law_quiet_unless_moved, settle_moved};
+use moved_fixpoint::{MovedSets, law_known_unless_moved, law_quiet_unless_moved, settle_moved};
 use moved_set::Masks;
 use std::alloc::Global;
 use std::test::Fail;
@@ -36,7 +36,9 @@ fn settle_all(
     ensures { OnOk result (length b.new.current ≡ 4) }
 {
     law_quiet_unless_moved();
+    law_known_unless_moved();
     let mut sets = MovedSets::new(alloc, 4, kernels.len())?;
+    sets.wake_all();
     sets.moved.mark_all();
     settle_moved(b, kernels, masks, &mut sets, round_limit)
 }

@@ -20,4 +20,6 @@ mod stores;
 #[cfg(test)]
 mod trails;
 #[cfg(test)]
+mod trees;
+#[cfg(test)]
 mod walks;

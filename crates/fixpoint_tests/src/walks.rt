@@ -8,12 +8,13 @@ ghost use Rattle.std.specs.List.{All};
 ghost use Rattle.guarded_tell.specs.Kernels.{IsKernel};
 ghost use Rattle.fixpoint_laws.specs.Fixpoints.{IsClosed};
 ghost use Rattle.moved_fixpoint.specs.Moved.{AreMasksOf, AreMovedOrQuiet, Fit, count_of};
+ghost use Rattle.moved_fixpoint.specs.Resting.{AreResting, FitRests, KeepStacks, Knows};
 
 use crate::drawn::{Draws, program, start};
 use fixpoint_laws::{Limited, Settled, settle_alone};
 use guarded_tell::Kernel;
 use interval::{BoxOf, NoMemory};
-use moved_fixpoint::{MovedSets, law_quiet_unless_moved, settle_moved};
+use moved_fixpoint::{MovedSets, law_known_unless_moved, law_quiet_unless_moved, settle_moved};
 use moved_set::Masks;
 use std::alloc::Global;
 use std::test::Fail;
@@ -21,11 +22,11 @@ use trailed_box::TrailedBox;
 
 /// How both ways of propagation end on a box.
 #[derive(Clone, Copy)]
-struct Ended {
+pub(crate) struct Ended {
     /// Whether they end alike, and in the same box where it isn't crossed.
-    alike: bool,
+    pub(crate) alike: bool,
     /// Whether the one that asks what moved ends in a closed box.
-    fixed: bool,
+    pub(crate) fixed: bool,
 }
 
 /// Whether both boxes have the same bounds.
@@ -47,7 +48,7 @@ fn are_alike(all: Settled, asked: Limited, all_box: &BoxOf, asked_box: &BoxOf) -
 }
 
 /// Propagates the box in both ways.
-fn settle_both(
+pub(crate) fn settle_both(
     alloc: Global,
     b: &mut TrailedBox,
     kernels: &[Kernel],
@@ -57,10 +58,16 @@ fn settle_both(
     requires kernels { All (IsKernel (length b.old.current)) kernels.now }
     requires masks { AreMasksOf kernels.now (length b.old.current) masks.now }
     requires sets { Fit (length b.old.current) (length kernels.now) sets.old.moved sets.old.asking.asked }
+    requires rests { FitRests (length kernels.now) sets.old.asking.rests }
     requires quiet { AreMovedOrQuiet sets.old.moved b.old.current kernels.now }
+    requires knows { Knows sets.old.asking.asked sets.old.asking.rests.open.current sets.old.asking.rests.alert.current sets.old.moved b.old.current kernels.now }
     ensures length { OnOk result (length b.new.current ≡ length b.old.current) }
+    ensures stack { OnOk result (b.new.stack ≡ b.old.stack) }
     ensures sets { OnOk result (Fit (length b.old.current) (length kernels.now) sets.new.moved sets.new.asking.asked) }
+    ensures rests { OnOk result (FitRests (length kernels.now) sets.new.asking.rests) }
+    ensures stacks { OnOk result (KeepStacks sets.old.asking.rests sets.new.asking.rests) }
     ensures closed { IfOk result (λ ended. ended.fixed ≡ true → IsClosed b.new.current kernels.now) }
+    ensures resting { IfOk result (λ ended. ended.fixed ≡ true → AreResting sets.new.asking.rests.open.current sets.new.asking.rests.alert.current b.new.current kernels.now) }
 {
     let mut all = b.current().copy(alloc)?;
     let mut spare = all.copy(alloc)?;
@@ -74,6 +81,29 @@ fn settle_both(
             fixed: false,
         }),
     }
+}
+
+/// Propagates the box in both ways, where no kernel rests.
+fn settle_awake(
+    alloc: Global,
+    b: &mut TrailedBox,
+    kernels: &[Kernel],
+    masks: &Masks,
+    sets: &mut MovedSets,
+) -> Result<Ended, NoMemory>
+    requires kernels { All (IsKernel (length b.old.current)) kernels.now }
+    requires masks { AreMasksOf kernels.now (length b.old.current) masks.now }
+    requires sets { Fit (length b.old.current) (length kernels.now) sets.old.moved sets.old.asking.asked }
+    requires rests { FitRests (length kernels.now) sets.old.asking.rests }
+    requires quiet { AreMovedOrQuiet sets.old.moved b.old.current kernels.now }
+    ensures length { OnOk result (length b.new.current ≡ length b.old.current) }
+    ensures sets { OnOk result (Fit (length b.old.current) (length kernels.now) sets.new.moved sets.new.asking.asked) }
+    ensures rests { OnOk result (FitRests (length kernels.now) sets.new.asking.rests) }
+    ensures closed { IfOk result (λ ended. ended.fixed ≡ true → IsClosed b.new.current kernels.now) }
+{
+    law_known_unless_moved();
+    sets.wake_all();
+    settle_both(alloc, b, kernels, masks, sets)
 }
 
 /// Other bounds for a variable: most often one number that it had, seldom any two.
@@ -100,6 +130,7 @@ fn put_one(draws: &mut Draws, b: &mut TrailedBox, sets: &mut MovedSets) -> Resul
     requires sets { count_of sets.old.moved ≡ 40 }
     ensures length { OnOk result (length b.new.current ≡ 40) }
     ensures sets { OnOk result ((kernels : ℕ) → Fit 40 kernels sets.old.moved sets.old.asking.asked → Fit 40 kernels sets.new.moved sets.new.asking.asked) }
+    ensures rests { OnOk result (sets.new.asking.rests ≡ sets.old.asking.rests) }
     ensures quiet { OnOk result ((kernels : List Kernel) → All (IsKernel 40) kernels → AreMovedOrQuiet sets.old.moved b.old.current kernels → AreMovedOrQuiet sets.new.moved b.new.current kernels) }
 {
     law_quiet_unless_moved();
@@ -112,15 +143,15 @@ fn put_one(draws: &mut Draws, b: &mut TrailedBox, sets: &mut MovedSets) -> Resul
 
 /// How many boxes ended closed, ended crossed, and ended otherwise in one way than in the other.
 #[derive(Drop)]
-struct Tally {
-    fixed: u32,
-    failed: u32,
-    unlike: u32,
+pub(crate) struct Tally {
+    pub(crate) fixed: u32,
+    pub(crate) failed: u32,
+    pub(crate) unlike: u32,
 }
 
 impl Tally {
     /// Counts an end.
-    fn count(&mut self, ended: Ended) {
+    pub(crate) fn count(&mut self, ended: Ended) {
         if !ended.alike {
             self.unlike = self.unlike.saturating_add(1);
         } else if ended.fixed {
@@ -147,7 +178,7 @@ fn walk(
     sets.moved.mark_all();
     let mut b = TrailedBox::new(alloc, first)?;
     for _ in 0..8 {
-        let ended = settle_both(alloc, &mut b, kernels, &masks, &mut sets)?;
+        let ended = settle_awake(alloc, &mut b, kernels, &masks, &mut sets)?;
         tally.count(ended);
         if !ended.fixed {
             return Ok(());

@@ -43,7 +43,8 @@ fn put_inside(b: &mut TrailedBox, sets: &mut MovedSets, part: Part) -> Result<()
 /// The part where a variable has its lowest number.
 fn lowest(b: &TrailedBox, v: u32) -> Part
     requires { v < length b.now.current }
-    ensures { result ≡ record { var = v; low = low_of b.now.current v; high = low_of b.now.current v } }
+    ensures is { result ≡ record { var = v; low = low_of b.now.current v; high = low_of b.now.current v } }
+    ensures part { IsPart (length b.now.current) result.var result.low result.high }
 {
     let low = b.low(v);
     Part {
@@ -56,7 +57,8 @@ fn lowest(b: &TrailedBox, v: u32) -> Part
 /// The part where it has its highest number.
 fn highest(b: &TrailedBox, v: u32) -> Part
     requires { v < length b.now.current }
-    ensures { result ≡ record { var = v; low = high_of b.now.current v; high = high_of b.now.current v } }
+    ensures is { result ≡ record { var = v; low = high_of b.now.current v; high = high_of b.now.current v } }
+    ensures part { IsPart (length b.now.current) result.var result.low result.high }
 {
     let high = b.high(v);
     Part {

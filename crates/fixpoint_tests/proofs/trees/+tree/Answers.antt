@@ -12,8 +12,8 @@ tree-requires t c =
       c.in_ok-go_down.ensures.can_settle c.args.kernels.now c.args.masks.now c.in_ok-fixed.ensures.are_for (c.in_ok-fixed.ensures.settled down.0),
     )
 
-pub tree-2-requires : goal.tree-2-requires
-tree-2-requires t c =
+pub tree-requires-2 : goal.tree-requires-2
+tree-requires-2 t c =
     let down = c.if-is_leaf.ensures in
     let some = down.1 in
     let here = c.settle_here.new.b in

@@ -1,4 +1,12 @@
 //! The answer of a model: its subproblems are searched by workers, and their results put together.
+//!
+//! `answer` gives a finished answer, or under a limit an unfinished one, as the definitions say (`specs/Finished.antt`,
+//! `specs/Unfinished.antt`), finished where both limits are 0, whatever the workers, the lanes and their gates do; each
+//! solution that it gives solves the model. A model has one finished answer (`law_one_finished`). For an objective a second
+//! search looks for the first solution of the least cost, unless the best one is known to be it (`law_best_is_first`).
+//!
+//! It stands on `search`, `subproblem_walk`, `crew` and `fzn_print`. Which of the answers comes, where a limit allows several,
+//! isn't claimed. Begin with `src/answering.rt`.
 #![tactic(auto)]
 
 mod all_job;

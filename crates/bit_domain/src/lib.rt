@@ -1,4 +1,8 @@
 //! The numbers that are left for the variables of a model: sets of few as bits, the others between two bounds.
+//!
+//! A mix (`MixOf`) is the list of its domains; each number of a domain lies within its hull, and the ends of a hull that isn't
+//! crossed are numbers of it (`law_hull`). It stands on `interval`. The search narrows boxes of bounds; sets are for `--domains`.
+//! Begin with `specs/Mixes.antt`.
 #![tactic(auto)]
 
 mod bits;

@@ -1,19 +1,22 @@
 -- What is read of a text of the command line.
-use Rattle.std.proofs.Common.{IfOk, List, [], ◌∷◌, map, option_map, ◌≡◌, ◌≤◌, ◌<◌, ◌∙◌, ◌^◌, ℕ, Bool, true, false, Option, Some, None, Result, Ok, Err, refl, sym, ap, subst, codes, unwrap_or, option_and_then, is_some}
+use Rattle.std.proofs.Common.{IfOk, List, [], ◌∷◌, option_map, ◌≡◌, ◌≤◌, ◌∙◌, ℕ, Bool, true, false, Option, Some, None, Result, Ok, Err, refl, sym, ap, subst, codes, unwrap_or, option_and_then, is_some, inl, inr, arith}
 use Rattle.std.specs.Prelude.{if◌then◌else◌}
 use Rattle.std.specs.Option.{option_map_or}
 use Rattle.std.specs.Str.{bytes_eq}
 use Rattle.std.specs.Str.Parse.{ParsesBool, ParsesUnsigned, digits_value, without_leading_plus}
 use Rattle.std.proofs.lemmas.Slice.Eq.{bytes_eq-Decides}
 use Rattle.clap.specs.Matches.{ReadsOne, first_value, one_text}
-use Rattle.clap.specs.Values.{Accepts, IsUnsignedIn}
+use Rattle.clap.specs.Values.{IsUnsignedIn, kind_of}
 use Rattle.clap.specs.ValueTests.{is_unsigned_in}
-use Rattle.clap.specs.Walk.{first_of, one_of, rows_of}
+use Rattle.clap.specs.Walk.{first_of, rows_of}
 use Rattle.clap.specs.declared.builder.value_parser.ValueParser.TheVariants as vp
+use Rattle.clap.specs.declared.error.Error.{Error}
+use Rattle.clap.specs.declared.error.kind.ErrorKind.TheVariants.{OutOfMemory}
 use Rattle.clap.specs.declared.parser.matches.Found.{Found}
 use Rattle.clap.proofs.ValueTestLemmas.{Accepts-accepts, accepts-Accepts}
 use Rattle.clap.proofs.WalkLemmas.{first_value-rows, one_text-rows}
 use Rattle.clap.specs.Faults.{fault_of, is_simple_and_free}
+use Rattle.clap.specs.Kinds.{HasKind, Kinds}
 use Rattle.clap.specs.Simple.{App, is_simple, matches_of}
 use Rattle.clap.specs.Walk.{Row, Text, is_empty}
 use Rattle.std.specs.Borrow.{Bor}
@@ -110,6 +113,19 @@ config_taken a words rows X c is_command found free is =
     let faults : fault_of command words ≡ [] = subst (λ z. fault_of z words ≡ []) is_command (free (subst (λ z. is_simple_and_free z ≡ true) (sym is_command) is_free_command)) in
     let rows_are : rows ≡ matches_of command words = subst (λ z. rows ≡ matches_of z words) is_command (found (subst (λ z. is_simple z ≡ true) (sym is_command) is_simple_command)).0 in
     ap (λ ks. if is_empty ks then config_in (matches_of command words) else None) faults ∙ ap config_in (sym rows_are) ∙ sym is
+
+-- a kind that isn't want of memory is of a fault
+faulty : (kinds : Kinds) (e : Error) → HasKind kinds e → (kind_of e ≡ OutOfMemory → ⊥) → is_empty kinds ≡ false
+faulty [] e (inl memory) known = absurd (known memory)
+faulty [] e (inr none) known = absurd none
+faulty (k ∷ ks) e has known = grind arith
+
+-- nothing is asked for where the command doesn't take the words
+pub config_refused : (a : App) (words : List Text) (e : Error) → a ≡ command → (is_simple_and_free a ≡ true → HasKind (fault_of a words) e) → (kind_of e ≡ OutOfMemory → ⊥)
+    → (if is_empty (fault_of command words) then config_in (matches_of command words) else None) ≡ None
+config_refused a words e is_command fails known =
+    let has : HasKind (fault_of command words) e = subst (λ z. HasKind (fault_of z words) e) is_command (fails (subst (λ z. is_simple_and_free z ≡ true) (sym is_command) is_free_command)) in
+    ap (λ b. if b then config_in (matches_of command words) else None) (faulty (fault_of command words) e has known)
 
 -- what the answer is then
 pub taken_ok : (m : Option (Options × InputOf)) (c : Option Config) (r : Result Config WordsError) → r ≡ ok_or c NotTaken → m ≡ option_map config_meant c

@@ -46,13 +46,14 @@ plain_rule id = record (new_rule id) { long = Some id; parser = Some any_number 
 
 abbrev pub command : App
 command =
-    with_rule (with_rule (with_rule (with_rule (with_rule (with_rule (with_rule (with_rule (with_rule (new_app (codes "turbofzn"))
+    with_rule (with_rule (with_rule (with_rule (with_rule (with_rule (with_rule (with_rule (with_rule (with_rule (new_app (codes "turbofzn"))
     (flag_rule (codes "all") 97))
     (letter_rule (codes "workers") 112 (codes "1")))
     (word_rule (codes "lanes") (codes "1")))
     (word_rule (codes "depth") (codes "6")))
     (word_rule (codes "node-limit") (codes "0")))
     (word_rule (codes "round-limit") (codes "0")))
+    (word_flag_rule (codes "domains")))
     (word_flag_rule (codes "steal")))
     (plain_rule (codes "make")))
     (new_rule (codes "FILE"))
@@ -88,6 +89,7 @@ options_of rows =
       depth = depth;
       node_limit = node_limit;
       round_limit = round_limit;
+      domains = is_given (codes "domains") rows;
       steal = is_given (codes "steal") rows;
     })
     (number_of (codes "round-limit") 0 most_limit rows))

@@ -19,6 +19,7 @@ pub(crate) fn command<'a>(alloc: Global) -> Result<Command<'a>, AllocError>
         .arg(number(alloc, "depth", "6"))?
         .arg(number(alloc, "node-limit", "0"))?
         .arg(number(alloc, "round-limit", "0"))?
+        .arg(word_flag(alloc, "domains"))?
         .arg(word_flag(alloc, "steal"))?
         .arg(plain_number(alloc, "make"))?
         .arg(Arg::new(alloc, "FILE"))

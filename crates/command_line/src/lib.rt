@@ -1,4 +1,8 @@
 //! The words of the command line.
+//!
+//! `read_words` gives the options and the file, or the made text, exactly as the matches of `clap`'s rule say, where each
+//! number is within its bounds; words are refused only where there is none of that. The rule itself is `clap`'s, whose
+//! statement is the kit's.
 #![tactic(auto)]
 
 mod command;

@@ -28,6 +28,8 @@ pub struct Options {
     pub node_limit: u64,
     /// The most rounds of a propagation; 0 is no limit.
     pub round_limit: u64,
+    /// Whether the domains that propagation leaves are asked for, in the place of solutions.
+    pub domains: bool,
     /// Whether the subproblems are dealt out, and who has none left steals one.
     pub steal: bool,
 }
@@ -101,6 +103,7 @@ fn options_in(matches: &ArgMatches<'_>) -> Option<Options>
         depth: depth as u32,
         node_limit,
         round_limit,
+        domains: is_given(matches, "domains"),
         steal: is_given(matches, "steal"),
     })
 }

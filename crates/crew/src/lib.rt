@@ -1,5 +1,10 @@
-//! Numbers that workers run side by side, each number once. Which worker runs which number is open; the ends of the runs
-//! stand in the order of the numbers.
+//! Numbers that workers run side by side, each number once. Which worker runs which number is open; the ends of the runs stand
+//! in the order of the numbers.
+//!
+//! `run_numbers` is the one call, for any job that keeps the clauses of `Job` (`src/job.rt`), whether the workers draw tickets
+//! or steal (`src/source.rt`). Where memory is refused in a run its worker draws no more, the others go on, and the first seat
+//! has all parts again. It stands on `tickets`, `steal_crew` and `gate`, and knows no search: `answer` does. That a thread runs
+//! isn't claimed.
 #![tactic(auto)]
 
 mod ends;

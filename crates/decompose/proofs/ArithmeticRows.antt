@@ -2,8 +2,8 @@
 use Rattle.std.proofs.Common.{◌≡◌, ◌≢◌, ◌↔◌, ℤ, pos, ◌*ℤ◌, unsigned_abs, false, List, [], ◌∷◌, refl, sym, ap, ◌∙◌}
 use Rattle.guarded_tell.specs.declared.kernel.Kernel.{Kernel}
 use Rattle.guarded_tell.specs.Kernels.{vars_of, HasNumbers, Holds as KernelHolds}
-use Rattle.guarded_tell.specs.Division.{quotient_of}
-use Rattle.guarded_tell.specs.Remainder.{remainder_of}
+use Rattle.arithmetic_tells.specs.Division.{quotient_of}
+use Rattle.arithmetic_tells.specs.Remainder.{remainder_of}
 use Rattle.constraint_model.specs.declared.model.Term.{Term}
 use Rattle.constraint_model.specs.declared.model.VarDecl.{VarDecl}
 use Rattle.constraint_model.specs.declared.table.Letter.{Letter}

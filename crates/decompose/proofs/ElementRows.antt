@@ -4,8 +4,8 @@ use Rattle.std.specs.List.{All, Any}
 use Rattle.std.proofs.lemmas.List.{length-map, get_or-map, get_or_default}
 use Rattle.std.proofs.lemmas.List.FromFn.{length-enumerate_from, get_or-enumerate_from}
 use Rattle.guarded_tell.specs.declared.kernel.Kernel.{Kernel}
-use Rattle.guarded_tell.specs.Extremes.{member_limit}
-use Rattle.guarded_tell.specs.Element.{places_of, IsElement}
+use Rattle.extreme_tells.specs.Extremes.{member_limit}
+use Rattle.element_tells.specs.Element.{places_of, IsElement}
 use Rattle.guarded_tell.specs.Words.{value_of}
 use Rattle.guarded_tell.specs.Kernels.{vars_of, HasNumbers, Holds as KernelHolds}
 use Rattle.constraint_model.specs.declared.model.Term.{Term}

@@ -7,9 +7,9 @@ use Rattle.std.proofs.lemmas.Int.{ints, clamps}
 use Rattle.std.proofs.lemmas.List.{length-map, get_or-map, get_or_default}
 use Rattle.std.proofs.lemmas.List.Elements.{All-head, All-tail, All-map}
 use Rattle.guarded_tell.specs.declared.kernel.Kernel.{Kernel}
-use Rattle.guarded_tell.specs.Extremes.{member_limit}
-use Rattle.guarded_tell.specs.Maximum.{IsGreatestOf}
-use Rattle.guarded_tell.specs.Minimum.{IsLeastOf}
+use Rattle.extreme_tells.specs.Extremes.{member_limit}
+use Rattle.extreme_tells.specs.Maximum.{IsGreatestOf}
+use Rattle.extreme_tells.specs.Minimum.{IsLeastOf}
 use Rattle.guarded_tell.specs.Words.{value_of}
 use Rattle.guarded_tell.specs.Kernels.{vars_of, HasNumbers, Holds as KernelHolds}
 use Rattle.constraint_model.specs.declared.model.Term.{Term}

@@ -9,7 +9,7 @@ use Rattle.interval.specs.Limits.{IsNumber}
 use Rattle.guarded_tell.specs.Words.{Lit}
 use Rattle.guarded_tell.specs.declared.kernel.Kernel.{Kernel}
 use Rattle.guarded_tell.specs.Words.{value_of, literal_true}
-use Rattle.guarded_tell.specs.InSet.{IsSet, range_limit}
+use Rattle.set_tells.specs.InSet.{IsSet, range_limit}
 use Rattle.guarded_tell.specs.Kernels.{vars_of, HasNumbers, Holds as KernelHolds}
 use Rattle.constraint_model.specs.declared.model.Term.{Term}
 use Rattle.constraint_model.specs.declared.model.VarDecl.{VarDecl}

@@ -15,8 +15,8 @@ use Rattle.guarded_tell.specs.declared.kernel.Kernel.TheVariants.{Le, Eq, Times,
 use Rattle.guarded_tell.specs.Words.{is_sure, is_out, IsProperIn, IsInsideIn}
 use Rattle.guarded_tell.specs.Linear.{Term, least_of, greatest_of, sum_over}
 use Rattle.guarded_tell.specs.Equality.{is_same, is_product}
-use Rattle.guarded_tell.specs.Element.{can_equal, places_of}
-use Rattle.guarded_tell.specs.InSet.{has_number}
+use Rattle.element_tells.specs.Element.{can_equal, places_of}
+use Rattle.set_tells.specs.InSet.{has_number}
 use Rattle.guarded_tell.specs.Kernels.{vars_of, HasNumbers}
 use Rattle.domain_drops.specs.Removals.{Removal, makes_limit, term_removal, equation_removals, is_against_set, set_removal, is_place_apart, place_removal, removals}
 use Rattle.domain_drops.proofs.ProductLaws.{by_bool, same_is, is_same_of}

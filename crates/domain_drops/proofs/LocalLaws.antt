@@ -11,8 +11,8 @@ use Rattle.guarded_tell.specs.declared.kernel.Kernel.TheVariants.{Le, Eq, Times,
 use Rattle.guarded_tell.specs.Words.{AgreeIn}
 use Rattle.guarded_tell.specs.Linear.{Term, least_of, greatest_of, sum_over}
 use Rattle.guarded_tell.specs.Equality.{is_same, is_product}
-use Rattle.guarded_tell.specs.Element.{can_equal}
-use Rattle.guarded_tell.specs.InSet.{has_number}
+use Rattle.element_tells.specs.Element.{can_equal}
+use Rattle.set_tells.specs.InSet.{has_number}
 use Rattle.guarded_tell.specs.Kernels.{vars_of}
 use Rattle.bit_domain.specs.declared.dom.Dom.{Dom}
 use Rattle.bit_domain.specs.Mixes.{Mix, dom_of, hull, hull_of, values_of}

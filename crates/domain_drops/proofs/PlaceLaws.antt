@@ -5,7 +5,7 @@ use Rattle.std.proofs.lemmas.Bool.Decides.{Decides-int_eq}
 use Rattle.std.specs.Ordering.{int_eq}
 use Rattle.std.specs.List.{enumerate_from, list_any}
 use Rattle.interval.specs.Boxes.{Bounds}
-use Rattle.guarded_tell.specs.Element.{can_equal}
+use Rattle.element_tells.specs.Element.{can_equal}
 use Rattle.domain_drops.specs.Removals.{is_place_apart}
 use Rattle.domain_drops.proofs.ProductLaws.{by_bool}
 

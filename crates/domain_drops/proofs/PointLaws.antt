@@ -17,8 +17,8 @@ use Rattle.guarded_tell.specs.declared.kernel.Kernel.TheVariants.{Le, Eq, Times,
 use Rattle.guarded_tell.specs.Words.{literal_true, is_sure, is_out, value_of, point_of, AreVariables}
 use Rattle.guarded_tell.specs.Linear.{Term, least_of, greatest_of, sum_over, term_value}
 use Rattle.guarded_tell.specs.Equality.{is_same, is_product, IsEquation}
-use Rattle.guarded_tell.specs.Element.{can_equal, places_of, IsElement}
-use Rattle.guarded_tell.specs.InSet.{has_number, IsInSet}
+use Rattle.element_tells.specs.Element.{can_equal, places_of, IsElement}
+use Rattle.set_tells.specs.InSet.{has_number, IsInSet}
 use Rattle.guarded_tell.specs.Kernels.{vars_of, HasNumbers, Holds}
 use Rattle.domain_drops.specs.Removals.{Removal, makes_limit, term_removal, equation_removals, is_against_set, set_removal, is_place_apart, place_removal, removals}
 use Rattle.domain_drops.proofs.ProductLaws.{same_is}

@@ -10,8 +10,8 @@ use Rattle.guarded_tell.specs.declared.kernel.Kernel.TheVariants.{Le, Eq, Times,
 use Rattle.guarded_tell.specs.Words.{is_sure, is_out}
 use Rattle.guarded_tell.specs.Linear.{Term, sum_over, least_of, greatest_of}
 use Rattle.guarded_tell.specs.Equality.{is_same, is_product}
-use Rattle.guarded_tell.specs.Element.{places_of, can_equal}
-use Rattle.guarded_tell.specs.InSet.{has_number}
+use Rattle.element_tells.specs.Element.{places_of, can_equal}
+use Rattle.set_tells.specs.InSet.{has_number}
 
 -- a variable, and which numbers it can't have
 pub record Removal : Type 0 where

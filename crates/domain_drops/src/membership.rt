@@ -2,7 +2,7 @@
 
 ghost use Rattle.std.specs.Prelude.{◌≡◌, ◌<◌, ◌||◌, Bool, ℤ, List, length, not, ◌&&◌, true};
 ghost use Rattle.std.specs.List.{list_any};
-ghost use Rattle.guarded_tell.specs.InSet.{has_number, IsSet};
+ghost use Rattle.set_tells.specs.InSet.{has_number, IsSet};
 ghost use Rattle.bit_domain.specs.Mixes.{hull};
 ghost use Rattle.domain_drops.specs.Hearing.{MayHearDrops, HearsDrops};
 ghost use Rattle.domain_drops.specs.Removals.{set_removal};

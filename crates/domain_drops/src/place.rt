@@ -3,8 +3,8 @@
 ghost use Rattle.std.specs.Prelude.{◌≡◌, ◌<◌, ◌≤◌, ◌∷◌, ◌&&◌, ◌-◌, pos, ℕ, not, length, int_le, slice_index_or, unsigned_abs};
 ghost use Rattle.interval.specs.Limits.{IsBound};
 ghost use Rattle.guarded_tell.specs.Words.{AreVariables};
-ghost use Rattle.guarded_tell.specs.Extremes.{member_limit};
-ghost use Rattle.guarded_tell.specs.Element as element;
+ghost use Rattle.extreme_tells.specs.Extremes.{member_limit};
+ghost use Rattle.element_tells.specs.Element as element;
 ghost use Rattle.bit_domain.specs.Mixes.{hull};
 ghost use Rattle.domain_drops.specs.Hearing.{MayHearDrops, HearsDrops};
 ghost use Rattle.domain_drops.specs.Removals.{is_place_apart, place_removal};
@@ -33,7 +33,7 @@ impl NumberTest for Apart<'_, '_> {
 }
 
 /// Whether the value is a place whose variable can't equal c.
-#[tactic(auto, unfolding(guarded_tell::specs::Extremes::member_limit))]
+#[tactic(auto, unfolding(extreme_tells::specs::Extremes::member_limit))]
 fn is_apart(entries: &[u32], c: u32, m: &MixOf, value: i64) -> bool
     requires short { length entries.now ≤ member_limit }
     requires variables { AreVariables (length m.now) (c ∷ entries.now) }

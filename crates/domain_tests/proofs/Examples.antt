@@ -15,8 +15,8 @@ use Rattle.guarded_tell.specs.Words.{Lit, IsProperIn, AreVariables}
 use Rattle.guarded_tell.specs.declared.kernel.Kernel.{Kernel}
 use Rattle.guarded_tell.specs.declared.kernel.Kernel.TheVariants.{Eq, Abs, Element, InSet}
 use Rattle.guarded_tell.specs.Linear.{IsLinear, term_limit}
-use Rattle.guarded_tell.specs.Extremes.{member_limit}
-use Rattle.guarded_tell.specs.InSet.{IsSet, range_limit}
+use Rattle.extreme_tells.specs.Extremes.{member_limit}
+use Rattle.set_tells.specs.InSet.{IsSet, range_limit}
 use Rattle.guarded_tell.specs.Kernels.{vars_of, HasNumbers, IsKernel}
 use Rattle.bit_domain.specs.declared.dom.Dom.TheVariants.{Bits}
 use Rattle.bit_domain.specs.Mixes.{Mix, hull, hull_of, mix_of, dom_between, IsDomInRange}

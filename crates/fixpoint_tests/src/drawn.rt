@@ -3,7 +3,7 @@
 ghost use Rattle.std.specs.Prelude.{◌≡◌, ◌<◌, ◌≤◌, length, IfOk, unsigned_abs};
 ghost use Rattle.std.specs.List.{All};
 ghost use Rattle.guarded_tell.specs.Words.{Lit};
-ghost use Rattle.guarded_tell.specs.InSet.{IsSet};
+ghost use Rattle.set_tells.specs.InSet.{IsSet};
 ghost use Rattle.guarded_tell.specs.Kernels.{IsKernel};
 
 use guarded_tell::{Extended, Kernel, Lit, Literals};

@@ -1,7 +1,10 @@
 //! Where bytes come from and go to: sources with names, sinks, and calls that read or write a whole text.
 //!
-//! Each refusal of a source or a sink stands on a count of faults, so that a caller's contract can say why it
-//! refused. In memory they tell contracts their bytes; over files and standard streams they tell the count alone.
+//! Each refusal of a source or a sink stands on a count of faults, so that a caller's contract can say why it refused. In
+//! memory they tell contracts their bytes; over files and standard streams they tell the count alone: what a real file holds,
+//! and that its count rises at true faults alone, rests on the few lines over the system's calls. It stands on nothing.
+//!
+//! Begin with the traits `Source` and `Sink`, then `read_named` and `write_all`.
 #![tactic(auto)]
 
 mod faults;

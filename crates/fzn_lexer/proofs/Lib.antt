@@ -3,3 +3,4 @@ pub mod Runs
 pub mod Longest
 pub mod Cuts
 pub mod Turns
+pub mod Rows

@@ -102,7 +102,7 @@ best_found q at [] = record { none = nothing_left q }
 best_found q at (b ∷ bs) = combine q at b bs (accepted (step q b)) (longest_found (step q b) (suc at) bs) refl (best_found (step q b) (suc at) bs)
 
 -- nothing is found behind the dead state
-dead_found : (at : ℕ) (s : List ℕ) → longest_found Dead at s ≡ None
+pub dead_found : (at : ℕ) (s : List ℕ) → longest_found Dead at s ≡ None
 unfolding longest_found
 dead_found at [] = refl
 dead_found at (b ∷ bs) = ap (λ o. later None o) (dead_found (suc at) bs)

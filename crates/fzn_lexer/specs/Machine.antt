@@ -1,5 +1,5 @@
 -- A machine over bytes that tells which pieces the bytes spell. The code follows it; the proofs tie it to the spellings.
-use Rattle.std.specs.Prelude.{ℕ, suc, Bool, true, false, ◌==◌, ◌||◌, if◌then◌else◌, List, [], ◌∷◌, Option, Some, None}
+use Rattle.std.specs.Prelude.{ℕ, suc, drop, Bool, true, false, ◌==◌, ◌||◌, if◌then◌else◌, List, [], ◌∷◌, Option, Some, None}
 use Rattle.std.specs.Char.{is_ascii_digit, is_ascii_hexdigit}
 use Rattle.fzn_lexer.specs.Bytes.{is_octal_digit, is_letter, is_word_byte, is_exponent_letter, is_sign_byte, is_blank_byte, is_in_line}
 use Rattle.fzn_lexer.specs.declared.machine.Found.{Found}
@@ -126,3 +126,17 @@ unfoldable pub longest_found : State → ℕ → List ℕ → Option Found
 longest_found state at [] = None
 longest_found state at (b ∷ bs) =
     later (found_as (accepted (step state b)) (suc at)) (longest_found (step state b) (suc at) bs)
+
+-- the pieces of which each front behind the first byte is one too
+abbrev pub word : Option PieceKind
+word = Some (piece_kind.Token kind.Word)
+
+abbrev pub int : Option PieceKind
+int = Some (piece_kind.Token kind.Int)
+
+abbrev pub comment : Option PieceKind
+comment = Some piece_kind.Comment
+
+-- the longest piece, where the bytes of the text before `at` leave this state and spell this piece
+abbrev pub found_on : Option PieceKind → State → ℕ → List ℕ → Option Found
+found_on piece state at text = later (found_as piece at) (longest_found state at (drop at text))

@@ -1,4 +1,9 @@
 //! The tokens of a FlatZinc text, by longest match.
+//!
+//! `next_token` gives the next token behind a byte, or the byte where none begins, and takes no memory; what is read token by
+//! token is what is read whole (`law_tokens_in_turn`). `lex` takes a text whole and is used by laws and tests. Every text has
+//! one list of tokens or one fault, never both (`law_one_reading`). It stands on nothing, and knows no items: `fzn_parser`
+//! reads them. Begin with `specs/Lexing.antt`.
 #![tactic(auto)]
 
 mod machine;

@@ -4,6 +4,7 @@ ghost use Rattle.std.specs.Prelude.{◌≡◌, ◌≤◌, ◌<◌, [], drop, len
 ghost use Rattle.fzn_lexer.specs.Lexing.{LexesTo};
 ghost use Rattle.fzn_lexer.specs.Bytes as bytes;
 ghost use Rattle.fzn_lexer.specs.Machine as machine;
+ghost use Rattle.fzn_lexer.specs.declared.machine.State.{State as States};
 
 use crate::{Kind, PieceKind};
 
@@ -50,16 +51,22 @@ fn is_octal_digit(b: u8) -> bool
     matches!(b, b'0'..=b'7')
 }
 
-fn is_letter(b: u8) -> bool
-    ensures { result ≡ bytes.is_letter b }
-{
-    b.is_ascii_alphabetic() || b == b'_'
-}
+/// For each byte 1 where it is a letter or a digit, else 0: of each word each byte is looked up.
+const WORD_BYTES: [u8; 256] = [
+    0, 0, 0, 0, 0, 0, 0, 0, 0, 0, 0, 0, 0, 0, 0, 0, 0, 0, 0, 0, 0, 0, 0, 0, 0, 0, 0, 0, 0, 0, 0, 0,
+    0, 0, 0, 0, 0, 0, 0, 0, 0, 0, 0, 0, 0, 0, 0, 0, 1, 1, 1, 1, 1, 1, 1, 1, 1, 1, 0, 0, 0, 0, 0, 0,
+    0, 1, 1, 1, 1, 1, 1, 1, 1, 1, 1, 1, 1, 1, 1, 1, 1, 1, 1, 1, 1, 1, 1, 1, 1, 1, 1, 0, 0, 0, 0, 1,
+    0, 1, 1, 1, 1, 1, 1, 1, 1, 1, 1, 1, 1, 1, 1, 1, 1, 1, 1, 1, 1, 1, 1, 1, 1, 1, 1, 0, 0, 0, 0, 0,
+    0, 0, 0, 0, 0, 0, 0, 0, 0, 0, 0, 0, 0, 0, 0, 0, 0, 0, 0, 0, 0, 0, 0, 0, 0, 0, 0, 0, 0, 0, 0, 0,
+    0, 0, 0, 0, 0, 0, 0, 0, 0, 0, 0, 0, 0, 0, 0, 0, 0, 0, 0, 0, 0, 0, 0, 0, 0, 0, 0, 0, 0, 0, 0, 0,
+    0, 0, 0, 0, 0, 0, 0, 0, 0, 0, 0, 0, 0, 0, 0, 0, 0, 0, 0, 0, 0, 0, 0, 0, 0, 0, 0, 0, 0, 0, 0, 0,
+    0, 0, 0, 0, 0, 0, 0, 0, 0, 0, 0, 0, 0, 0, 0, 0, 0, 0, 0, 0, 0, 0, 0, 0, 0, 0, 0, 0, 0, 0, 0, 0,
+];
 
 fn is_word_byte(b: u8) -> bool
     ensures { result ≡ bytes.is_word_byte b }
 {
-    is_letter(b) || b.is_ascii_digit()
+    WORD_BYTES[b as usize] == 1
 }
 
 fn is_exponent_letter(b: u8) -> bool
@@ -77,56 +84,24 @@ fn is_sign_byte(b: u8) -> bool
 fn is_blank_byte(b: u8) -> bool
     ensures { result ≡ bytes.is_blank_byte b }
 {
-    b == b' ' || b == b'\t' || b == b'\r' || b == b'\n'
-}
-
-fn is_lone_mark(b: u8) -> bool
-    ensures { result ≡ machine.is_lone_mark b }
-{
-    b == b'('
-        || b == b')'
-        || b == b'['
-        || b == b']'
-        || b == b'{'
-        || b == b'}'
-        || b == b','
-        || b == b';'
-        || b == b'='
-}
-
-fn other_step(b: u8) -> State
-    ensures { result ≡ machine.other_step b }
-{
-    if is_lone_mark(b) {
-        State::MarkEnd
-    } else if b == b':' {
-        State::Colon
-    } else if b == b'.' {
-        State::Dot
-    } else if b == b'%' {
-        State::InComment
-    } else if is_blank_byte(b) {
-        State::BlankEnd
-    } else {
-        State::Dead
-    }
+    matches!(b, b' ' | b'\t' | b'\r' | b'\n')
 }
 
 fn start_step(b: u8) -> State
     ensures { result ≡ machine.start_step b }
 {
-    if is_letter(b) {
-        State::InWord
-    } else if b == b'-' {
-        State::Minus
-    } else if b == b'"' {
-        State::InText
-    } else if b == b'0' {
-        State::Zero
-    } else if b.is_ascii_digit() {
-        State::Digits
-    } else {
-        other_step(b)
+    match b {
+        b'a'..=b'z' | b'A'..=b'Z' | b'_' => State::InWord,
+        b'-' => State::Minus,
+        b'"' => State::InText,
+        b'0' => State::Zero,
+        b'1'..=b'9' => State::Digits,
+        b'(' | b')' | b'[' | b']' | b'{' | b'}' | b',' | b';' | b'=' => State::MarkEnd,
+        b':' => State::Colon,
+        b'.' => State::Dot,
+        b'%' => State::InComment,
+        b' ' | b'\t' | b'\r' | b'\n' => State::BlankEnd,
+        _ => State::Dead,
     }
 }
 
@@ -278,13 +253,53 @@ fn later(first: Option<Found>, piece: Option<PieceKind>, to: usize) -> Option<Fo
     }
 }
 
-/// The longest piece that begins at `from`.
-pub fn longest_piece(text: &[u8], from: usize) -> Option<Found>
+/// The place behind the letters and digits at `from`, where a word goes on.
+fn word_end(text: &[u8], from: usize) -> usize
     requires { from ≤ length text.now }
-    ensures { result ≡ machine.longest_found machine.start from (drop from text.now) }
+    ensures { machine.found_on machine.word States.InWord from text.now ≡ machine.found_as machine.word result }
 {
-    let mut state = State::Start;
-    let mut found = None;
+    for at in from..text.len() {
+        if !is_word_byte(text[at]) {
+            return at;
+        }
+    }
+    text.len()
+}
+
+/// The place behind the decimal digits at `from`, where a number goes on.
+fn digits_end(text: &[u8], from: usize) -> usize
+    requires { from ≤ length text.now }
+    ensures found { machine.found_on machine.int States.Digits from text.now ≡ machine.found_on machine.int States.Digits result text.now }
+    ensures inside { result ≤ length text.now }
+{
+    for at in from..text.len() {
+        if !text[at].is_ascii_digit() {
+            return at;
+        }
+    }
+    text.len()
+}
+
+/// The place of the line end behind `from`, or the text's end, where a comment goes on.
+fn comment_end(text: &[u8], from: usize) -> usize
+    requires { from ≤ length text.now }
+    ensures { machine.found_on machine.comment States.InComment from text.now ≡ machine.found_as machine.comment result }
+{
+    for at in from..text.len() {
+        if text[at] == b'\n' {
+            return at;
+        }
+    }
+    text.len()
+}
+
+/// The longest piece where the bytes before `from` leave this state, and this was found before.
+fn longest_behind(text: &[u8], from: usize, first: Option<Found>, before: State) -> Option<Found>
+    requires { from ≤ length text.now }
+    ensures { result ≡ machine.later first (machine.longest_found before from (drop from text.now)) }
+{
+    let mut state = before;
+    let mut found = first;
     for at in from..text.len() {
         state = step(state, text[at]);
         if let State::Dead = state {
@@ -296,6 +311,47 @@ pub fn longest_piece(text: &[u8], from: usize) -> Option<Found>
         }
     }
     found
+}
+
+/// The longest number where decimal digits stand before `from`.
+fn number_behind(text: &[u8], from: usize) -> Option<Found>
+    requires { from ≤ length text.now }
+    ensures { result ≡ machine.found_on machine.int States.Digits from text.now }
+{
+    let to = digits_end(text, from);
+    let piece = PieceKind::Token(Kind::Int);
+    longest_behind(text, to, Some(Found { piece, to }), State::Digits)
+}
+
+/// The longest piece where its first byte, before `from`, leaves this state.
+fn piece_behind(text: &[u8], from: usize, state: State) -> Option<Found>
+    requires { from ≤ length text.now }
+    ensures { result ≡ machine.found_on (machine.accepted state) state from text.now }
+{
+    match state {
+        State::InWord => Some(Found {
+            piece: PieceKind::Token(Kind::Word),
+            to: word_end(text, from),
+        }),
+        State::Digits => number_behind(text, from),
+        State::InComment => Some(Found {
+            piece: PieceKind::Comment,
+            to: comment_end(text, from),
+        }),
+        State::Dead => None,
+        _ => longest_behind(text, from, later(None, accepted(state), from), state),
+    }
+}
+
+/// The longest piece that begins at `from`.
+pub fn longest_piece(text: &[u8], from: usize) -> Option<Found>
+    requires { from ≤ length text.now }
+    ensures { result ≡ machine.longest_found machine.start from (drop from text.now) }
+{
+    if from == text.len() {
+        return None;
+    }
+    piece_behind(text, from + 1, start_step(text[from]))
 }
 
 /// The first place from `from` on at which no blank stands.

@@ -1,4 +1,10 @@
 //! Resolves the items of a FlatZinc text: names, types and limits. The model of the items, or their first fault.
+//!
+//! Begin with `Resolver` (`src/taking.rt`), which takes the items one by one; `resolve` takes them whole and is used by laws
+//! and tests. Every list of items has one model or one fault, never both (`law_one_model`), and a model is well-formed
+//! (`law_well_formed`). `specs/Effects.antt` says what an item adds, `specs/Faults.antt` which faults it has. It stands on
+//! `fzn_parser` and `constraint_model`. How names are found is no matter of a contract: a body that never finds a hint is
+//! right, and slower.
 #![tactic(auto)]
 
 mod arrays;

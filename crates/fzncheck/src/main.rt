@@ -1,4 +1,7 @@
 //! `fzncheck`: checks the solutions in one file against the FlatZinc model in another, and ends with the status of the call.
+//!
+//! It hands the real words, files and streams to `check_main` of `fzn_check`; that these are what the system says is trusted.
+//! It promises nothing but to be safe, and is run on stored texts by the gate.
 #![tactic(auto)]
 
 use fzn_check::{Status, check_main, report_memory};

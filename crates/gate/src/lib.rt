@@ -1,4 +1,7 @@
 //! Gates: where a thread may be held up before each of its steps.
+//!
+//! No clause speaks of a gate, so every clause holds for every gate; the program passes `NoGate`, and tests pass gates that
+//! wait for each other. It stands on nothing. That a gate which waits is ever left isn't claimed.
 #![tactic(auto)]
 
 /// Is called by each lane or worker before each of its steps: a lane's pass over a propagator, a worker's draw of a

@@ -1,4 +1,9 @@
 //! The bounds that two global constraints tell: all-different, and a cumulative resource.
+//!
+//! Exactly the tells of the definitions, in order (`visit_all_different`, `visit_cumulative`), and two tests that see that
+//! nothing is told (`is_all_different_quiet`, `is_cumulative_quiet`); monotone, exact at a point, on their own variables alone.
+//! It stands on `tells`; `guarded_tell` has both as kernels. Both are on bounds: no filtering by matchings or energy is
+//! claimed, nor what a visit costs.
 #![tactic(auto)]
 
 mod all_different;

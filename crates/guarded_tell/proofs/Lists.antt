@@ -22,12 +22,6 @@ module _ {X : Type 0} (P : X → Type 0) where
   pub one-All : (x : X) → All P (x ∷ []) → P x
   one-All x all = all 0 x (omega arith)
 
-  pub All-two : (x y : X) → P x → P y → All P (x ∷ y ∷ [])
-  All-two x y p q = All-append P (x ∷ []) (y ∷ []) (All-one x p) (All-one y q)
-
-  pub two-All : (x y : X) → All P (x ∷ y ∷ []) → P x × P y
-  two-All x y all = (all 0 x (omega arith), all 1 y (omega arith))
-
   pub All-flat_map : {Y : Type 0} (f : Y → List X) (ys : List Y) (e : Y) → ((i : ℕ) → i < length ys → All P (f (get_or ys i e))) → All P (flat_map f ys)
   All-flat_map f [] e h = All-nil P
   All-flat_map f (y ∷ ys) e h = All-append P (f y) (flat_map f ys) (h 0 (omega arith)) (All-flat_map f ys e (λ i l. h (suc i) (omega arith)))

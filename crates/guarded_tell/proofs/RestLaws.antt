@@ -28,25 +28,25 @@ use Rattle.guarded_tell.proofs.ClauseQuiet.{sure_quiet}
 use Rattle.guarded_tell.proofs.OpenLaws.{open_term, open_quiet}
 
 -- the bounds of a variable in a box inside
-record Lies (b c : Bounds) (v : ℕ) : Type 0 where
-  low : low_of b v ≤ℤ low_of c v
-  proper : low_of c v ≤ℤ high_of c v
-  high : high_of c v ≤ℤ high_of b v
+pub record Lies (b c : Bounds) (v : ℕ) : Type 0 where
+  pub low : low_of b v ≤ℤ low_of c v
+  pub proper : low_of c v ≤ℤ high_of c v
+  pub high : high_of c v ≤ℤ high_of b v
 
-lies : (b c : Bounds) (v : ℕ) → IsInside c b → v < length b → low_of c v ≤ℤ high_of c v → Lies b c v
+pub lies : (b c : Bounds) (v : ℕ) → IsInside c b → v < length b → low_of c v ≤ℤ high_of c v → Lies b c v
 lies b c v inside there proper = record { low = inside.lows v there; proper = proper; high = inside.highs v there }
 
-sure_lies : (b c : Bounds) (l : Lit) → Lies b c l.var → is_sure l b ≡ true → is_sure l c ≡ true
+pub sure_lies : (b c : Bounds) (l : Lit) → Lies b c l.var → is_sure l b ≡ true → is_sure l c ≡ true
 sure_lies b c l w = sure_inside c b l w.low w.proper w.high
 
-out_lies : (b c : Bounds) (l : Lit) → Lies b c l.var → is_out l b ≡ true → is_out l c ≡ true
+pub out_lies : (b c : Bounds) (l : Lit) → Lies b c l.var → is_out l b ≡ true → is_out l c ≡ true
 out_lies b c l w = out_inside c b l w.low w.proper w.high
 
-low_bound : (b c : Bounds) (v : ℕ) → Lies b c v → IsBound (low_of b v) → IsBound (high_of b v) → IsBound (low_of c v)
+pub low_bound : (b c : Bounds) (v : ℕ) → Lies b c v → IsBound (low_of b v) → IsBound (high_of b v) → IsBound (low_of c v)
 unfolding bound_limit largest_number
 low_bound b c v w p q = let x = w.low in let y = w.proper in let z = w.high in omega (arith, ints)
 
-high_bound : (b c : Bounds) (v : ℕ) → Lies b c v → IsBound (low_of b v) → IsBound (high_of b v) → IsBound (high_of c v)
+pub high_bound : (b c : Bounds) (v : ℕ) → Lies b c v → IsBound (low_of b v) → IsBound (high_of b v) → IsBound (high_of c v)
 unfolding bound_limit largest_number
 high_bound b c v w p q = let x = w.low in let y = w.proper in let z = w.high in omega (arith, ints)
 

@@ -1,7 +1,6 @@
 -- What a short shape says of its kernel's tells.
-use Rattle.std.proofs.Common.{◌≡◌, ℕ, ◌<◌, List, [], ◌∷◌, length, true, not, ◌&&◌, ◌||◌, ℤ, pos, negsuc, ◌+ℤ◌, ◌-ℤ◌, ◌≤ℤ◌, inl, inr, refl, sym, subst, ◌∙◌, arith}
+use Rattle.std.proofs.Common.{◌≡◌, ℕ, ◌<◌, List, [], ◌∷◌, length, false, ℤ, pos, negsuc, ◌+ℤ◌, ◌-ℤ◌, ◌≤ℤ◌, inl, inr, refl, sym, subst, arith}
 use Rattle.std.proofs.lemmas.Int.{ints, clamps}
-use Rattle.std.proofs.lemmas.Bool.{and_parts}
 use Rattle.std.specs.Int.{int_max}
 use Rattle.std.specs.List.{All}
 use mir.Val.{to_z, of_z}
@@ -10,7 +9,7 @@ use Rattle.tells.specs.declared.tell.Lit.{Lit}
 use Rattle.interval.specs.Limits.{ClampOrder}
 use Rattle.interval.specs.Quotients.{QuotientOrder}
 use Rattle.interval.specs.Boxes.{Bounds, low_of, high_of}
-use Rattle.guarded_tell.specs.Words.{Keeps, is_sure, is_out, AreVariables, IsProperIn}
+use Rattle.guarded_tell.specs.Words.{Keeps, is_out, AreVariables, IsProperIn}
 use Rattle.guarded_tell.specs.Linear.{IsLinear}
 use Rattle.guarded_tell.specs.Clause.{clause_vars}
 use Rattle.guarded_tell.specs.declared.short.SmallTerm.{SmallTerm}
@@ -20,12 +19,11 @@ use Rattle.guarded_tell.specs.declared.kernel.Kernel.{Kernel}
 use Rattle.guarded_tell.specs.declared.shape.Shape.TheVariants.{AtMost, Same, Either}
 use Rattle.guarded_tell.specs.Short.{AreSums, sums_of_two, IsPairAtMostQuiet, IsPairEquationQuiet}
 use Rattle.guarded_tell.specs.Kernels.{vars_of, tells, HasNumbers, IsKernel}
-use Rattle.guarded_tell.specs.Shapes.{IsDifference, IsDifferenceIn, IsShapeOf, is_either_quiet}
-use Rattle.guarded_tell.proofs.LiteralLaws.{by_bool, not_true}
+use Rattle.guarded_tell.specs.Shapes.{IsDifference, IsDifferenceIn, IsShapeOf}
 use Rattle.guarded_tell.proofs.ShortLaws.{short_number}
 use Rattle.guarded_tell.proofs.PairLaws.{two_sums, pair_at_most, pair_equation}
 use Rattle.guarded_tell.proofs.QuietLaws.{at_most_quiet, equation_quiet}
-use Rattle.guarded_tell.proofs.ClauseQuiet.{sure_quiet, two_quiet}
+use Rattle.guarded_tell.proofs.ClauseQuiet.{two_quiet}
 
 -- ---- the variables of a short shape stand in the box
 
@@ -98,7 +96,7 @@ swapped t u =
     let widest : int_max (u.greatest -ℤ u.least) (t.greatest -ℤ t.least) ≡ int_max (t.greatest -ℤ t.least) (u.greatest -ℤ u.least) = omega (arith, ints, clamps) in
     λ i. record { least = least i; greatest = greatest i; widest = widest i }
 
-difference_sums : (b : Bounds) (x y : ℕ) (p : Pair) → IsDifferenceIn b x y p → (cs : List ℤ) (vs : List ℕ) → IsDifference cs vs x y → AreSums b cs vs (sums_of_two p.first p.second)
+pub difference_sums : (b : Bounds) (x y : ℕ) (p : Pair) → IsDifferenceIn b x y p → (cs : List ℤ) (vs : List ℕ) → IsDifference cs vs x y → AreSums b cs vs (sums_of_two p.first p.second)
 difference_sums b x y p within cs vs (inl (e, f)) =
     let s = sums_of_two p.first p.second in
     subst (λ (c : List ℤ). AreSums b c vs s) (sym e)
@@ -130,14 +128,8 @@ module _ (quotients : QuotientOrder) (clamped : ClampOrder) (b : Bounds) (k : Ke
       (equation_quiet quotients clamped b l cs vs (sums_of_two p.first p.second) linear.same_length (difference_sums b x y p within cs vs d) limit
       (pair_equation b l limit p (subst Q (short_number limit linear.limit_in_range) q)))
 
-pub either_shape : (clamped : ClampOrder) (b : Bounds) (k : Kernel) (l m : Lit) → IsShapeOf k (Either l m) → is_either_quiet l m b ≡ true → All (Keeps b) (tells k b)
+pub either_shape : (b : Bounds) (k : Kernel) (l m : Lit) → IsShapeOf k (Either l m) → is_out l b ≡ false → is_out m b ≡ false → All (Keeps b) (tells k b)
 unfolding IsShapeOf tells
-either_shape clamped b k l m e t =
+either_shape b k l m e f g =
     let lits : List Lit = l ∷ m ∷ [] in
-    subst (λ (j : Kernel). All (Keeps b) (tells j b)) (sym e)
-    (by_bool (is_sure l b) (λ s. sure_quiet clamped b lits 0 l (omega arith) s)
-    (λ f. by_bool (is_sure m b) (λ s. sure_quiet clamped b lits 1 l (omega arith) s)
-    (λ g.
-    let rest : (not (is_out l b) && not (is_out m b)) ≡ true = (λ i. sym f i || sym g i || (not (is_out l b) && not (is_out m b))) ∙ t in
-    let left = and_parts (not (is_out l b)) (not (is_out m b)) rest in
-    two_quiet b lits 0 1 l (omega arith) (omega arith) (not_true (is_out l b) left.0) (not_true (is_out m b) left.1))))
+    subst (λ (j : Kernel). All (Keeps b) (tells j b)) (sym e) (two_quiet b lits 0 1 l (omega arith) (omega arith) f g)

@@ -38,7 +38,7 @@ pub none_told : (b : Bounds) (ts : List Term) → flat_map (λ (t : Term). narro
 none_told b [] = refl
 none_told b (t ∷ ts) = none_told b ts
 
-sure_not_out : (clamped : ClampOrder) (b : Bounds) (l : Lit) → is_sure l b ≡ true → is_out l b ≡ false
+pub sure_not_out : (clamped : ClampOrder) (b : Bounds) (l : Lit) → is_sure l b ≡ true → is_out l b ≡ false
 sure_not_out clamped b l e = by_bool (is_out l b) (λ o. let f = not_sure clamped b l o in absurd (cc)) (λ f. f)
 
 -- the variable of a literal's tells

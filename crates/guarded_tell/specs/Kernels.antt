@@ -8,16 +8,16 @@ use Rattle.guarded_tell.specs.declared.kernel.Kernel.TheVariants.{Le, Eq, Times,
 use Rattle.guarded_tell.specs.Words.{Keeps, IsProperIn, AreVariables}
 use Rattle.guarded_tell.specs.Linear.{at_most_tells, IsAtMost, IsLinear}
 use Rattle.guarded_tell.specs.Equality.{eq_tells, IsEquation}
-use Rattle.guarded_tell.specs.Times.{times_tells, IsProduct}
-use Rattle.guarded_tell.specs.Division.{div_tells, IsQuotient}
-use Rattle.guarded_tell.specs.Remainder.{mod_tells, IsRemainder}
-use Rattle.guarded_tell.specs.Absolute.{abs_tells, IsAbsolute}
-use Rattle.guarded_tell.specs.Extremes.{member_limit}
-use Rattle.guarded_tell.specs.Maximum.{max_tells, IsGreatestOf}
-use Rattle.guarded_tell.specs.Minimum.{min_tells, IsLeastOf}
+use Rattle.arithmetic_tells.specs.Times.{times_tells, IsProduct}
+use Rattle.arithmetic_tells.specs.Division.{div_tells, IsQuotient}
+use Rattle.arithmetic_tells.specs.Remainder.{mod_tells, IsRemainder}
+use Rattle.arithmetic_tells.specs.Absolute.{abs_tells, IsAbsolute}
+use Rattle.extreme_tells.specs.Extremes.{member_limit}
+use Rattle.extreme_tells.specs.Maximum.{max_tells, IsGreatestOf}
+use Rattle.extreme_tells.specs.Minimum.{min_tells, IsLeastOf}
 use Rattle.guarded_tell.specs.Clause.{clause_vars, clause_tells, IsClause, IsShortClause}
-use Rattle.guarded_tell.specs.Element.{element_tells, IsElement}
-use Rattle.guarded_tell.specs.InSet.{in_set_tells, IsInSet, IsSet}
+use Rattle.element_tells.specs.Element.{element_tells, IsElement}
+use Rattle.set_tells.specs.InSet.{in_set_tells, IsInSet, IsSet}
 use Rattle.global_tells.specs.Ranges.{place_limit}
 use Rattle.global_tells.specs.AllDifferent.{all_different_tells, AreAllDifferent}
 use Rattle.global_tells.specs.Cumulative.{tasks_of, cumulative_tells, IsCumulative, AreTasks}

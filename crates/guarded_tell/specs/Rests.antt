@@ -1,5 +1,5 @@
 -- How long a kernel needs no visit.
-use Rattle.std.specs.Prelude.{ℕ, ℤ, ◌≡◌, ◌⊎◌, ◌+ℤ◌, ◌≤ℤ◌, ◌<ℤ◌, ◌<◌, true, List, length, slice_index_or}
+use Rattle.std.specs.Prelude.{ℕ, ℤ, ◌≡◌, ◌⊎◌, ◌+ℤ◌, ◌≤ℤ◌, ◌<ℤ◌, ◌<◌, true, false, List, length, slice_index_or}
 use Rattle.std.specs.List.{All}
 use Rattle.interval.specs.Boxes.{Bounds, low_of, high_of, IsInside}
 use Rattle.guarded_tell.specs.declared.kernel.Kernel.{Kernel}
@@ -7,8 +7,9 @@ use Rattle.guarded_tell.specs.declared.resting.Rest.{Rest}
 use Rattle.guarded_tell.specs.declared.resting.Rest.TheVariants.{Awake, UntilFixed, ForGood}
 use Rattle.tells.specs.declared.tell.Lit.{Lit}
 use Rattle.guarded_tell.specs.declared.pairs.Pair.{Pair}
-use Rattle.guarded_tell.specs.Words.{IsProperIn, is_sure, is_out}
-use Rattle.guarded_tell.specs.Kernels.{vars_of, IsClosedUnder}
+use Rattle.guarded_tell.specs.Words.{Keeps, IsProperIn, is_sure, is_out}
+use Rattle.guarded_tell.specs.Short.{AreTwoOpen, IsPairAtMostQuiet, IsPairEquationQuiet}
+use Rattle.guarded_tell.specs.Kernels.{vars_of, tells, IsClosedUnder}
 
 -- the variable has one number left
 abbrev pub IsFixedAt : Bounds → ℕ → Type 0
@@ -32,6 +33,11 @@ IsRest k b Awake = Unit {0}
 IsRest k b UntilFixed = IsQuietUntilFixed k b
 IsRest k b ForGood = IsEntailed k b
 
+-- the kernel narrows nothing of the box, and rests so long from there
+pub record IsQuietFor (k : Kernel) (b : Bounds) (r : Rest) : Type 0 where
+  pub kept : All (Keeps b) (tells k b)
+  pub rest : IsRest k b r
+
 -- ---- what is seen of the sum of two terms
 
 -- whatever their numbers become, the literal stays as it is, and so does whether the sum is at most the limit
@@ -52,3 +58,35 @@ IsOpenUnequal b l p = (is_out l b ≡ true) × (p.first.least <ℤ p.first.great
 -- the literal at a place is sure
 abbrev pub IsSureAt : List Lit → ℕ → Bounds → Type 0
 IsSureAt lits place b = (place < length lits) × ((d : Lit) → is_sure (slice_index_or lits place d) b ≡ true)
+
+-- ---- by what is seen that a kernel narrows nothing, and rests so long
+
+-- an inequality of two terms
+abbrev pub IsAtMostFor : Bounds → Lit → ℤ → Pair → Rest → Type 0
+IsAtMostFor b l limit p Awake = IsPairAtMostQuiet b l limit p
+IsAtMostFor b l limit p UntilFixed = ⊥
+IsAtMostFor b l limit p ForGood = IsAtMostSettled b l limit p
+
+-- an equation of two terms
+abbrev pub IsSameFor : Bounds → Lit → ℤ → Pair → Rest → Type 0
+IsSameFor b l limit p Awake = IsPairEquationQuiet b l limit p
+IsSameFor b l limit p UntilFixed = IsOpenUnequal b l p
+IsSameFor b l limit p ForGood = IsNeverSame b l limit p
+
+-- a clause of two literals
+abbrev pub IsEitherFor : Lit → Lit → Bounds → Rest → Type 0
+IsEitherFor l m b Awake = (is_out l b ≡ false) × (is_out m b ≡ false)
+IsEitherFor l m b UntilFixed = ⊥
+IsEitherFor l m b ForGood = (is_sure l b ≡ true) ⊎ (is_sure m b ≡ true)
+
+-- ---- by places of a list
+
+-- a clause rests so long, by the literal at a place
+abbrev pub IsClauseFor : List Lit → ℕ → Bounds → Rest → Type 0
+IsClauseFor lits place b Awake = Unit {0}
+IsClauseFor lits place b UntilFixed = ⊥
+IsClauseFor lits place b ForGood = IsSureAt lits place b
+
+-- the sum must not be the limit, and two terms aren't fixed
+abbrev pub IsOpenSum : Bounds → Lit → List ℤ → List ℕ → Type 0
+IsOpenSum b l coeffs vars = (is_out l b ≡ true) × AreTwoOpen b coeffs vars

@@ -1,7 +1,7 @@
 -- Shapes: a kernel of two variables or of two literals as one record, without its lists.
-use Rattle.std.specs.Prelude.{◌≡◌, ◌⊎◌, ℕ, ℤ, pos, negsuc, Bool, not, ◌&&◌, ◌||◌, List, [], ◌∷◌, length, slice_index_or, ◌<◌}
+use Rattle.std.specs.Prelude.{◌≡◌, ◌⊎◌, ℕ, ℤ, pos, negsuc, List, [], ◌∷◌, length, slice_index_or, ◌<◌}
 use Rattle.interval.specs.Boxes.{Bounds}
-use Rattle.guarded_tell.specs.Words.{Lit, is_sure, is_out}
+use Rattle.guarded_tell.specs.Words.{Lit}
 use Rattle.guarded_tell.specs.Short.{IsTermOf}
 use Rattle.guarded_tell.specs.Slight.{AreSlight}
 use Rattle.guarded_tell.specs.declared.pairs.Pair.{Pair}
@@ -44,7 +44,3 @@ pub record AreShapesOf (kernels : List Kernel) (shapes : List Shape) : Type 0 wh
 pub record IsDifferenceIn (b : Bounds) (x y : ℕ) (p : Pair) : Type 0 where
   pub first : IsTermOf b (pos 1) x p.first
   pub second : IsTermOf b (negsuc 0) y p.second
-
--- one of the literals is sure, or neither is out
-abbrev pub is_either_quiet : Lit → Lit → Bounds → Bool
-is_either_quiet l m b = is_sure l b || is_sure m b || (not (is_out l b) && not (is_out m b))

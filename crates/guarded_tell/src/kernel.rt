@@ -124,7 +124,7 @@ impl Kernel {
     ghost use Rattle.guarded_tell.specs.Kernels.{vars_of, HasNumbers};
 
     /// How many variables it names, with repeats.
-    #[tactic(auto, unfolding(crate::specs::Kernels::vars_of, crate::specs::Kernels::HasNumbers, crate::specs::Linear::term_limit, crate::specs::Extremes::member_limit))]
+    #[tactic(auto, unfolding(crate::specs::Kernels::vars_of, crate::specs::Kernels::HasNumbers, crate::specs::Linear::term_limit, extreme_tells::specs::Extremes::member_limit))]
     pub fn var_count(&self) -> usize
         requires { HasNumbers self.now }
         ensures { result ≡ length (vars_of self.now) }

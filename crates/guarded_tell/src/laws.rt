@@ -10,12 +10,26 @@ ghost use Rattle.guarded_tell.specs.Words.{Keeps, IsProperIn, IsInsideIn, AgreeI
 ghost use Rattle.guarded_tell.specs.Kernels.{vars_of, tells, Holds, IsKernel, IsClosedUnder};
 ghost use Rattle.guarded_tell.specs.Narrowing.{narrows};
 
+use arithmetic_tells::{
+    law_absolute_local, law_absolute_monotone, law_absolute_place, law_absolute_point,
+    law_product_local, law_product_monotone, law_product_place, law_product_point,
+    law_quotient_local, law_quotient_monotone, law_quotient_place, law_quotient_point,
+    law_remainder_local, law_remainder_monotone, law_remainder_place, law_remainder_point,
+};
+use element_tells::{
+    law_element_local, law_element_monotone, law_element_place, law_element_point,
+};
+use extreme_tells::{
+    law_maximum_local, law_maximum_monotone, law_maximum_place, law_maximum_point,
+    law_minimum_local, law_minimum_monotone, law_minimum_place, law_minimum_point,
+};
 use global_tells::{
     law_all_different_local, law_all_different_monotone, law_all_different_place,
     law_all_different_point, law_cumulative_local, law_cumulative_monotone, law_cumulative_place,
     law_cumulative_point,
 };
-use interval::{law_clamp_order, law_corner_order, law_quotient_order};
+use interval::{law_clamp_order, law_quotient_order};
+use set_tells::{law_in_set_local, law_in_set_monotone, law_in_set_place, law_in_set_point};
 
 /// No tell of a kernel on a box narrows a box that is closed under that kernel and, in the kernel's variables, inside it.
 pub fn law_monotone()
@@ -25,7 +39,14 @@ pub fn law_monotone()
 {
     law_quotient_order();
     law_clamp_order();
-    law_corner_order();
+    law_product_monotone();
+    law_quotient_monotone();
+    law_remainder_monotone();
+    law_absolute_monotone();
+    law_maximum_monotone();
+    law_minimum_monotone();
+    law_element_monotone();
+    law_in_set_monotone();
     law_all_different_monotone();
     law_cumulative_monotone();
 }
@@ -38,6 +59,14 @@ pub fn law_point()
 {
     law_quotient_order();
     law_clamp_order();
+    law_product_point();
+    law_quotient_point();
+    law_remainder_point();
+    law_absolute_point();
+    law_maximum_point();
+    law_minimum_point();
+    law_element_point();
+    law_in_set_point();
     law_all_different_point();
     law_cumulative_point();
 }
@@ -48,6 +77,14 @@ pub fn law_tell_place()
         → All (λ t. Contains (vars_of k) t.var × (t.var < length b) × IsBound t.bound) (tells k b) }
 {
     law_clamp_order();
+    law_product_place();
+    law_quotient_place();
+    law_remainder_place();
+    law_absolute_place();
+    law_maximum_place();
+    law_minimum_place();
+    law_element_place();
+    law_in_set_place();
     law_all_different_place();
     law_cumulative_place();
 }
@@ -57,6 +94,14 @@ pub fn law_local()
     ensures tells { (k : Kernel) (b c : Bounds) → AgreeIn (vars_of k) b c → tells k b ≡ tells k c }
     ensures relation { (k : Kernel) (f g : List ℤ) → SameValuesIn (vars_of k) f g → Holds k f → Holds k g }
 {
+    law_product_local();
+    law_quotient_local();
+    law_remainder_local();
+    law_absolute_local();
+    law_maximum_local();
+    law_minimum_local();
+    law_element_local();
+    law_in_set_local();
     law_all_different_local();
     law_cumulative_local();
 }

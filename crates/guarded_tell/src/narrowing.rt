@@ -10,20 +10,68 @@ ghost use Rattle.guarded_tell.specs.Kernels.{vars_of, tells, IsKernel};
 ghost use Rattle.guarded_tell.specs.Shapes.{IsShapeOf, IsSlightSum};
 ghost use Rattle.guarded_tell.specs.Narrowing.{narrowing, narrowing_tells};
 ghost use Rattle.guarded_tell.specs.Narrowing as words;
+ghost use Rattle.guarded_tell.specs.Rests.{IsRest};
 
-use crate::pairs::{pair_leaves_room, pair_leaves_room_on_both_sides};
-use crate::products::is_product_quiet;
-use crate::quiet::{Hint, is_clause_quiet};
-use crate::shape::{Shape, difference, is_either_quiet};
+use crate::differences::{give_either, is_apart_given};
+use crate::quiet::Hint;
+use crate::resting::{Rest, listed_rest, seen_rest};
+use crate::rooms::{is_open_given, is_sure_given};
+use crate::shape::Shape;
 use crate::short_sum::{narrow_at_most, narrow_equation};
-use crate::slight_sum::is_slight_given;
+use crate::slight_sum::give_slight_sum;
 use crate::{Hear, Kernel, Side, Tell, law_tell_place, visit_tells};
+use arithmetic_tells::is_product_quiet;
 use global_tells::{is_all_different_quiet, is_cumulative_quiet};
 use interval::{BoxOf, law_clamp_order, law_quotient_order};
 
-/// Gives the tells of the kernel that narrow the box to `h`, each once and in order. It takes no memory.
-#[tactic(auto, unfolding(crate::specs::Shapes::IsShapeOf))]
-pub fn visit_narrowing<H: Hear>(k: &Kernel, shape: &Shape, b: &BoxOf, hint: &mut Hint, h: &mut H)
+/// Gives the tells of the kernel that narrow the box to `h`, each once and in order, and answers how long the kernel needs
+/// no visit where there are none. It takes no memory.
+pub fn visit_narrowing<H: Hear>(
+    k: &Kernel,
+    shape: &Shape,
+    b: &BoxOf,
+    hint: &mut Hint,
+    h: &mut H,
+) -> Rest
+    requires kernel { IsKernel (length b.now) k.now }
+    requires shape { IsShapeOf k.now shape.now }
+    requires proper { IsProperIn (vars_of k.now) b.now }
+    requires hearer { MayHearAll H.can_hear H.hears h.old (narrowing_tells k.now b.now) }
+    ensures heard { HearsAll H.hears h.old (narrowing_tells k.now b.now) h.new }
+    ensures rest { narrowing_tells k.now b.now ≡ [] → IsRest k.now b.now result }
+{
+    match seen_rest(k, shape, b) {
+        Some(rest) => rest,
+        None => visit_unseen(k, shape, b, hint, h),
+    }
+}
+
+/// The same without a look at what `seen_rest` sees: for a kernel of which it says nothing.
+pub fn visit_unseen<H: Hear>(
+    k: &Kernel,
+    shape: &Shape,
+    b: &BoxOf,
+    hint: &mut Hint,
+    h: &mut H,
+) -> Rest
+    requires kernel { IsKernel (length b.now) k.now }
+    requires shape { IsShapeOf k.now shape.now }
+    requires proper { IsProperIn (vars_of k.now) b.now }
+    requires hearer { MayHearAll H.can_hear H.hears h.old (narrowing_tells k.now b.now) }
+    ensures heard { HearsAll H.hears h.old (narrowing_tells k.now b.now) h.new }
+    ensures rest { IsRest k.now b.now result }
+{
+    match shape {
+        Shape::Slight | Shape::Other => visit_listed(k, shape, b, hint, h),
+        _ => {
+            give_short(k, shape, b, h);
+            Rest::Awake
+        }
+    }
+}
+
+/// Gives the tells of a difference or of a clause of two literals.
+fn give_short<H: Hear>(k: &Kernel, shape: &Shape, b: &BoxOf, h: &mut H)
     requires kernel { IsKernel (length b.now) k.now }
     requires shape { IsShapeOf k.now shape.now }
     requires proper { IsProperIn (vars_of k.now) b.now }
@@ -31,73 +79,94 @@ pub fn visit_narrowing<H: Hear>(k: &Kernel, shape: &Shape, b: &BoxOf, hint: &mut
     ensures { HearsAll H.hears h.old (narrowing_tells k.now b.now) h.new }
 {
     match shape {
-        Shape::Slight => visit_slight(k, b, hint, h),
-        _ => visit_by_shape(k, shape, b, hint, h),
+        Shape::Either { first, second } => give_either(*first, *second, b, h),
+        _ => give_difference(k, shape, b, h),
+    }
+}
+
+/// The same of a difference.
+fn give_difference<H: Hear>(k: &Kernel, shape: &Shape, b: &BoxOf, h: &mut H)
+    requires kernel { IsKernel (length b.now) k.now }
+    requires shape { IsShapeOf k.now shape.now }
+    requires proper { IsProperIn (vars_of k.now) b.now }
+    requires hearer { MayHearAll H.can_hear H.hears h.old (narrowing_tells k.now b.now) }
+    ensures { HearsAll H.hears h.old (narrowing_tells k.now b.now) h.new }
+{
+    if !is_apart_given(k, shape, b, h)
+        && !is_open_given(k, shape, b, h)
+        && !is_sure_given(k, shape, b, h)
+    {
+        give_tells(k, b, h);
+    }
+}
+
+/// The same of a kernel that is no difference and no clause of two literals.
+fn visit_listed<H: Hear>(k: &Kernel, shape: &Shape, b: &BoxOf, hint: &mut Hint, h: &mut H) -> Rest
+    requires kernel { IsKernel (length b.now) k.now }
+    requires shape { IsShapeOf k.now shape.now }
+    requires proper { IsProperIn (vars_of k.now) b.now }
+    requires hearer { MayHearAll H.can_hear H.hears h.old (narrowing_tells k.now b.now) }
+    ensures heard { HearsAll H.hears h.old (narrowing_tells k.now b.now) h.new }
+    ensures rest { IsRest k.now b.now result }
+{
+    match listed_rest(k, b, hint) {
+        Some(rest) => rest,
+        None => give_listed(k, shape, b, h),
+    }
+}
+
+/// Gives the tells of a kernel that is no difference and no clause of two literals.
+#[tactic(auto, unfolding(crate::specs::Shapes::IsShapeOf))]
+fn give_listed<H: Hear>(k: &Kernel, shape: &Shape, b: &BoxOf, h: &mut H) -> Rest
+    requires kernel { IsKernel (length b.now) k.now }
+    requires shape { IsShapeOf k.now shape.now }
+    requires proper { IsProperIn (vars_of k.now) b.now }
+    requires hearer { MayHearAll H.can_hear H.hears h.old (narrowing_tells k.now b.now) }
+    ensures heard { HearsAll H.hears h.old (narrowing_tells k.now b.now) h.new }
+    ensures rest { IsRest k.now b.now result }
+{
+    match shape {
+        Shape::Slight => give_slight(k, b, h),
+        _ => {
+            give_tells(k, b, h);
+            Rest::Awake
+        }
     }
 }
 
 /// The same of a sum with slight coefficients.
-fn visit_slight<H: Hear>(k: &Kernel, b: &BoxOf, hint: &mut Hint, h: &mut H)
+fn give_slight<H: Hear>(k: &Kernel, b: &BoxOf, h: &mut H) -> Rest
     requires kernel { IsKernel (length b.now) k.now }
     requires slight { IsSlightSum k.now }
     requires proper { IsProperIn (vars_of k.now) b.now }
     requires hearer { MayHearAll H.can_hear H.hears h.old (narrowing_tells k.now b.now) }
-    ensures { HearsAll H.hears h.old (narrowing_tells k.now b.now) h.new }
+    ensures heard { HearsAll H.hears h.old (narrowing_tells k.now b.now) h.new }
+    ensures rest { IsRest k.now b.now result }
 {
-    if !is_slight_given(k, b, hint, h) {
-        pass_tells(k, b, h);
-    }
-}
-
-/// The same of a kernel whose shape may say that it narrows nothing.
-fn visit_by_shape<H: Hear>(k: &Kernel, shape: &Shape, b: &BoxOf, hint: &mut Hint, h: &mut H)
-    requires kernel { IsKernel (length b.now) k.now }
-    requires shape { IsShapeOf k.now shape.now }
-    requires proper { IsProperIn (vars_of k.now) b.now }
-    requires hearer { MayHearAll H.can_hear H.hears h.old (narrowing_tells k.now b.now) }
-    ensures { HearsAll H.hears h.old (narrowing_tells k.now b.now) h.new }
-{
-    if !is_quiet_by_shape(k, shape, b) {
-        give_tells(k, b, hint, h);
-    }
-}
-
-/// Whether the kernel is seen to narrow nothing, by its shape alone.
-fn is_quiet_by_shape(k: &Kernel, shape: &Shape, b: &BoxOf) -> bool
-    requires kernel { IsKernel (length b.now) k.now }
-    requires shape { IsShapeOf k.now shape.now }
-    requires proper { IsProperIn (vars_of k.now) b.now }
-    ensures { OnTrue result (All (Keeps b.now) (tells k.now b.now)) }
-{
-    law_quotient_order();
-    law_clamp_order();
-    match shape {
-        Shape::AtMost { lit, x, y, limit } => {
-            pair_leaves_room(*lit, *limit, difference(*x, *y, b), b)
+    match give_slight_sum(k, b, h) {
+        Some(rest) => rest,
+        None => {
+            pass_tells(k, b, h);
+            Rest::Awake
         }
-        Shape::Same { lit, x, y, limit } => {
-            pair_leaves_room_on_both_sides(*lit, *limit, difference(*x, *y, b), b)
-        }
-        Shape::Either { first, second } => is_either_quiet(*first, *second, b),
-        Shape::Slight | Shape::Other => false,
     }
 }
 
-/// The same as `visit_narrowing`, without a look at the shape.
-fn give_tells<H: Hear>(k: &Kernel, b: &BoxOf, hint: &mut Hint, h: &mut H)
+/// The same of any kernel.
+fn give_tells<H: Hear>(k: &Kernel, b: &BoxOf, h: &mut H)
     requires kernel { IsKernel (length b.now) k.now }
     requires proper { IsProperIn (vars_of k.now) b.now }
     requires hearer { MayHearAll H.can_hear H.hears h.old (narrowing_tells k.now b.now) }
     ensures { HearsAll H.hears h.old (narrowing_tells k.now b.now) h.new }
 {
-    if !is_given(k, b, hint, h) {
+    if !is_given(k, b, h) {
         pass_tells(k, b, h);
     }
 }
 
 /// Gives the tells of a sum in 64 bits, and sees that other kernels narrow nothing. Where it doesn't, it gives none.
 #[tactic(auto, unfolding(crate::specs::Kernels::tells, crate::specs::Kernels::vars_of, crate::specs::Kernels::HasNumbers))]
-fn is_given<H: Hear>(k: &Kernel, b: &BoxOf, hint: &mut Hint, h: &mut H) -> bool
+fn is_given<H: Hear>(k: &Kernel, b: &BoxOf, h: &mut H) -> bool
     requires kernel { IsKernel (length b.now) k.now }
     requires proper { IsProperIn (vars_of k.now) b.now }
     requires hearer { MayHearAll H.can_hear H.hears h.old (narrowing_tells k.now b.now) }
@@ -116,20 +185,19 @@ fn is_given<H: Hear>(k: &Kernel, b: &BoxOf, hint: &mut Hint, h: &mut H) -> bool
             coeffs,
             vars,
             limit,
-        } => narrow_equation(*lit, coeffs, vars, *limit, b, hint, h),
-        _ => is_quiet(k, b, hint),
+        } => narrow_equation(*lit, coeffs, vars, *limit, b, h),
+        _ => is_quiet(k, b),
     }
 }
 
 /// Whether the kernel is seen to narrow nothing, without its tells being formed.
 #[tactic(auto, unfolding(crate::specs::Kernels::tells, crate::specs::Kernels::vars_of, crate::specs::Kernels::HasNumbers))]
-fn is_quiet(k: &Kernel, b: &BoxOf, hint: &mut Hint) -> bool
+fn is_quiet(k: &Kernel, b: &BoxOf) -> bool
     requires kernel { IsKernel (length b.now) k.now }
     requires proper { IsProperIn (vars_of k.now) b.now }
     ensures { OnTrue result (All (Keeps b.now) (tells k.now b.now)) }
 {
     match k {
-        Kernel::Clause { lits } => is_clause_quiet(lits, b, hint),
         Kernel::Times { x, y, z } => is_product_quiet(*x, *y, *z, b),
         Kernel::AllDiff { xs } => is_all_different_quiet(xs.as_slice(), b),
         Kernel::Cumulative {

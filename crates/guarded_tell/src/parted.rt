@@ -14,7 +14,7 @@ use crate::equality::{
     visit_eq,
 };
 use crate::parted_quiet::is_parted_equation_quiet;
-use crate::quiet::{Hint, is_equation_quiet};
+use crate::quiet::is_equation_quiet;
 use crate::terms::{Range, sum_range, sum_with, term_range};
 use crate::{Extended, Hear, Lit};
 use interval::BoxOf;
@@ -251,7 +251,6 @@ pub fn is_whole_equation_quiet(
     vars: &Extended<u32>,
     limit: i64,
     b: &BoxOf,
-    hint: &mut Hint,
 ) -> bool
     requires linear { IsLinear coeffs.now vars.now limit }
     requires variables { AreVariables (length b.now) (lit.var ∷ vars.now) }
@@ -259,7 +258,7 @@ pub fn is_whole_equation_quiet(
     ensures { OnTrue result (All (Keeps b.now) (eq_tells lit coeffs.now vars.now limit b.now)) }
 {
     if let (Some(coeffs), Some(vars)) = (coeffs.as_slice(), vars.as_slice()) {
-        is_equation_quiet(lit, coeffs, vars, limit, b, hint)
+        is_equation_quiet(lit, coeffs, vars, limit, b)
     } else if let (Some((coeffs, coeff)), Some((vars, var))) = (
         coeffs.split_last(),
         vars.split_last(),

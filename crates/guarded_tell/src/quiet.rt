@@ -53,15 +53,8 @@ pub fn leaves_room(lit: Lit, limit: i64, sums: Sums, b: &BoxOf) -> bool
     }
 }
 
-/// Whether the equation is seen to narrow nothing. Where its numbers are large, it mostly isn't seen.
-pub fn is_equation_quiet(
-    lit: Lit,
-    coeffs: &[i64],
-    vars: &[u32],
-    limit: i64,
-    b: &BoxOf,
-    hint: &mut Hint,
-) -> bool
+/// Whether the equation is seen to narrow nothing. Where its numbers are large, it isn't seen.
+pub fn is_equation_quiet(lit: Lit, coeffs: &[i64], vars: &[u32], limit: i64, b: &BoxOf) -> bool
     requires linear { IsLinear coeffs.now vars.now limit }
     requires variables { AreVariables (length b.now) (lit.var ∷ vars.now) }
     requires proper { IsProperIn (lit.var ∷ vars.now) b.now }
@@ -69,37 +62,13 @@ pub fn is_equation_quiet(
 {
     if coeffs.len() == 2 {
         is_pair_equation_quiet(lit, coeffs, vars, limit, b)
-    } else if is_open_inequation(lit, coeffs, vars, limit, b, hint) {
-        true
     } else {
         is_sum_equation_quiet(lit, coeffs, vars, limit, b)
     }
 }
 
-/// Whether the equation must not hold and two of its terms aren't fixed, whatever its numbers are.
-fn is_open_inequation(
-    lit: Lit,
-    coeffs: &[i64],
-    vars: &[u32],
-    limit: i64,
-    b: &BoxOf,
-    hint: &mut Hint,
-) -> bool
-    requires linear { IsLinear coeffs.now vars.now limit }
-    requires variables { AreVariables (length b.now) (lit.var ∷ vars.now) }
-    requires proper { IsProperIn (lit.var ∷ vars.now) b.now }
-    ensures { OnTrue result (All (Keeps b.now) (eq_tells lit coeffs.now vars.now limit b.now)) }
-{
-    law_clamp_order();
-    if stands_false(lit, b) {
-        are_two_open(coeffs, vars, b, hint)
-    } else {
-        false
-    }
-}
-
 /// Whether two terms aren't fixed. Those that the hint remembers are looked at first, and then what is found.
-fn are_two_open(coeffs: &[i64], vars: &[u32], b: &BoxOf, hint: &mut Hint) -> bool
+pub fn are_two_open(coeffs: &[i64], vars: &[u32], b: &BoxOf, hint: &mut Hint) -> bool
     requires linear { IsLinear coeffs.now vars.now (pos 0) }
     requires variables { AreVariables (length b.now) vars.now }
     ensures { OnTrue result (AreTwoOpen b.now coeffs.now vars.now) }

@@ -1,6 +1,6 @@
 //! How long a kernel needs no visit.
 
-ghost use Rattle.std.specs.Prelude.{◌≡◌, ◌<◌, ◌≤ℤ◌, pos, true, ◌∷◌, length};
+ghost use Rattle.std.specs.Prelude.{◌≡◌, ◌<◌, ◌≤ℤ◌, pos, true, ◌∷◌, length, MatchOption};
 ghost use Rattle.std.specs.Bool.{OnTrue};
 ghost use Rattle.interval.specs.Limits.{IsNumber};
 ghost use Rattle.interval.specs.Boxes.{low_of, high_of};
@@ -8,15 +8,15 @@ ghost use Rattle.guarded_tell.specs.Words.{AreVariables, IsProperIn};
 ghost use Rattle.guarded_tell.specs.Words as words;
 ghost use Rattle.guarded_tell.specs.Clause.{AreLiterals};
 ghost use Rattle.guarded_tell.specs.Linear.{IsLinear};
-ghost use Rattle.guarded_tell.specs.Short.{AreTwoOpen, IsSmallTerm};
+ghost use Rattle.guarded_tell.specs.Short.{IsSmallTerm};
 ghost use Rattle.guarded_tell.specs.Kernels.{vars_of, IsKernel};
 ghost use Rattle.guarded_tell.specs.Shapes.{IsShapeOf};
-ghost use Rattle.guarded_tell.specs.Rests.{IsAtMostSettled, IsEntailed, IsNeverSame, IsOpenUnequal, IsQuietUntilFixed, IsRest, IsSureAt};
+ghost use Rattle.guarded_tell.specs.Rests.{IsAtMostFor, IsAtMostSettled, IsClauseFor, IsEitherFor, IsOpenSum, IsNeverSame, IsOpenUnequal, IsQuietFor, IsRest, IsSameFor};
 
-use crate::pairs::{Pair, sum};
-use crate::quiet::{Hint, are_open_at};
+use crate::pairs::{Pair, pair_leaves_room, pair_leaves_room_on_both_sides, sum};
+use crate::quiet::{Hint, are_open_at, are_two_open, is_clause_quiet};
 use crate::shape::{Shape, difference};
-use crate::{Kernel, Lit, Literals};
+use crate::{Extended, Kernel, Lit, Literals};
 use interval::{BoxOf, law_clamp_order, law_quotient_order};
 use tells::{is_sure, stands_false, stands_true};
 
@@ -38,98 +38,187 @@ pub fn rest_of(k: &Kernel, shape: &Shape, b: &BoxOf, hint: Hint) -> Rest
     requires proper { IsProperIn (vars_of k.now) b.now }
     ensures { IsRest k.now b.now result }
 {
-    if is_entailed(k, shape, b, hint) {
-        Rest::ForGood
-    } else if is_quiet_until_fixed(k, shape, b, hint) {
-        Rest::UntilFixed
+    match seen_rest(k, shape, b) {
+        Some(rest) => rest,
+        None => hinted_rest(k, b, hint),
+    }
+}
+
+/// How long the kernel needs no visit, where its shape alone says that it narrows nothing.
+pub fn seen_rest(k: &Kernel, shape: &Shape, b: &BoxOf) -> Option<Rest>
+    requires kernel { IsKernel (length b.now) k.now }
+    requires shape { IsShapeOf k.now shape.now }
+    requires proper { IsProperIn (vars_of k.now) b.now }
+    ensures { MatchOption result (Unit {0}) (IsQuietFor k.now b.now) }
+{
+    law_quotient_order();
+    law_clamp_order();
+    match shape {
+        Shape::AtMost { lit, x, y, limit } => at_most_rest(*lit, *limit, difference(*x, *y, b), b),
+        Shape::Same { lit, x, y, limit } => same_rest(*lit, *limit, difference(*x, *y, b), b),
+        Shape::Either { first, second } => either_rest(*first, *second, b),
+        Shape::Slight | Shape::Other => None,
+    }
+}
+
+/// The same of a sum of two terms that is at most the limit where the literal is true.
+fn at_most_rest(lit: Lit, limit: i64, pair: Pair, b: &BoxOf) -> Option<Rest>
+    requires variable { lit.var < length b.now }
+    requires proper { low_of b.now lit.var ≤ℤ high_of b.now lit.var }
+    requires first { IsSmallTerm pair.first }
+    requires second { IsSmallTerm pair.second }
+    ensures { MatchOption result (Unit {0}) (IsAtMostFor b.now lit limit pair) }
+{
+    if is_at_most_settled(lit, limit, pair, b) {
+        Some(Rest::ForGood)
+    } else if pair_leaves_room(lit, limit, pair, b) {
+        Some(Rest::Awake)
     } else {
-        Rest::Awake
+        None
     }
 }
 
-/// Whether the kernel is seen to narrow no box inside this one.
-#[tactic(auto, unfolding(crate::specs::Kernels::vars_of, crate::specs::Kernels::HasNumbers))]
-fn is_entailed(k: &Kernel, shape: &Shape, b: &BoxOf, hint: Hint) -> bool
-    requires kernel { IsKernel (length b.now) k.now }
-    requires shape { IsShapeOf k.now shape.now }
-    requires proper { IsProperIn (vars_of k.now) b.now }
-    ensures { OnTrue result (IsEntailed k.now b.now) }
+/// The same of a sum of two terms that is the limit where the literal is true.
+fn same_rest(lit: Lit, limit: i64, pair: Pair, b: &BoxOf) -> Option<Rest>
+    requires variable { lit.var < length b.now }
+    requires proper { low_of b.now lit.var ≤ℤ high_of b.now lit.var }
+    requires first { IsSmallTerm pair.first }
+    requires second { IsSmallTerm pair.second }
+    ensures { MatchOption result (Unit {0}) (IsSameFor b.now lit limit pair) }
 {
-    law_quotient_order();
-    law_clamp_order();
-    match shape {
-        Shape::AtMost { lit, x, y, limit } => {
-            is_at_most_settled(*lit, *limit, difference(*x, *y, b), b)
-        }
-        Shape::Same { lit, x, y, limit } => {
-            is_never_same(*lit, *limit, difference(*x, *y, b), b)
-        }
-        Shape::Either { first, second } => stands_true(*first, b) || stands_true(*second, b),
-        Shape::Slight | Shape::Other => is_other_entailed(k, b, hint),
+    if is_open_unequal(lit, pair, b) {
+        Some(Rest::UntilFixed)
+    } else if is_never_same(lit, limit, pair, b) {
+        Some(Rest::ForGood)
+    } else if pair_leaves_room_on_both_sides(lit, limit, pair, b) {
+        Some(Rest::Awake)
+    } else {
+        None
     }
 }
 
-/// The same of a kernel that has no shape.
+/// The same of a clause of two literals.
+fn either_rest(first: Lit, second: Lit, b: &BoxOf) -> Option<Rest>
+    requires first { first.var < length b.now }
+    requires second { second.var < length b.now }
+    requires proper_first { low_of b.now first.var ≤ℤ high_of b.now first.var }
+    requires proper_second { low_of b.now second.var ≤ℤ high_of b.now second.var }
+    ensures { MatchOption result (Unit {0}) (IsEitherFor first second b.now) }
+{
+    if stands_true(first, b) || stands_true(second, b) {
+        Some(Rest::ForGood)
+    } else if stands_false(first, b) || stands_false(second, b) {
+        None
+    } else {
+        Some(Rest::Awake)
+    }
+}
+
+/// How long the kernel needs no visit, by the places that the hint remembers.
 #[tactic(auto, unfolding(crate::specs::Kernels::vars_of, crate::specs::Kernels::HasNumbers))]
-fn is_other_entailed(k: &Kernel, b: &BoxOf, hint: Hint) -> bool
+fn hinted_rest(k: &Kernel, b: &BoxOf, hint: Hint) -> Rest
     requires kernel { IsKernel (length b.now) k.now }
-    ensures { OnTrue result (IsEntailed k.now b.now) }
+    requires proper { IsProperIn (vars_of k.now) b.now }
+    ensures { IsRest k.now b.now result }
 {
     law_quotient_order();
     law_clamp_order();
     match k {
-        Kernel::Clause { lits } => is_sure_at(lits, hint.first as usize, b),
-        _ => false,
-    }
-}
-
-/// Whether the literal at a place is sure.
-fn is_sure_at(lits: &Literals, place: usize, b: &BoxOf) -> bool
-    requires { AreLiterals (length b.now) lits.now }
-    ensures { OnTrue result (IsSureAt lits.now place b.now) }
-{
-    place < lits.len() && is_sure(lits.at(place), b)
-}
-
-/// Whether the kernel is seen to narrow no box inside this one in which no other of its variables is fixed.
-fn is_quiet_until_fixed(k: &Kernel, shape: &Shape, b: &BoxOf, hint: Hint) -> bool
-    requires kernel { IsKernel (length b.now) k.now }
-    requires shape { IsShapeOf k.now shape.now }
-    requires proper { IsProperIn (vars_of k.now) b.now }
-    ensures { OnTrue result (IsQuietUntilFixed k.now b.now) }
-{
-    law_quotient_order();
-    law_clamp_order();
-    match shape {
-        Shape::Same { lit, x, y, .. } => is_open_unequal(*lit, difference(*x, *y, b), b),
-        Shape::Slight | Shape::Other => is_other_quiet_until_fixed(k, b, hint),
-        Shape::AtMost { .. } | Shape::Either { .. } => false,
-    }
-}
-
-/// The same of a kernel that has no shape.
-#[tactic(auto, unfolding(crate::specs::Kernels::vars_of, crate::specs::Kernels::HasNumbers))]
-fn is_other_quiet_until_fixed(k: &Kernel, b: &BoxOf, hint: Hint) -> bool
-    requires kernel { IsKernel (length b.now) k.now }
-    requires proper { IsProperIn (vars_of k.now) b.now }
-    ensures { OnTrue result (IsQuietUntilFixed k.now b.now) }
-{
-    law_quotient_order();
-    law_clamp_order();
-    match k {
+        Kernel::Clause { lits } => clause_rest(lits, hint, b),
         Kernel::Eq {
             lit,
             coeffs,
             vars,
             ..
         } => {
-            if let (Some(coeffs), Some(vars)) = (coeffs.as_slice(), vars.as_slice()) {
-                stands_false(*lit, b) && are_open_at(coeffs, vars, hint, b)
+            if is_open_at(*lit, coeffs, vars, hint, b) {
+                Rest::UntilFixed
             } else {
-                false
+                Rest::Awake
             }
         }
-        _ => false,
+        _ => Rest::Awake,
+    }
+}
+
+/// How long the kernel needs no visit, where it is a clause that is seen to narrow nothing or an equation that must not hold
+/// with two open terms. What the hint remembers is looked at first.
+#[tactic(auto, unfolding(crate::specs::Kernels::vars_of, crate::specs::Kernels::HasNumbers))]
+pub fn listed_rest(k: &Kernel, b: &BoxOf, hint: &mut Hint) -> Option<Rest>
+    requires kernel { IsKernel (length b.now) k.now }
+    requires proper { IsProperIn (vars_of k.now) b.now }
+    ensures { MatchOption result (Unit {0}) (IsQuietFor k.now b.now) }
+{
+    law_quotient_order();
+    law_clamp_order();
+    match k {
+        Kernel::Clause { lits } => {
+            if is_clause_quiet(lits, b, hint) {
+                Some(clause_rest(lits, *hint, b))
+            } else {
+                None
+            }
+        }
+        Kernel::Eq {
+            lit,
+            coeffs,
+            vars,
+            ..
+        } => {
+            if is_open_sum(*lit, coeffs, vars, b, hint) {
+                Some(Rest::UntilFixed)
+            } else {
+                None
+            }
+        }
+        _ => None,
+    }
+}
+
+/// How long a clause needs no visit: for good where the literal at the first place is sure.
+fn clause_rest(lits: &Literals, hint: Hint, b: &BoxOf) -> Rest
+    requires { AreLiterals (length b.now) lits.now }
+    ensures { IsClauseFor lits.now hint.first b.now result }
+{
+    let place = hint.first as usize;
+    if place < lits.len() && is_sure(lits.at(place), b) {
+        Rest::ForGood
+    } else {
+        Rest::Awake
+    }
+}
+
+/// Whether the equation must not hold and the terms at both places are open.
+fn is_open_at(lit: Lit, coeffs: &Extended<i64>, vars: &Extended<u32>, hint: Hint, b: &BoxOf) -> bool
+    requires linear { IsLinear coeffs.now vars.now (pos 0) }
+    requires variables { AreVariables (length b.now) (lit.var ∷ vars.now) }
+    requires proper { IsProperIn (lit.var ∷ vars.now) b.now }
+    ensures { OnTrue result (IsOpenSum b.now lit coeffs.now vars.now) }
+{
+    if let (Some(coeffs), Some(vars)) = (coeffs.as_slice(), vars.as_slice()) {
+        stands_false(lit, b) && are_open_at(coeffs, vars, hint, b)
+    } else {
+        false
+    }
+}
+
+/// Whether the equation must not hold and two of its terms are open. Those that the hint remembers are looked at first.
+fn is_open_sum(
+    lit: Lit,
+    coeffs: &Extended<i64>,
+    vars: &Extended<u32>,
+    b: &BoxOf,
+    hint: &mut Hint,
+) -> bool
+    requires linear { IsLinear coeffs.now vars.now (pos 0) }
+    requires variables { AreVariables (length b.now) (lit.var ∷ vars.now) }
+    requires proper { IsProperIn (lit.var ∷ vars.now) b.now }
+    ensures { OnTrue result (IsOpenSum b.now lit coeffs.now vars.now) }
+{
+    if let (Some(coeffs), Some(vars)) = (coeffs.as_slice(), vars.as_slice()) {
+        stands_false(lit, b) && are_two_open(coeffs, vars, b, hint)
+    } else {
+        false
     }
 }
 

@@ -5,13 +5,11 @@ ghost use Rattle.interval.specs.Boxes.{low_of, high_of};
 ghost use Rattle.guarded_tell.specs.Linear.{IsLinear};
 ghost use Rattle.guarded_tell.specs.Kernels.{HasNumbers};
 ghost use Rattle.guarded_tell.specs.Shapes.{IsShapeOf, IsDifference, IsDifferenceIn};
-ghost use Rattle.guarded_tell.specs.Shapes as words;
 
 use crate::pairs::{Pair, opposite, plain};
 use crate::slight::{are_slight, are_slight_extended};
 use crate::{Extended, Kernel, Lit, Literals};
 use interval::BoxOf;
-use tells::{stands_false, stands_true};
 
 /// A kernel of two variables or of two literals, whole, or what kind of another kernel it is.
 #[derive(Clone, Copy, PartialEq, Eq, Debug)]
@@ -167,17 +165,4 @@ pub fn difference(x: u32, y: u32, b: &BoxOf) -> Pair
         first: plain(x, b),
         second: opposite(y, b),
     }
-}
-
-/// Whether one of the literals is sure, or neither is out.
-pub fn is_either_quiet(first: Lit, second: Lit, b: &BoxOf) -> bool
-    requires first { first.var < length b.now }
-    requires second { second.var < length b.now }
-    requires proper_first { low_of b.now first.var ≤ℤ high_of b.now first.var }
-    requires proper_second { low_of b.now second.var ≤ℤ high_of b.now second.var }
-    ensures { result ≡ words.is_either_quiet first second b.now }
-{
-    stands_true(first, b)
-        || stands_true(second, b)
-        || (!stands_false(first, b) && !stands_false(second, b))
 }

@@ -17,7 +17,7 @@ ghost use Rattle.guarded_tell.specs.ShortTells as rooms;
 use crate::narrowing::tell_narrowing;
 use crate::parted::is_whole_equation_quiet;
 use crate::quiet::{
-    Hint, is_equation_quiet, is_pair_at_most_quiet, is_pair_equation_quiet, leaves_room,
+    is_equation_quiet, is_pair_at_most_quiet, is_pair_equation_quiet, leaves_room,
     leaves_room_on_both_sides,
 };
 use crate::short::{Sums, short_sums};
@@ -105,7 +105,7 @@ fn tell_at_most<H: Hear>(
 }
 
 /// Tells the literal where the sums decide the inequality.
-fn narrow_literal<H: Hear>(lit: Lit, limit: i64, sums: Sums, b: &BoxOf, h: &mut H)
+pub fn narrow_literal<H: Hear>(lit: Lit, limit: i64, sums: Sums, b: &BoxOf, h: &mut H)
     requires variable { lit.var < length b.now }
     requires hearer { MayHearAll H.can_hear H.hears h.old (narrowing b.now (literal_tells lit limit sums.least sums.greatest)) }
     ensures { HearsAll H.hears h.old (narrowing b.now (literal_tells lit limit sums.least sums.greatest)) h.new }
@@ -115,7 +115,7 @@ fn narrow_literal<H: Hear>(lit: Lit, limit: i64, sums: Sums, b: &BoxOf, h: &mut 
 }
 
 /// Gives the tell to `h` where the test holds and it narrows the box.
-fn tell_where<H: Hear>(test: bool, t: Tell, b: &BoxOf, h: &mut H)
+pub fn tell_where<H: Hear>(test: bool, t: Tell, b: &BoxOf, h: &mut H)
     requires variable { t.var < length b.now }
     requires hearer { MayHearAll H.can_hear H.hears h.old (narrowing b.now (words.when test (t ∷ []))) }
     ensures { HearsAll H.hears h.old (narrowing b.now (words.when test (t ∷ []))) h.new }
@@ -127,7 +127,7 @@ fn tell_where<H: Hear>(test: bool, t: Tell, b: &BoxOf, h: &mut H)
 
 /// The room that the sums leave to the terms of the inequality.
 #[tactic(auto, unfolding(crate::specs::ShortTells::room_at_most))]
-fn room_at_most(lit: Lit, limit: i64, sums: Sums, b: &BoxOf) -> Room
+pub fn room_at_most(lit: Lit, limit: i64, sums: Sums, b: &BoxOf) -> Room
     requires variable { lit.var < length b.now }
     requires proper { low_of b.now lit.var ≤ℤ high_of b.now lit.var }
     requires limit { IsNumber limit }
@@ -162,7 +162,6 @@ pub fn narrow_equation<H: Hear>(
     vars: &Extended<u32>,
     limit: i64,
     b: &BoxOf,
-    hint: &mut Hint,
     h: &mut H,
 ) -> bool
     requires linear { IsLinear coeffs.now vars.now limit }
@@ -173,9 +172,9 @@ pub fn narrow_equation<H: Hear>(
     ensures left { OnFalse result (h.new ≡ h.old) }
 {
     if let (Some(coeffs), Some(vars)) = (coeffs.as_slice(), vars.as_slice()) {
-        narrow_equation_of(lit, coeffs, vars, limit, b, hint, h)
+        narrow_equation_of(lit, coeffs, vars, limit, b, h)
     } else {
-        is_whole_equation_quiet(lit, coeffs, vars, limit, b, hint)
+        is_whole_equation_quiet(lit, coeffs, vars, limit, b)
     }
 }
 
@@ -186,7 +185,6 @@ fn narrow_equation_of<H: Hear>(
     vars: &[u32],
     limit: i64,
     b: &BoxOf,
-    hint: &mut Hint,
     h: &mut H,
 ) -> bool
     requires linear { IsLinear coeffs.now vars.now limit }
@@ -197,7 +195,7 @@ fn narrow_equation_of<H: Hear>(
     ensures left { OnFalse result (h.new ≡ h.old) }
 {
     if stands_false(lit, b) {
-        is_equation_quiet(lit, coeffs, vars, limit, b, hint)
+        is_equation_quiet(lit, coeffs, vars, limit, b)
     } else {
         narrow_possible_equation(lit, coeffs, vars, limit, b, h)
     }
@@ -284,7 +282,7 @@ fn tell_equation<H: Hear>(
 }
 
 /// Tells the literal where the sums decide the equation.
-fn narrow_equation_literal<H: Hear>(lit: Lit, limit: i64, sums: Sums, b: &BoxOf, h: &mut H)
+pub fn narrow_equation_literal<H: Hear>(lit: Lit, limit: i64, sums: Sums, b: &BoxOf, h: &mut H)
     requires variable { lit.var < length b.now }
     requires hearer { MayHearAll H.can_hear H.hears h.old (narrowing b.now (equation_tells lit limit sums.least sums.greatest)) }
     ensures { HearsAll H.hears h.old (narrowing b.now (equation_tells lit limit sums.least sums.greatest)) h.new }
@@ -308,7 +306,7 @@ fn is_certain(limit: i64, sums: Sums) -> bool
 }
 
 /// Whether two numbers are the same.
-fn is_same(y: i64, z: i64) -> bool
+pub fn is_same(y: i64, z: i64) -> bool
     ensures { result ≡ equality.is_same y z }
 {
     y <= z && z <= y
@@ -316,7 +314,7 @@ fn is_same(y: i64, z: i64) -> bool
 
 /// The room that the sums leave to the terms of the equation.
 #[tactic(auto, unfolding(crate::specs::ShortTells::room_equal))]
-fn room_equal(lit: Lit, limit: i64, sums: Sums, b: &BoxOf) -> Room
+pub fn room_equal(lit: Lit, limit: i64, sums: Sums, b: &BoxOf) -> Room
     requires variable { lit.var < length b.now }
     requires proper { low_of b.now lit.var ≤ℤ high_of b.now lit.var }
     requires limit { IsNumber limit }

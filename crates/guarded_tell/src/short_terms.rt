@@ -183,7 +183,7 @@ fn short_product(y: i64, z: i64) -> i64
 }
 
 /// Tells of a term that it keeps to the room, where that narrows the box.
-fn narrow_term<H: Hear>(term: (i64, u32), room: Room, b: &BoxOf, h: &mut H)
+pub fn narrow_term<H: Hear>(term: (i64, u32), room: Room, b: &BoxOf, h: &mut H)
     requires coefficient { IsNumber term.0 }
     requires variable { term.1 < length b.now }
     requires proper { low_of b.now term.1 ≤ℤ high_of b.now term.1 }

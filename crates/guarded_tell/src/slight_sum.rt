@@ -1,35 +1,38 @@
 //! The tells of sums with slight coefficients.
 
-ghost use Rattle.std.specs.Prelude.{◌≡◌, ◌≤◌, ◌∷◌, length, sum_by, unsigned_abs};
-ghost use Rattle.std.specs.Bool.{OnTrue, OnFalse};
-ghost use Rattle.guarded_tell.specs.Words.{AreVariables, IsProperIn};
+ghost use Rattle.std.specs.Prelude.{◌≡◌, ◌≤◌, ◌∷◌, length, sum_by, unsigned_abs, MatchOption, IfSome};
+ghost use Rattle.std.specs.List.{All};
+ghost use Rattle.guarded_tell.specs.Words.{AreVariables, IsProperIn, Keeps};
 ghost use Rattle.guarded_tell.specs.Hearing.{MayHearAll, HearsAll};
 ghost use Rattle.guarded_tell.specs.Linear.{at_most_tells, IsLinear};
 ghost use Rattle.guarded_tell.specs.Equality.{eq_tells};
 ghost use Rattle.guarded_tell.specs.Narrowing.{narrowing, narrowing_tells};
 ghost use Rattle.guarded_tell.specs.Kernels.{vars_of, IsKernel};
 ghost use Rattle.guarded_tell.specs.Short.{slight_limit};
+ghost use Rattle.guarded_tell.specs.declared.kernel.Kernel.{Kernel};
 ghost use Rattle.guarded_tell.specs.Shapes.{IsSlightSum};
+ghost use Rattle.guarded_tell.specs.Rests.{IsRest};
 
 use crate::parted::is_whole_equation_quiet;
-use crate::quiet::{Hint, is_equation_quiet};
+use crate::quiet::leaves_room_on_both_sides;
+use crate::settled::{at_most_sum_rest, equation_sum_rest};
 use crate::short_sum::{narrow_short_at_most, narrow_short_equation};
 use crate::slight::slight_sums;
-use crate::{Extended, Hear, Kernel, Lit};
-use interval::BoxOf;
+use crate::{Extended, Hear, Kernel, Lit, Rest};
+use interval::{BoxOf, law_clamp_order, law_quotient_order};
 use tells::stands_false;
 
-/// Gives the tells of a sum with slight coefficients that narrow the box to `h`, and answers yes, or gives none and answers
-/// no. The terms of an equation that must not hold, and of one whose last term stands apart, are left to the answer no
+/// Gives the tells of a sum with slight coefficients that narrow the box to `h`, and says how long it needs no visit, or gives
+/// none and says nothing. The terms of an equation that must not hold, and of one whose last term stands apart, are left
 /// where they may be told something.
 #[tactic(auto, unfolding(crate::specs::Kernels::tells, crate::specs::Kernels::vars_of, crate::specs::Kernels::HasNumbers))]
-pub fn is_slight_given<H: Hear>(k: &Kernel, b: &BoxOf, hint: &mut Hint, h: &mut H) -> bool
+pub fn give_slight_sum<H: Hear>(k: &Kernel, b: &BoxOf, h: &mut H) -> Option<Rest>
     requires kernel { IsKernel (length b.now) k.now }
     requires slight { IsSlightSum k.now }
     requires proper { IsProperIn (vars_of k.now) b.now }
     requires hearer { MayHearAll H.can_hear H.hears h.old (narrowing_tells k.now b.now) }
-    ensures given { OnTrue result (HearsAll H.hears h.old (narrowing_tells k.now b.now) h.new) }
-    ensures left { OnFalse result (h.new ≡ h.old) }
+    ensures given { MatchOption result (h.new ≡ h.old) (λ rest. HearsAll H.hears h.old (narrowing_tells k.now b.now) h.new) }
+    ensures rest { IfSome result (IsRest k.now b.now) }
 {
     match k {
         Kernel::Le {
@@ -37,86 +40,115 @@ pub fn is_slight_given<H: Hear>(k: &Kernel, b: &BoxOf, hint: &mut Hint, h: &mut 
             coeffs,
             vars,
             limit,
-        } => narrow_slight_at_most(*lit, coeffs.as_slice(), vars.as_slice(), *limit, b, h),
+        } => Some(give_slight_at_most(*lit, coeffs.as_slice(), vars.as_slice(), *limit, b, h)),
         Kernel::Eq {
             lit,
             coeffs,
             vars,
             limit,
-        } => narrow_slight_equation(*lit, coeffs, vars, *limit, b, hint, h),
-        _ => false,
+        } => give_slight_equation(*lit, coeffs, vars, *limit, b, h),
+        _ => None,
     }
 }
 
 /// The same of an inequality.
-fn narrow_slight_at_most<H: Hear>(
+fn give_slight_at_most<H: Hear>(
     lit: Lit,
     coeffs: &[i64],
     vars: &[u32],
     limit: i64,
     b: &BoxOf,
     h: &mut H,
-) -> bool
+) -> Rest
     requires linear { IsLinear coeffs.now vars.now limit }
     requires variables { AreVariables (length b.now) (lit.var ∷ vars.now) }
     requires proper { IsProperIn (lit.var ∷ vars.now) b.now }
     requires slight { sum_by unsigned_abs coeffs.now ≤ slight_limit }
     requires hearer { MayHearAll H.can_hear H.hears h.old (narrowing b.now (at_most_tells lit coeffs.now vars.now limit b.now)) }
-    ensures given { OnTrue result (HearsAll H.hears h.old (narrowing b.now (at_most_tells lit coeffs.now vars.now limit b.now)) h.new) }
-    ensures left { OnFalse result (h.new ≡ h.old) }
+    ensures heard { HearsAll H.hears h.old (narrowing b.now (at_most_tells lit coeffs.now vars.now limit b.now)) h.new }
+    ensures rest { (k : Kernel) → IsKernel (length b.now) k → k ≡ Kernel.Le lit coeffs.now vars.now limit → IsRest k b.now result }
 {
+    law_quotient_order();
+    law_clamp_order();
     let sums = slight_sums(coeffs, vars, b);
     narrow_short_at_most(lit, coeffs, vars, limit, sums, b, h);
-    true
+    at_most_sum_rest(lit, limit, sums, b)
 }
 
 /// The same of an equation.
-fn narrow_slight_equation<H: Hear>(
+fn give_slight_equation<H: Hear>(
     lit: Lit,
     coeffs: &Extended<i64>,
     vars: &Extended<u32>,
     limit: i64,
     b: &BoxOf,
-    hint: &mut Hint,
     h: &mut H,
-) -> bool
+) -> Option<Rest>
     requires linear { IsLinear coeffs.now vars.now limit }
     requires variables { AreVariables (length b.now) (lit.var ∷ vars.now) }
     requires proper { IsProperIn (lit.var ∷ vars.now) b.now }
     requires slight { sum_by unsigned_abs coeffs.now ≤ slight_limit }
     requires hearer { MayHearAll H.can_hear H.hears h.old (narrowing b.now (eq_tells lit coeffs.now vars.now limit b.now)) }
-    ensures given { OnTrue result (HearsAll H.hears h.old (narrowing b.now (eq_tells lit coeffs.now vars.now limit b.now)) h.new) }
-    ensures left { OnFalse result (h.new ≡ h.old) }
+    ensures given { MatchOption result (h.new ≡ h.old) (λ rest. HearsAll H.hears h.old (narrowing b.now (eq_tells lit coeffs.now vars.now limit b.now)) h.new) }
+    ensures rest { IfSome result (λ rest. (k : Kernel) → IsKernel (length b.now) k → k ≡ Kernel.Eq lit coeffs.now vars.now limit → IsRest k b.now rest) }
 {
     if let (Some(coeffs), Some(vars)) = (coeffs.as_slice(), vars.as_slice()) {
-        narrow_slight_equation_of(lit, coeffs, vars, limit, b, hint, h)
+        give_whole_slight_equation(lit, coeffs, vars, limit, b, h)
+    } else if is_whole_equation_quiet(lit, coeffs, vars, limit, b) {
+        Some(Rest::Awake)
     } else {
-        is_whole_equation_quiet(lit, coeffs, vars, limit, b, hint)
+        None
     }
 }
 
 /// The same of an equation whose terms all stand together.
-fn narrow_slight_equation_of<H: Hear>(
+fn give_whole_slight_equation<H: Hear>(
     lit: Lit,
     coeffs: &[i64],
     vars: &[u32],
     limit: i64,
     b: &BoxOf,
-    hint: &mut Hint,
     h: &mut H,
-) -> bool
+) -> Option<Rest>
     requires linear { IsLinear coeffs.now vars.now limit }
     requires variables { AreVariables (length b.now) (lit.var ∷ vars.now) }
     requires proper { IsProperIn (lit.var ∷ vars.now) b.now }
     requires slight { sum_by unsigned_abs coeffs.now ≤ slight_limit }
     requires hearer { MayHearAll H.can_hear H.hears h.old (narrowing b.now (eq_tells lit coeffs.now vars.now limit b.now)) }
-    ensures given { OnTrue result (HearsAll H.hears h.old (narrowing b.now (eq_tells lit coeffs.now vars.now limit b.now)) h.new) }
-    ensures left { OnFalse result (h.new ≡ h.old) }
+    ensures given { MatchOption result (h.new ≡ h.old) (λ rest. HearsAll H.hears h.old (narrowing b.now (eq_tells lit coeffs.now vars.now limit b.now)) h.new) }
+    ensures rest { IfSome result (λ rest. (k : Kernel) → IsKernel (length b.now) k → k ≡ Kernel.Eq lit coeffs.now vars.now limit → IsRest k b.now rest) }
 {
+    law_quotient_order();
+    law_clamp_order();
     if stands_false(lit, b) {
-        return is_equation_quiet(lit, coeffs, vars, limit, b, hint);
+        return slight_inequation_rest(lit, coeffs, vars, limit, b);
     }
     let sums = slight_sums(coeffs, vars, b);
     narrow_short_equation(lit, coeffs, vars, limit, sums, b, h);
-    true
+    Some(equation_sum_rest(lit, limit, sums, b))
+}
+
+/// How long an equation that must not hold needs no visit, where its sums say that it narrows nothing.
+fn slight_inequation_rest(
+    lit: Lit,
+    coeffs: &[i64],
+    vars: &[u32],
+    limit: i64,
+    b: &BoxOf,
+) -> Option<Rest>
+    requires linear { IsLinear coeffs.now vars.now limit }
+    requires variables { AreVariables (length b.now) (lit.var ∷ vars.now) }
+    requires proper { IsProperIn (lit.var ∷ vars.now) b.now }
+    requires slight { sum_by unsigned_abs coeffs.now ≤ slight_limit }
+    ensures quiet { IfSome result (λ rest. All (Keeps b.now) (eq_tells lit coeffs.now vars.now limit b.now)) }
+    ensures rest { IfSome result (λ rest. (k : Kernel) → IsKernel (length b.now) k → k ≡ Kernel.Eq lit coeffs.now vars.now limit → IsRest k b.now rest) }
+{
+    law_quotient_order();
+    law_clamp_order();
+    let sums = slight_sums(coeffs, vars, b);
+    if leaves_room_on_both_sides(lit, limit, sums, b) {
+        Some(equation_sum_rest(lit, limit, sums, b))
+    } else {
+        None
+    }
 }

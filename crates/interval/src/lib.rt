@@ -1,4 +1,7 @@
 //! Exact quotients of whole numbers, bounds, and boxes of bounds.
+//!
+//! `floor_div` and `ceil_div` are exact; `corner_products` and `corner_quotients` bound what numbers of two ranges make;
+//! `BoxOf` is seen as a list of pairs. It stands on nothing, and all of propagation on it. Begin with `specs/Boxes.antt`.
 #![tactic(auto)]
 
 mod bounds;

@@ -1,7 +1,8 @@
 //! A growable list that contracts see as the plain list of its elements.
 //!
-//! A `Vec` carries its capacity and its place in memory, so two of them with the same elements differ in a
-//! contract. Types that a contract compares with a value of a definition keep a `ListOf` instead.
+//! A `Vec` carries its capacity and its place in memory, so two of them with the same elements differ in a contract. Types that
+//! a contract compares with a value of a definition keep a `ListOf` instead. It stands on nothing. Begin with `ListOf::push`,
+//! which after want of memory leaves the list as it was and gives the value back.
 #![tactic(auto)]
 
 ghost use Rattle.std.specs.Prelude.{◌≡◌, ◌+◌, ◌≤◌, ◌<◌, [], ◌∷◌, ◌++◌, length, OnOk, OnErr, IfErr, IsTrue, ◌↔◌};

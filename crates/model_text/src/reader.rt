@@ -4,9 +4,9 @@ ghost use Rattle.std.specs.Prelude.{◌≡◌, ◌≤◌, ◌==◌, count_by, �
 ghost use Rattle.constraint_model.specs.declared.model.FznModel.{FznModel};
 ghost use Rattle.model_text.specs.Texts.{IsTextOf, IsFaultOf, IsCause, fault_line, line_at};
 
-use crate::turns::{model_of, survey};
-use fzn_lexer::law_tokens_in_turn;
-use fzn_model::{FaultKind, FznModel, Names};
+use crate::turns::model_of;
+use crate::words::words_of;
+use fzn_model::{FaultKind, FznModel};
 use std::alloc::Global;
 use thiserror::Error;
 
@@ -34,15 +34,7 @@ pub fn read_model(alloc: Global, text: &[u8]) -> Result<FznModel, TextError>
             at: 0,
         });
     }
-    law_tokens_in_turn();
-    let mut names = Names::new();
-    match survey(text, 0, &mut names) {
-        Ok(()) => model_of(alloc, text, names),
-        Err(none) => Err(TextError::Refused {
-            kind: FaultKind::Lex.number(),
-            at: none.at,
-        }),
-    }
+    model_of(alloc, text, words_of(text))
 }
 
 /// How many bytes end a line.

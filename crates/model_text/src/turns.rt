@@ -9,51 +9,23 @@ ghost use Rattle.model_text.specs.Texts.{most_bytes, IsTextOf, IsCause};
 ghost use Rattle.model_text.specs.Turns.{IsPassed, IsTakenTo, IsTakenOn, IsUnread, LacksItemAt, HasFaultBefore};
 
 use crate::reader::TextError;
-use fzn_lexer::{Kind, NoToken, Token, law_tokens_in_turn, next_token};
+use fzn_lexer::{NoToken, law_tokens_in_turn, next_token};
 use fzn_model::{FaultKind, FznModel, ModelError, Names, Resolver};
 use fzn_parser::tree::Item;
 use fzn_parser::{ItemError, Room, next_item};
 use std::alloc::Global;
 
-/// The bytes of a token.
-fn spelling<'a>(text: &'a [u8], token: &Token) -> &'a [u8] {
-    if token.from <= token.to && token.to <= text.len() {
-        &text[token.from..token.to]
-    } else {
-        &[]
-    }
-}
-
-/// Keeps the token where it stands where a name is declared, behind a colon; and whether it is a colon.
-fn see(text: &[u8], token: &Token, is_behind: bool, names: &mut Names) -> bool {
-    match token.kind {
-        Kind::Word => {
-            if is_behind {
-                names.add(spelling(text, token));
-            }
-            false
-        }
-        Kind::Mark => spelling(text, token) == b":".as_slice(),
-        Kind::Int | Kind::Float | Kind::Text => false,
-    }
-}
-
-/// Passes all tokens behind the byte `from`, and keeps those words that may be names which are declared there. Errors:
-/// the first byte where no token, blank or comment begins.
-pub(crate) fn survey(text: &[u8], from: usize, names: &mut Names) -> Result<(), NoToken>
+/// Passes all tokens behind the byte `from`. Errors: the first byte where no token, blank or comment begins.
+fn pass_tokens(text: &[u8], from: usize) -> Result<(), NoToken>
     requires { from ≤ length text.now }
     ensures whole { OnOk result ((ts : List Piece) × LexesTo text.now from (length text.now) ts) }
     ensures fault { IfErr result (λ e. LacksToken text.now from e.at) }
 {
     law_tokens_in_turn();
-    let mut is_behind = false;
     let mut at = from;
     while at < text.len() {
         match next_token(text, at) {
-            Ok(Some(token)) => {
-                is_behind = see(text, &token, is_behind, names);
-                at = token.to;
-            }
+            Ok(Some(token)) => at = token.to,
             Ok(None) => return Ok(()),
             Err(none) => return Err(none),
         }
@@ -68,8 +40,7 @@ fn lacks_item(text: &[u8], at: usize, to: usize) -> TextError
     ensures { IsCause text.now result }
 {
     law_tokens_in_turn();
-    let mut names = Names::new();
-    match survey(text, to, &mut names) {
+    match pass_tokens(text, to) {
         Ok(()) => TextError::Refused {
             kind: FaultKind::Syntax.number(),
             at,

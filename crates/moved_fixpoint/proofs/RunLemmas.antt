@@ -23,7 +23,7 @@ use Rattle.moved_fixpoint.specs.declared.joiner.Progress.TheVariants.{Crossed, R
 use Rattle.moved_fixpoint.specs.Moved.{Set, count_of}
 use Rattle.moved_fixpoint.specs.Rested.{Heeds, HasRested}
 use Rattle.moved_fixpoint.specs.Asked.{AreAsked}
-use Rattle.moved_fixpoint.specs.Heard.{GoesOn, Hears, joined}
+use Rattle.moved_fixpoint.specs.Heard.{GoesOn, Hears, Joined, joined}
 use Rattle.moved_fixpoint.specs.Gathered.{SideLeavesNone, AreCut, AreGathered}
 use Rattle.moved_fixpoint.specs.Runs.{SameAt, HasVisited, KernelRuns}
 use Rattle.moved_fixpoint.proofs.RestLaws.{in_or_not, proper_of, entailed_here, quiet_here}
@@ -86,6 +86,14 @@ none_narrow : Tight → (b : Bounds) (ts : List Tell) → All (Keeps b) ts → l
 none_narrow tight b [] keeps = refl
 none_narrow tight b (t ∷ ts) keeps =
     one_none t (filter (narrows b) ts) (narrows b t) (λ e. tight b t e (All-head (Keeps b) t ts keeps)) (none_narrow tight b ts (All-tail (Keeps b) t ts keeps))
+
+-- so that there are none
+pub none_of_quiet : Tight → (b : Bounds) (ts : List Tell) → All (Keeps b) ts → filter (narrows b) ts ≡ []
+none_of_quiet tight b ts keeps = none_left (filter (narrows b) ts) (none_narrow tight b ts keeps)
+  where
+    none_left : (us : List Tell) → length us ≡ 0 → us ≡ []
+    none_left [] e = refl
+    none_left (u ∷ us) e = absurd (omega arith)
 
 -- a bound that leaves a variable no number isn't kept by a box inside that is proper there
 none_kept : (s : Side) (a b : Bounds) (v : ℕ) (z : ℤ) → SideLeavesNone b s v z → KeepsSide a s v z → low_of b v ≤ℤ low_of a v → high_of a v ≤ℤ high_of b v → low_of a v ≤ℤ high_of a v → ⊥
@@ -259,6 +267,29 @@ module _ (place : TellPlace) (k : Kernel) (b : Bounds) (kernel : IsKernel (lengt
             (subst (λ (x : Bounds). AreAsked naming rests' x told' mid new) asked_is asked)))
             (subst (λ (r : Rests). HasRested k i after r rests') before_is
             (subst (λ (x : Bounds). HasRested k i x rests_before rests') on_is rested))
+
+-- ---- a kernel that tells nothing
+
+pub no_tells : (ts : List Tell) → length ts ≡ 0 → ts ≡ []
+no_tells [] e = refl
+no_tells (t ∷ ts) e = absurd (omega arith)
+
+-- nothing is gathered only where no tell narrows
+pub none_gathered : (b : Bounds) (all told : List Tell) → length told ≡ 0 → AreGathered b all told → all ≡ []
+none_gathered b all told e (inl is) = sym is ∙ no_tells told e
+none_gathered b all told e (inr cut) = let inside = cut.among.1 in absurd (omega arith)
+
+pub none_heard : (j : Joined) (ts : List Tell) → length ts ≡ 0 → HearsAll Hears j ts j
+none_heard j [] e = refl
+none_heard j (t ∷ ts) e = absurd (omega arith)
+
+pub none_asked : (naming : Naming) (rests : Rests) (b : Bounds) (ts : List Tell) (set : Set) → length ts ≡ 0 → AreAsked naming rests b ts set set
+none_asked naming rests b ts set e = record {
+  same_count = refl;
+  kept = λ j h. h;
+  told = λ j h i d inside. absurd (omega arith);
+  none = λ n. refl;
+}
 
 -- the kernel by any default
 pub any_default : (kernels : List Kernel) (i : ℕ) (k : Kernel) (before : Bounds) (asked : Set) (rests : Rests) (p : Progress) (after : Bounds) (asked_after : Set) (rests_after : Rests) (p_after : Progress) →

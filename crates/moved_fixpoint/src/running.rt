@@ -34,7 +34,7 @@ fn ask_told(masks: &Masks, told: &[Tell], b: &BoxOf, rests: &Rests, asked: &mut 
 
 /// Runs the kernel at a place on the box, and says how far the round has come then. It is forgotten before, and asked again
 /// if a variable of its own moves and it heeds that. It tells what it does on the box as it is before any of that is joined,
-/// and rests if it needs no visit on the box as it is then.
+/// and rests if it needs no visit on the box as it is then: where it tells nothing the visit itself says how long.
 pub(crate) fn run_kernel(
     kernels: &[Kernel],
     masks: &Masks,
@@ -65,7 +65,13 @@ pub(crate) fn run_kernel(
     let kernel = &kernels[place];
     sets.asked.forget(place);
     let shape = masks.shape(place);
-    sets.gather(kernel, shape, place, b.current());
+    if let Some(rest) = sets.visit(kernel, shape, place, b.current()) {
+        return if sets.rest_for(place, rest).is_ok() {
+            progress
+        } else {
+            Progress::Refused
+        };
+    }
     if sets.told.refused {
         return Progress::Refused;
     }

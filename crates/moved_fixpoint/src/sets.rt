@@ -1,6 +1,8 @@
 //! What propagation keeps from round to round and from call to call.
 
-ghost use Rattle.std.specs.Prelude.{◌≡◌, ◌<◌, false, length, IfOk, OnOk, OnErr};
+ghost use Rattle.std.specs.Prelude.{◌≡◌, ◌<◌, false, [], length, IfOk, IfSome, IfNone, OnOk, OnErr};
+ghost use Rattle.interval.specs.Boxes.{Bounds};
+ghost use Rattle.guarded_tell.specs.declared.kernel.Kernel.{Kernel};
 ghost use Rattle.guarded_tell.specs.Words.{IsProperIn};
 ghost use Rattle.guarded_tell.specs.Kernels.{vars_of, IsKernel};
 ghost use Rattle.guarded_tell.specs.Narrowing.{narrowing_tells};
@@ -13,7 +15,7 @@ ghost use Rattle.moved_fixpoint.specs.Rested.{HasRested};
 
 use crate::rests::Rests;
 use crate::told::Told;
-use guarded_tell::{Hint, Kernel, Rest, Shape, rest_of};
+use guarded_tell::{Hint, Kernel, Rest, Shape, law_narrowing, rest_of, seen_rest};
 use interval::{BoxOf, NoMemory};
 use moved_set::{AskedSet, MovedSet};
 use std::alloc::Global;
@@ -116,19 +118,51 @@ impl AskedSets {
         })
     }
 
-    /// Gathers those tells of the kernel at a place that narrow the box, up to one that leaves its variable no number.
-    pub(crate) fn gather(&mut self, kernel: &Kernel, shape: &Shape, place: usize, b: &BoxOf)
+    /// Visits the kernel at a place: says how long it needs no visit where it narrows nothing, or says nothing and has gathered
+    /// its tells that narrow the box, up to one that leaves its variable no number, unless memory was refused for one.
+    pub(crate) fn visit(
+        &mut self,
+        kernel: &Kernel,
+        shape: &Shape,
+        place: usize,
+        b: &BoxOf,
+    ) -> Option<Rest>
+        requires kernel { IsKernel (length b.now) kernel.now }
+        requires shape { IsShapeOf kernel.now shape.now }
+        requires proper { IsProperIn (vars_of kernel.now) b.now }
+        ensures asked { self.new.asked ≡ self.old.asked }
+        ensures rests { self.new.rests ≡ self.old.rests }
+        ensures quiet { IfSome result (λ rest. narrowing_tells kernel.now b.now ≡ []) }
+        ensures rest { IfSome result (IsRest kernel.now b.now) }
+        ensures told { IfNone result (self.new.told.refused ≡ false → AreGathered b.now (narrowing_tells kernel.now b.now) self.new.told.tells.items) }
+    {
+        law_narrowing();
+        if let Some(rest) = seen_rest(kernel, shape, b) {
+            return Some(rest);
+        }
+        let rest = self.gather(kernel, shape, place, b);
+        if self.told.refused || !self.told.tells.is_empty() {
+            None
+        } else {
+            Some(rest)
+        }
+    }
+
+    /// Gathers those tells of the kernel at a place that narrow the box, up to one that leaves its variable no number, and says
+    /// how long the kernel needs no visit where there are none.
+    fn gather(&mut self, kernel: &Kernel, shape: &Shape, place: usize, b: &BoxOf) -> Rest
         requires kernel { IsKernel (length b.now) kernel.now }
         requires shape { IsShapeOf kernel.now shape.now }
         requires proper { IsProperIn (vars_of kernel.now) b.now }
         ensures asked { self.new.asked ≡ self.old.asked }
         ensures rests { self.new.rests ≡ self.old.rests }
         ensures told { self.new.told.refused ≡ false → AreGathered b.now (narrowing_tells kernel.now b.now) self.new.told.tells.items }
+        ensures rest { IsRest kernel.now b.now result }
     {
         if place < self.hints.len() {
-            self.told.gather(kernel, shape, b, &mut self.hints[place]);
+            self.told.gather(kernel, shape, b, &mut self.hints[place])
         } else {
-            self.told.gather(kernel, shape, b, &mut Hint::new());
+            self.told.gather(kernel, shape, b, &mut Hint::new())
         }
     }
 
@@ -166,6 +200,19 @@ impl AskedSets {
         ensures rested { OnOk result (HasRested kernel.now place b.now self.old.rests self.new.rests) }
     {
         let rest = self.rest_at(kernel, shape, place, b);
+        self.rest_for(place, rest)
+    }
+
+    /// Lets the kernel at a place rest so long.
+    pub(crate) fn rest_for(&mut self, place: usize, rest: Rest) -> Result<(), NoMemory>
+        requires open { place < count_of self.old.rests.open.current }
+        requires alert { place < count_of self.old.rests.alert.current }
+        ensures asked { self.new.asked ≡ self.old.asked }
+        ensures told { self.new.told ≡ self.old.told }
+        ensures counts { KeepCounts self.old.rests self.new.rests }
+        ensures stacks { KeepStacks self.old.rests self.new.rests }
+        ensures rested { (k : Kernel) (b : Bounds) → IsRest k b rest → OnOk result (HasRested k place b self.old.rests self.new.rests) }
+    {
         self.rests.note(place, rest)
     }
 }

@@ -3,6 +3,8 @@ use Rattle.std.specs.Prelude.{◌≡◌, ℕ, ◌<◌, Bool, true, false, List, 
 use Rattle.guarded_tell.specs.declared.kernel.Kernel.{Kernel}
 use Rattle.guarded_tell.specs.Kernels.{vars_of}
 use Rattle.guarded_tell.specs.declared.shape.Shape.{Shape}
+use Rattle.guarded_tell.specs.declared.shape.Shape.TheVariants.{Other}
+use Rattle.guarded_tell.specs.Shapes.{IsShapeOf}
 
 -- the number v is in the set
 abbrev pub IsIn : List Bool → ℕ → Type 0
@@ -24,3 +26,8 @@ set_at n j = slice_index_or n.sets j []
 pub record IsNaming (kernels : List Kernel) (naming : Naming) : Type 0 where
   pub same_length : length naming.sets ≡ length kernels
   pub each : (j : ℕ) (d : Kernel) (v : ℕ) → j < length kernels → IsIn (set_at naming j) v ↔ Contains (vars_of (slice_index_or kernels j d)) v
+
+-- a shape is `Other`, which is one of every kernel, only where the kernel at its place has no other
+pub record AreOwnShapes (kernels : List Kernel) (shapes : List Shape) : Type 0 where
+  pub each : (j : ℕ) (k : Kernel) (s t : Shape) → j < length kernels → slice_index_or shapes j s ≡ Other
+      → IsShapeOf (slice_index_or kernels j k) t → t ≡ Other

@@ -1,6 +1,6 @@
 //! A short list of variables, as long as they are few.
 
-ghost use Rattle.std.specs.Prelude.{◌≡◌, [], false, IfOk};
+ghost use Rattle.std.specs.Prelude.{◌≡◌, [], true, false, IfOk};
 ghost use Rattle.moved_set.specs.Listed.{HasPut};
 
 use interval::NoMemory;
@@ -34,6 +34,7 @@ impl Few {
     /// No variables.
     pub(crate) fn new(alloc: Global) -> Result<Few, NoMemory>
         ensures variables { IfOk result (λ f. f.variables ≡ []) }
+        ensures whole { IfOk result (λ f. f.whole ≡ true) }
     {
         let places = vec![in alloc; 0; MOST]?;
         Ok(Few {
@@ -75,7 +76,8 @@ impl Few {
 
     /// Lists nothing, as nothing is put in yet.
     pub(crate) fn clear(&mut self)
-        ensures { self.new.variables ≡ [] }
+        ensures variables { self.new.variables ≡ [] }
+        ensures whole { self.new.whole ≡ true }
     {
         self.used = 0;
         self.whole = true;

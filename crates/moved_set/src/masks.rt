@@ -5,7 +5,7 @@ ghost use Rattle.std.specs.Prelude.{◌≡◌, ◌<◌, ◌^◌, ◌&&◌, ℕ, 
 ghost use Rattle.std.specs.Bool.{OnTrue};
 ghost use Rattle.guarded_tell.specs.Kernels.{IsKernel};
 ghost use Rattle.guarded_tell.specs.Shapes.{AreShapesOf};
-ghost use Rattle.moved_set.specs.Sets.{IsNaming, set_at};
+ghost use Rattle.moved_set.specs.Sets.{AreOwnShapes, IsNaming, set_at};
 ghost use Rattle.moved_set.specs.Asking.{IsAsked};
 
 use crate::asked::AskedSet;
@@ -55,6 +55,7 @@ impl Masks {
         ensures count { IfOk result (λ m. m.count ≡ count) }
         ensures naming { IfOk result (IsNaming kernels.now) }
         ensures shapes { IfOk result (λ m. AreShapesOf kernels.now m.shapes) }
+        ensures own_shapes { IfOk result (λ m. AreOwnShapes kernels.now m.shapes) }
     {
         let parts = parts_of(alloc, kernels, count)?;
         if !can_be_numbered(kernels.len(), parts.lists.len()) {

@@ -1,7 +1,7 @@
 //! Sets of variables.
 
-ghost use Rattle.std.specs.Prelude.{◌≡◌, ◌<◌, ◌+◌, ◌/◌, true, false, length, replicate, slice_set, slice_index_or, IfOk, IfSome};
-ghost use Rattle.moved_set.specs.Listed.{AreAllOf};
+ghost use Rattle.std.specs.Prelude.{◌≡◌, ◌<◌, ◌+◌, ◌/◌, true, false, length, replicate, slice_set, slice_index_or, IfOk, IfSome, IfNone};
+ghost use Rattle.moved_set.specs.Listed.{AreAllOf, AreMany};
 ghost use Rattle.moved_set.specs.Words.{has};
 
 use crate::few::Few;
@@ -82,9 +82,10 @@ impl MovedSet {
         self.few.give_up();
     }
 
-    /// The variables of the set, if they are few.
+    /// The variables of the set, if they are few: none only where they are more than 64, or all that there are.
     pub fn few(&self) -> Option<&[u32]>
-        ensures { IfSome result (λ variables. AreAllOf self.now variables.now) }
+        ensures variables { IfSome result (λ variables. AreAllOf self.now variables.now) }
+        ensures many { IfNone result (AreMany self.now) }
     {
         if self.few.is_whole() {
             Some(self.few.variables())

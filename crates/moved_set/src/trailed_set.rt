@@ -82,12 +82,38 @@ impl TrailedSet {
         ensures stack { OnOk result (self.new.stack ≡ self.old.stack) }
         ensures err { OnErr result (self.new ≡ self.old) }
     {
+        if self.has(j) {
+            return Ok(());
+        }
+        self.put_written(j)
+    }
+
+    /// The same, whether it changes the set or not.
+    fn put_written(&mut self, j: usize) -> Result<(), NoMemory>
+        requires { j < length self.old.current }
+        ensures current { OnOk result (self.new.current ≡ slice_set self.old.current j true) }
+        ensures stack { OnOk result (self.new.stack ≡ self.old.stack) }
+        ensures err { OnErr result (self.new ≡ self.old) }
+    {
         let word = self.words[j / 32] | (1 << (j % 32));
         write(self.words.as_mut_slice(), &mut self.trail, j / 32, word)
     }
 
     /// Takes a kernel off.
     pub fn remove(&mut self, j: usize) -> Result<(), NoMemory>
+        requires { j < length self.old.current }
+        ensures current { OnOk result (self.new.current ≡ slice_set self.old.current j false) }
+        ensures stack { OnOk result (self.new.stack ≡ self.old.stack) }
+        ensures err { OnErr result (self.new ≡ self.old) }
+    {
+        if !self.has(j) {
+            return Ok(());
+        }
+        self.remove_written(j)
+    }
+
+    /// The same, whether it changes the set or not.
+    fn remove_written(&mut self, j: usize) -> Result<(), NoMemory>
         requires { j < length self.old.current }
         ensures current { OnOk result (self.new.current ≡ slice_set self.old.current j false) }
         ensures stack { OnOk result (self.new.stack ≡ self.old.stack) }

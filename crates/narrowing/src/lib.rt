@@ -1,5 +1,9 @@
-//! What narrows the boxes of a search: with one lane propagation that asks what moved, on the trailed box itself; with more
-//! an engine over shared bounds. Both give the one greatest closed box.
+//! What narrows the boxes of a search: with one lane propagation that asks what moved, on the trailed box itself; with more an
+//! engine over shared bounds. Both give the one greatest closed box.
+//!
+//! `Narrower::narrow` ends with that box, or that there is none, or as many rounds as the limit led to a box that holds every
+//! closed box inside; the boxes left for later stay. Whoever puts a bound notes its variable (`note`), or all (`note_all`). It
+//! stands on `moved_fixpoint` and `rounds`, and parts no box: `search` does.
 #![tactic(auto)]
 
 mod alone;

@@ -14,10 +14,10 @@ use Rattle.interval.specs.Limits.{IsBound, IsNumber, largest_number, box_limit}
 use Rattle.interval.specs.Boxes.{Bounds, IsInRange, IsProper, low_of, high_of}
 use Rattle.guarded_tell.specs.Words.{IsProperIn, AreVariables}
 use Rattle.guarded_tell.specs.Linear.{IsLinear, term_limit}
-use Rattle.guarded_tell.specs.Extremes.{member_limit}
+use Rattle.extreme_tells.specs.Extremes.{member_limit}
 use Rattle.guarded_tell.specs.Clause.{clause_vars, literal_limit}
 use Rattle.guarded_tell.specs.Literals.{literals_by_sign}
-use Rattle.guarded_tell.specs.InSet.{IsSet, range_limit}
+use Rattle.set_tells.specs.InSet.{IsSet, range_limit}
 use Rattle.global_tells.specs.Ranges.{place_limit}
 use Rattle.global_tells.specs.Cumulative.{AreTasks, IsAmount}
 use Rattle.guarded_tell.specs.Hearing.{MayHearAll}

@@ -172,7 +172,7 @@ const OTHER_WORDS: &[&str] = &[
 ];
 
 const USAGE: &str =
-    "usage: turbofzn [-a] [-p N] [--lanes N] [--depth D] [--node-limit N] [--round-limit N] [--steal] (FILE or --make N)\n";
+    "usage: turbofzn [-a] [-p N] [--lanes N] [--depth D] [--node-limit N] [--round-limit N] [--domains] [--steal] (FILE or --make N)\n";
 
 #[test]
 fn other_words_get_the_usage_line(rt: HostRuntime) -> Result<(), Fail> {

@@ -11,6 +11,8 @@ mod constraints;
 #[cfg(test)]
 mod corners;
 #[cfg(test)]
+mod domains;
+#[cfg(test)]
 mod faults;
 #[cfg(test)]
 mod goals;

@@ -1,5 +1,5 @@
 -- A text has one answer where no limit is set, whichever workers, lanes and parts search for it.
-use Rattle.std.proofs.Common.{◌≡◌, ℕ, List, Bool, refl, sym, ap, subst, ◌∙◌}
+use Rattle.std.proofs.Common.{◌≡◌, ℕ, List, sym, ap, subst, ◌∙◌}
 use Rattle.constraint_model.specs.declared.model.FznModel.{FznModel}
 use Rattle.constraint_model.specs.Searches.{IsSearchOf}
 use Rattle.command_line.specs.declared.words.Options.{Options}
@@ -9,7 +9,8 @@ use Rattle.answer.specs.Laws.{OneFinished, UnfinishedMarks}
 use Rattle.fzn_print.specs.AnswerText.{answer_text}
 use Rattle.made_model.specs.Made.{summary}
 use Rattle.model_text.specs.Texts.{IsTextOf}
-use Rattle.solver_top.specs.Answers.{HasNoLimit, IsAnswerOf, IsAnswerWith, IsLineOf, known_objective}
+use Rattle.domain_text.specs.Domains.{IsDomainText, OneDomainText}
+use Rattle.solver_top.specs.Answers.{AreDomainsOf, HasNoLimit, IsAnswerOf, IsAnswerWith, IsLineOf, known_objective}
 use Rattle.solver_top.proofs.KnownLaws.{known_is}
 
 module _ (one : (text : List ℕ) (m n : FznModel) → IsTextOf text m → IsTextOf text n → m ≡ n) (finished : OneFinished)
@@ -34,3 +35,10 @@ module _ (one : (text : List ℕ) (m n : FznModel) → IsTextOf text m → IsTex
       let objectives = known_is marks h.model o h.answer h.objective h.known ∙ ap (known_objective h.model.goal) answers ∙ ap (λ m. known_objective m.goal g.answer) (sym same)
       ∙ sym (known_is marks g.model p g.answer g.objective g.known) in
       h.printed ∙ ap (summary n) objectives ∙ sym g.printed
+
+-- the domains are one text
+pub one_domains : (one : (text : List ℕ) (m n : FznModel) → IsTextOf text m → IsTextOf text n → m ≡ n) → OneDomainText
+    → (text bytes others : List ℕ) → AreDomainsOf text bytes → AreDomainsOf text others → bytes ≡ others
+one_domains one only text bytes others h g =
+    let same = one text g.model h.model g.is_model h.is_model in
+    only h.model bytes others h.printed (subst (λ m. IsDomainText m others) same g.printed)

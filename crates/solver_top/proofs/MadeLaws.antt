@@ -1,18 +1,17 @@
 -- A made text has a model and no fault, and without a limit the search of the model comes to its least cost.
-use Rattle.std.proofs.Common.{◌≡◌, ◌<◌, ◌≤◌, ◌⊎◌, ◌-◌, inl, inr, ℕ, zero, ℤ, Bool, List, [], ◌∷◌, length, Option, Some, None, refl, sym, ap, subst, ◌∙◌, arith}
+use Rattle.std.proofs.Common.{◌≡◌, ◌-◌, inl, inr, ℕ, zero, ℤ, Bool, List, Option, Some, refl, sym, ap, subst, ◌∙◌, arith}
 use Rattle.constraint_model.specs.declared.model.FznModel.{FznModel}
 use Rattle.constraint_model.specs.declared.model.Goal.{Goal}
 use Rattle.constraint_model.specs.declared.model.Term.{Term}
 use Rattle.constraint_model.specs.Relations.{IsSolution, cost_of}
 use Rattle.command_line.specs.declared.words.Options.{Options}
-use Rattle.fzn_print.specs.declared.marks.Mark.{Mark}
 use Rattle.fzn_print.specs.declared.answers.Answer.{Answer}
 use Rattle.answer.specs.Finished.{Gives, IsFinished, IsOptimal}
 use Rattle.made_model.specs.Made.{made, summary}
 use Rattle.made_laws.specs.Models.{HasSolvedModel, MadeHasModel, spaced}
-use Rattle.model_text.specs.Texts.{HasFaultOn, IsFaultOf, IsTextOf}
-use Rattle.solver_top.specs.Answers.{IsKnown, IsLineOf, first_objective, known_at, known_objective}
-use Rattle.solver_top.specs.MadeTexts.{MadeLinesSayLeast, MadeTextsHaveModels, MadeTextsHaveNoFault, SaysLeast}
+use Rattle.model_text.specs.Texts.{IsFaultOf, IsTextOf}
+use Rattle.solver_top.specs.Answers.{IsKnown, first_objective, known_at, known_objective}
+use Rattle.solver_top.specs.MadeTexts.{MadeLinesSayLeast, MadeTextsHaveModels, MadeTextsHaveNoFault}
 
 text_of : (n : ℕ) (w : HasSolvedModel n (made n)) → IsTextOf (made n) w.model
 text_of n w = record { short = w.short; items = w.items; read = record { tokens = w.tokens; lexed = w.lexed; parsed = w.parsed }; resolved = w.resolved }

@@ -1,16 +1,17 @@
 -- Laws on the causes of the statuses.
-use Rattle.std.proofs.Common.{◌≡◌, ◌⊎◌, inl, inr, ℕ, zero, suc, ◌+◌, ◌<◌, List, [], ◌∷◌, length, Option, None, Some, Result, Ok, Err, IfErr, subst, sym, ap, refl, ◌∙◌, arith}
+use Rattle.std.proofs.Common.{◌≡◌, ◌⊎◌, inl, inr, ℕ, List, [], ◌∷◌, Bool, true, false, Option, None, Some, Result, Ok, Err, IfErr, subst, sym, ap, refl, ◌∙◌}
 use Rattle.fzn_io.specs.Faults.{CountRose}
 use Rattle.fzn_io.specs.Streams.{Adds, AddsFront, IsHeld, IsNextName}
 use Rattle.constraint_model.specs.declared.model.FznModel.{FznModel}
 use Rattle.command_line.specs.declared.words.Input.{Input}
 use Rattle.command_line.specs.declared.words.Options.{Options}
+use Rattle.std.specs.Borrow.{Bor}
 use Rattle.command_line.specs.CommandLine.{InputOf, file, input_meant, made as made_of}
 use Rattle.made_model.specs.Made.{made}
 use Rattle.model_text.specs.Texts.{IsTextOf, IsFaultOf, HasFaultOn, fault_line}
 use Rattle.model_text.specs.Files.{IsFaultOfTold, ToldHasFault, ToldHasModel}
-use Rattle.solver_top.specs.Answers.{IsAnswerOf, IsLineOf}
-use Rattle.solver_top.specs.Outcome.{Asked, CanOpen, IsAnswerOfInput, IsAnswerOfWords, IsFileAlone, IsFileCause, IsInputCause, IsRefused, IsTextCause, IsWordsCause, IsWritten, ReadsFile, Told, WroteAnswer, WroteFront, told_of, told_text}
+use Rattle.solver_top.specs.Answers.{AreDomainsOf, IsAnswerOf, IsLineOf}
+use Rattle.solver_top.specs.Outcome.{Asked, CanOpen, IsAnswerOfInput, IsAnswerOfWords, IsFileAlone, IsFileCause, IsFound, IsInputCause, IsRefused, IsTextCause, IsWordsCause, IsWritten, IsWrittenWhere, ReadsFile, Told, WroteAnswer, WroteFront, told_of, told_text}
 use Rattle.solver_top.specs.declared.status.Status.{Status}
 use Rattle.solver_top.specs.declared.status.Status.TheVariants.{Answered, Usage, Refused, ReadFault, WriteFault, NoMemory}
 
@@ -34,9 +35,15 @@ file_cause held text before after ReadFault told cause = absurd cause
 file_cause held text before after WriteFault told cause = absurd cause
 file_cause held text before after NoMemory told cause = tt
 
-pub file_cause_of_result : {V : Type 0} (held : Option (Option (List ℕ))) (text : List ℕ) (before after : ℕ) (result : Result V Status) → IsHeld held text → IfErr result (IsTextCause text) → IfErr result (IsFileCause held before after)
-file_cause_of_result held text before after (Ok v) told cause = cause
-file_cause_of_result held text before after (Err status) told cause = file_cause held text before after status told cause
+-- and one of the text that is asked for
+input_cause : (held : Told) (input : InputOf) (text : List ℕ) (before after : ℕ) (status : Status) → IsHeld (told_of held input) text → IsTextCause text status → IsInputCause held input before after status
+input_cause held (file name) text before after status told cause = file_cause (held name) text before after status told cause
+input_cause held (made_of n) text before after status told cause = subst (λ t. IsTextCause t status) told cause
+
+pub input_cause_of_result : {V : Type 0} (held : Told) (input : InputOf) (text : List ℕ) (before after : ℕ) (result : Result V Status) → IsHeld (told_of held input) text → IfErr result (IsTextCause text)
+    → IfErr result (IsInputCause held input before after)
+input_cause_of_result held input text before after (Ok v) told cause = cause
+input_cause_of_result held input text before after (Err status) told cause = input_cause held input text before after status told cause
 
 -- the status that is reported: this one, or want of memory
 abbrev pub IsReported : Status → Status → Type 0
@@ -121,9 +128,10 @@ module _ (one_fault : (text : List ℕ) (k l at place : ℕ) → IsFaultOf text 
   -- ---- faults
 
   -- an answered text has no fault
-  written_model : (options : Options) (input : InputOf) (text bytes : List ℕ) → IsWritten options input text bytes → (m : FznModel) × IsTextOf text m
-  written_model options (file name) text bytes written = (written.model, written.is_model)
-  written_model options (made_of n) text bytes written = (written.model, written.is_model)
+  written_model : (domains : Bool) (options : Options) (input : InputOf) (text bytes : List ℕ) → IsWrittenWhere domains options input text bytes → (m : FznModel) × IsTextOf text m
+  written_model true options input text bytes written = (written.model, written.is_model)
+  written_model false options (file name) text bytes written = (written.model, written.is_model)
+  written_model false options (made_of n) text bytes written = (written.model, written.is_model)
 
   no_text_answer : (t : Option (Option (List ℕ))) (text : List ℕ) (kind line : ℕ) (m : FznModel) → ToldHasFault t kind line → IsHeld t text → IsTextOf text m → ⊥
   no_text_answer None text kind line m fault held is = fault
@@ -133,7 +141,7 @@ module _ (one_fault : (text : List ℕ) (k l at place : ℕ) → IsFaultOf text 
   no_answer : (held : Told) (asked : Option Asked) (kind line : ℕ) (bytes : List ℕ) → ToldHasFault (told_text held asked) kind line → IsAnswerOfWords held asked bytes → ⊥
   no_answer held None kind line bytes fault answer = fault
   no_answer held (Some a) kind line bytes fault answer =
-      let model = written_model a.0 a.1 answer.text bytes answer.written in
+      let model = written_model a.0.domains a.0 a.1 answer.text bytes answer.written in
       no_text_answer (told_of held a.1) answer.text kind line model.0 fault answer.told model.1
 
   pub no_written_fault : (result : Status) (held : Told) (asked : Option Asked) (kind line : ℕ) (bytes : List ℕ) → ToldHasFault (told_text held asked) kind line → IsAnswerOfWords held asked bytes
@@ -173,11 +181,33 @@ module _ (one_fault : (text : List ℕ) (k l at place : ℕ) → IsFaultOf text 
       let ends = subst (λ (q : Status). (q ≡ Refused kind line) ⊎ (q ≡ NoMemory)) (sym same) (faulty r held asked kind line before after cause has none) in
       reported_fault result s kind line ends reported
 
--- the line of a made text is what is to be written of it
-pub made_answer : (held : Told) (options : Options) (input : Input) (n : ℕ) (bytes : List ℕ) → input ≡ Input.Made n → IsLineOf options n (made n) bytes
-    → IsAnswerOfInput held options (input_meant input) bytes
-made_answer held options input n bytes is line =
-    subst (λ i. IsAnswerOfInput held options (input_meant i) bytes) (sym is) (record { text = made n; told = refl; written = line })
+-- ---- what is to be written
+
+pub domains_written : (options : Options) (input : InputOf) (text bytes : List ℕ) → options.domains ≡ true → AreDomainsOf text bytes → IsWritten options input text bytes
+domains_written options input text bytes on left = subst (λ b. IsWrittenWhere b options input text bytes) (sym on) left
+
+pub found_written : (options : Options) (input : InputOf) (text bytes : List ℕ) → options.domains ≡ false → IsFound options input text bytes → IsWritten options input text bytes
+found_written options input text bytes off found = subst (λ b. IsWrittenWhere b options input text bytes) (sym off) found
+
+-- of a file an answer, and of a made text its line
+pub file_found : (options : Options) (input : Input) (name : Bor (List ℕ)) (text bytes : List ℕ) → input ≡ Input.File name → IsAnswerOf options text bytes → IsFound options (input_meant input) text bytes
+file_found options input name text bytes is answer = subst (λ i. IsFound options (input_meant i) text bytes) (sym is) answer
+
+pub made_found : (options : Options) (input : Input) (n : ℕ) (text bytes : List ℕ) → input ≡ Input.Made n → IsLineOf options n text bytes → IsFound options (input_meant input) text bytes
+made_found options input n text bytes is line = subst (λ i. IsFound options (input_meant i) text bytes) (sym is) line
+
+-- a made text is held, and is refused for want of memory alone
+pub made_held : (held : Told) (input : Input) (n : ℕ) (text : List ℕ) → input ≡ Input.Made n → text ≡ made n → IsHeld (told_of held (input_meant input)) text
+made_held held input n text is same = subst (λ i. IsHeld (told_of held (input_meant i)) text) (sym is) same
+
+pub made_cause : (held : Told) (input : Input) (n : ℕ) (before after : ℕ) (status : Status) → input ≡ Input.Made n → status ≡ NoMemory → IsInputCause held (input_meant input) before after status
+made_cause held input n before after status is memory =
+    subst (λ i. IsInputCause held (input_meant i) before after status) (sym is) (subst (λ s. IsTextCause (made n) s) (sym memory) tt)
+
+pub answer_of_held : (held : Told) (options : Options) (input : InputOf) (text shown bytes : List ℕ) → IsHeld (told_of held input) text → shown ≡ text → IsWritten options input shown bytes
+    → IsAnswerOfInput held options input bytes
+answer_of_held held options input text shown bytes told same written =
+    record { text = shown; told = subst (λ t. IsHeld (told_of held input) t) (sym same) told; written = written }
 
 -- ---- what is reported
 

@@ -1,7 +1,7 @@
 -- What is written of an answer.
 --
 -- Source: the FlatZinc chapter of the MiniZinc Handbook, its section on output. The line of a made text is this program's own.
-use Rattle.std.specs.Prelude.{◌≡◌, ◌⊎◌, ℕ, ℤ, List, [], ◌∷◌, ◌++◌, flat_map, Option, Some, None, All}
+use Rattle.std.specs.Prelude.{◌≡◌, ◌⊎◌, ℕ, ℤ, List, [], ◌∷◌, Option, Some, None, All}
 use Rattle.constraint_model.specs.declared.model.FznModel.{FznModel}
 use Rattle.constraint_model.specs.declared.model.Goal.{Goal}
 use Rattle.constraint_model.specs.Relations.{value, IsSolution}
@@ -14,7 +14,8 @@ use Rattle.answer.specs.Lists.{Assignment}
 use Rattle.answer.specs.Finished.{IsFinished}
 use Rattle.answer.specs.Unfinished.{IsUnfinished}
 use Rattle.answer.specs.Answers.{IsWhole, IsAnswer}
-use Rattle.made_model.specs.Made.{made, summary}
+use Rattle.domain_text.specs.Domains.{IsDomainText}
+use Rattle.made_model.specs.Made.{summary}
 use Rattle.model_text.specs.Texts.{IsTextOf}
 
 -- the options of the words as the search takes them
@@ -46,6 +47,12 @@ pub record IsAnswerOf (options : Options) (text bytes : List ℕ) : Type 0 where
   pub answer : Answer
   pub is_answer : IsAnswerWith options model answer
   pub printed : bytes ≡ answer_text model answer
+
+-- these bytes are the text of the domains that propagation leaves for the variables of the text's model
+pub record AreDomainsOf (text bytes : List ℕ) : Type 0 where
+  pub model : FznModel
+  pub is_model : IsTextOf text model
+  pub printed : IsDomainText model bytes
 
 -- ---- the line of a made text
 

@@ -1,7 +1,7 @@
 -- What the top call owes: its statuses, each with its cause, and what it writes.
 --
 -- The statuses and their lines are this program's own.
-use Rattle.std.specs.Prelude.{◌≡◌, ℕ, ◌≤◌, List, [], ◌∷◌, ◌++◌, length, take, codes, Option, Some, None}
+use Rattle.std.specs.Prelude.{◌≡◌, ℕ, ◌≤◌, List, [], ◌∷◌, ◌++◌, length, take, codes, Bool, true, false, Option, Some, None}
 use Rattle.fzn_io.specs.Faults.{CountRose}
 use Rattle.fzn_io.specs.Streams.{Adds, IsHeld}
 use Rattle.fzn_print.specs.AnswerText.{line_end}
@@ -10,7 +10,7 @@ use Rattle.command_line.specs.CommandLine.{InputOf, file, made as made_of}
 use Rattle.made_model.specs.Made.{made}
 use Rattle.model_text.specs.Texts.{HasFaultOn}
 use Rattle.model_text.specs.Files.{IsFaultOfTold, refusal_line}
-use Rattle.solver_top.specs.Answers.{IsAnswerOf, IsLineOf}
+use Rattle.solver_top.specs.Answers.{AreDomainsOf, IsAnswerOf, IsLineOf}
 use Rattle.solver_top.specs.declared.status.Status.{Status}
 use Rattle.solver_top.specs.declared.status.Status.TheVariants.{Answered, Usage, Refused, ReadFault, WriteFault, NoMemory}
 
@@ -31,10 +31,19 @@ abbrev pub told_text : Told → Option Asked → Option (Option (List ℕ))
 told_text held None = None
 told_text held (Some asked) = told_of held asked.1
 
--- These bytes are what is to be written of the text: of a file an answer, of a made text its line.
+-- These bytes are what the search gives of the text: of a file an answer, of a made text its line.
+abbrev pub IsFound : Options → InputOf → (text bytes : List ℕ) → Type 0
+IsFound options (file name) text bytes = IsAnswerOf options text bytes
+IsFound options (made_of n) text bytes = IsLineOf options n text bytes
+
+-- These bytes are what is to be written of the text: with `--domains` the domains that propagation leaves, whatever else is
+-- asked for, and without it what the search gives.
+abbrev pub IsWrittenWhere : Bool → Options → InputOf → (text bytes : List ℕ) → Type 0
+IsWrittenWhere true options input text bytes = AreDomainsOf text bytes
+IsWrittenWhere false options input text bytes = IsFound options input text bytes
+
 abbrev pub IsWritten : Options → InputOf → (text bytes : List ℕ) → Type 0
-IsWritten options (file name) text bytes = IsAnswerOf options text bytes
-IsWritten options (made_of n) text bytes = IsLineOf options n text bytes
+IsWritten options input text bytes = IsWrittenWhere options.domains options input text bytes
 
 -- The same of the text that is asked for.
 pub record IsAnswerOfInput (held : Told) (options : Options) (input : InputOf) (bytes : List ℕ) : Type 0 where
@@ -123,7 +132,7 @@ status_code NoMemory = 5
 -- The line that goes to standard error with a status.
 abbrev pub status_line : Status → List ℕ
 status_line Answered = []
-status_line Usage = codes "usage: turbofzn [-a] [-p N] [--lanes N] [--depth D] [--node-limit N] [--round-limit N] [--steal] (FILE or --make N)" ++ line_end
+status_line Usage = codes "usage: turbofzn [-a] [-p N] [--lanes N] [--depth D] [--node-limit N] [--round-limit N] [--domains] [--steal] (FILE or --make N)" ++ line_end
 status_line (Refused kind line) = refusal_line kind line
 status_line ReadFault = codes "read fault" ++ line_end
 status_line WriteFault = codes "write fault" ++ line_end

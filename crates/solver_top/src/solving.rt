@@ -3,17 +3,18 @@
 ghost use Rattle.std.specs.Prelude.{◌≡◌, ◌⊎◌, ◌≤◌, Some, IfOk, IfErr, IsErrOf};
 ghost use Rattle.fzn_io.specs.Streams.{IsHeld};
 ghost use Rattle.constraint_model.specs.WellFormed.{IsWellFormed};
-ghost use Rattle.command_line.specs.CommandLine.{AreOptions, IsConfig, config_meant, config_of, file, input_meant};
+ghost use Rattle.command_line.specs.CommandLine.{AreOptions, IsConfig, config_meant, config_of, input_meant};
 ghost use Rattle.made_model.specs.Made.{made};
 ghost use Rattle.model_text.specs.Texts.{IsCause, IsTextOf};
-ghost use Rattle.solver_top.specs.Answers.{IsAnswerOf, IsAnswerWith, IsLineOf, search_options};
-ghost use Rattle.solver_top.specs.Outcome.{CanOpen, IsAnswerOfInput, IsAnswerOfWords, IsFileAlone, IsFileCause, IsInputCause, IsTextCause, IsWordsCause, ReadsFile, told_text};
+ghost use Rattle.solver_top.specs.Answers.{AreDomainsOf, IsAnswerOf, IsAnswerWith, IsLineOf, search_options};
+ghost use Rattle.solver_top.specs.Outcome.{CanOpen, IsAnswerOfInput, IsAnswerOfWords, IsFileAlone, IsFileCause, IsInputCause, IsTextCause, IsWordsCause, IsWritten, ReadsFile, told_of, told_text};
 ghost use Rattle.model_text.specs.Files.{WasAsked};
 
 use crate::printing::known_objective;
 use crate::status::Status;
 use answer::{Answer, Gates, answer, law_unfinished_marks};
 use command_line::{Config, Input, Options, WordsError, read_words};
+use domain_text::domains_of;
 use fzn_io::{ReadError as FileError, Source, read_named};
 use fzn_model::{FaultKind, FznModel, law_well_formed};
 use fzn_print::print_answer;
@@ -64,30 +65,41 @@ fn answer_of_input<R: Threads + Sync, S: Source, C: Gate + Sync, L: Gate + Sync>
     ensures asked { ReadsFile (Some (config_meant config.now))
         → WasAsked (told_text (S.held files.old) (Some (config_meant config.now))) (S.names files.old) (S.names files.new) (S.left files.new) (S.is_open files.new) (IsErrOf result Status.ReadFault) }
 {
+    let text = text_of_input(alloc, config, files)?;
+    written_of_text(rt, alloc, &text, config, gates)
+}
+
+/// The text of the file, or the made text.
+fn text_of_input<S: Source>(
+    alloc: Global,
+    config: &Config<'_>,
+    files: &mut S,
+) -> Result<Vec<u8>, Status>
+    requires config { IsConfig config.now }
+    requires open { CanOpen (S.names files.old) (Some (config_meant config.now)) }
+    ensures ok { IfOk result (λ text. IsHeld (told_of (S.held files.old) (input_meant config.now.input)) text.items) }
+    ensures cause { IfErr result (IsInputCause (S.held files.old) (input_meant config.now.input) (S.faults files.old) (S.faults files.new)) }
+    ensures unread { (ReadsFile (Some (config_meant config.now)) → ⊥) → files.new ≡ files.old }
+    ensures held_kept { S.held files.new ≡ S.held files.old }
+    ensures asked { ReadsFile (Some (config_meant config.now))
+        → WasAsked (told_text (S.held files.old) (Some (config_meant config.now))) (S.names files.old) (S.names files.new) (S.left files.new) (S.is_open files.new) (IsErrOf result Status.ReadFault) }
+{
     match config.input {
-        Input::File(name) => answer_of_file(rt, alloc, name, &config.options, files, gates),
-        Input::Made(n) => line_of_made(rt, alloc, n, &config.options, gates),
+        Input::File(name) => text_of_file(alloc, name, files),
+        Input::Made(n) => text_of_made(alloc, n),
     }
 }
 
-/// The answer of the text of a file.
-fn answer_of_file<R: Threads + Sync, S: Source, C: Gate + Sync, L: Gate + Sync>(
-    rt: &R,
-    alloc: Global,
-    name: &str,
-    options: &Options,
-    files: &mut S,
-    gates: &Gates<C, L>,
-) -> Result<Vec<u8>, Status>
-    requires options { AreOptions options.now }
-    requires open { IsFileAlone (S.names files.old) name.now }
-    ensures ok { IfOk result (λ bytes. IsAnswerOfInput (S.held files.old) options.now (file name.now) bytes.items) }
-    ensures cause { IfErr result (IsFileCause (S.held files.old name.now) (S.faults files.old) (S.faults files.new)) }
-    ensures held_kept { S.held files.new ≡ S.held files.old }
-    ensures asked { WasAsked (S.held files.old name.now) (S.names files.old) (S.names files.new) (S.left files.new) (S.is_open files.new) (IsErrOf result Status.ReadFault) }
+/// The made text of `n` variables, 2 to 2000.
+fn text_of_made(alloc: Global, n: u32) -> Result<Vec<u8>, Status>
+    requires { (2 ≤ n) × (n ≤ 2000) }
+    ensures ok { IfOk result (λ text. text.items ≡ made n) }
+    ensures cause { IfErr result (λ status. status ≡ Status.NoMemory) }
 {
-    let text = text_of_file(alloc, name, files)?;
-    answer_of_text(rt, alloc, &text, options, gates)
+    let Ok(text) = made_text(alloc, n) else {
+        return Err(Status::NoMemory);
+    };
+    Ok(text)
 }
 
 /// The text of a file.
@@ -110,6 +122,46 @@ fn text_of_file<S: Source>(alloc: Global, name: &str, files: &mut S) -> Result<V
     }
 }
 
+/// What is to be written of a text.
+fn written_of_text<R: Threads + Sync, C: Gate + Sync, L: Gate + Sync>(
+    rt: &R,
+    alloc: Global,
+    text: &[u8],
+    config: &Config<'_>,
+    gates: &Gates<C, L>,
+) -> Result<Vec<u8>, Status>
+    requires { IsConfig config.now }
+    ensures ok { IfOk result (λ bytes. IsWritten config.now.options (input_meant config.now.input) text.now bytes.items) }
+    ensures cause { IfErr result (IsTextCause text.now) }
+{
+    if config.options.domains {
+        return domains_of_text(rt, alloc, text, &config.options, gates);
+    }
+    match config.input {
+        Input::File(_) => answer_of_text(rt, alloc, text, &config.options, gates),
+        Input::Made(n) => line_of_text(rt, alloc, n, text, &config.options, gates),
+    }
+}
+
+/// The domains that propagation leaves, of a text.
+fn domains_of_text<R: Threads + Sync, C: Gate + Sync, L: Gate + Sync>(
+    rt: &R,
+    alloc: Global,
+    text: &[u8],
+    options: &Options,
+    gates: &Gates<C, L>,
+) -> Result<Vec<u8>, Status>
+    requires { AreOptions options.now }
+    ensures ok { IfOk result (λ bytes. AreDomainsOf text.now bytes.items) }
+    ensures cause { IfErr result (IsTextCause text.now) }
+{
+    let model = model_of(alloc, text)?;
+    match domains_of(rt, alloc, &model, options.lanes, gates.lanes) {
+        Ok(bytes) => Ok(bytes),
+        Err(_) => Err(Status::NoMemory),
+    }
+}
+
 /// The answer of a text.
 fn answer_of_text<R: Threads + Sync, C: Gate + Sync, L: Gate + Sync>(
     rt: &R,
@@ -128,25 +180,6 @@ fn answer_of_text<R: Threads + Sync, C: Gate + Sync, L: Gate + Sync>(
     };
     match print_answer(alloc, &model, &answer) {
         Ok(bytes) => Ok(bytes),
-        Err(_) => Err(Status::NoMemory),
-    }
-}
-
-/// The line of the made text of `n` variables, 2 to 2000.
-fn line_of_made<R: Threads + Sync, C: Gate + Sync, L: Gate + Sync>(
-    rt: &R,
-    alloc: Global,
-    n: u32,
-    options: &Options,
-    gates: &Gates<C, L>,
-) -> Result<Vec<u8>, Status>
-    requires count { (2 ≤ n) × (n ≤ 2000) }
-    requires options { AreOptions options.now }
-    ensures ok { IfOk result (λ bytes. IsLineOf options.now n (made n) bytes.items) }
-    ensures cause { IfErr result (IsTextCause (made n)) }
-{
-    match made_text(alloc, n) {
-        Ok(text) => line_of_text(rt, alloc, n, &text, options, gates),
         Err(_) => Err(Status::NoMemory),
     }
 }

@@ -43,7 +43,7 @@ impl Status {
 }
 
 const USAGE: &[u8] =
-    b"usage: turbofzn [-a] [-p N] [--lanes N] [--depth D] [--node-limit N] [--round-limit N] [--steal] (FILE or --make N)\n";
+    b"usage: turbofzn [-a] [-p N] [--lanes N] [--depth D] [--node-limit N] [--round-limit N] [--domains] [--steal] (FILE or --make N)\n";
 
 /// What is written where memory is refused.
 const OUT_OF_MEMORY: &[u8] = b"out of memory\n";

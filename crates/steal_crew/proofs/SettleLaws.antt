@@ -15,7 +15,7 @@ use Rattle.steal_crew.specs.Numbers.{AreSameNumbers, IsOnceAtMost, numbers_below
 use Rattle.steal_crew.specs.Rule.{IsAllTaken, IsSomeLeft}
 use Rattle.steal_crew.specs.Rights.{Right, right_of, taken_by}
 use Rattle.steal_crew.specs.Hands.{Standing, standing_of, lent_to, AreWhole, AreHandsOfOneDeal, count_of, dealt_of, taken_of, drawn_of, all_drawn, own_view, is_done, rights_of, rights_at}
-use Rattle.steal_crew.specs.Settling.{AreKept}
+use Rattle.steal_crew.specs.Settling.{AreKept, AreLookedAt}
 use Rattle.steal_crew.specs.declared.hand.Hand.{Hand}
 use Rattle.steal_crew.specs.declared.victim.Victim.{Victim}
 use Rattle.steal_crew.proofs.NumberLaws.{each_of_same, once_of_part, weight-ones, length-below}
@@ -202,3 +202,20 @@ module _ (n : ℕ) (old given looked : List Hand) (kept : AreKept old given) (wh
 pub on_true : {P : Type 0} (b : Bool) → (b ≡ true → P) → OnTrue b P
 on_true true f = f refl
 on_true false f = tt
+
+-- passes that are given back leave it to the looks which hands are done
+same_done : (old given : List Hand) → AreKept old given → (i : ℕ) (d : Hand) → i < length old → is_done (get_or given i d) ≡ is_done (get_or old i d)
+same_done old given kept i d lt =
+    let l = kept_length old given kept in
+    sym (get_or-map is_done given i d false (omega arith)) ∙ ap (λ (bs : List Bool). get_or bs i false) kept.done ∙ get_or-map is_done old i d false lt
+
+pub settled_looked : (old given looked : List Hand) → AreKept old given
+    → ((i : ℕ) (d : Hand) → i < length given → is_done (get_or looked i d) ≡ true → is_done (get_or given i d) ≡ true)
+    → ((i : ℕ) (d : Hand) → i < length given → is_done (get_or given i d) ≡ true → is_done (get_or looked i d) ≡ false → IsSomeLeft (own_view (get_or looked i d)))
+    → AreLookedAt old looked
+settled_looked old given looked kept fewer some =
+    let l = kept_length old given kept in
+    record {
+      still = λ i d lt on. sym (same_done old given kept i d lt) ∙ fewer i d (omega arith) on;
+      left = λ i d lt was off. some i d (omega arith) (same_done old given kept i d lt ∙ was) off;
+    }

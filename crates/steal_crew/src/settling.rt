@@ -8,7 +8,7 @@ ghost use Rattle.steal_crew.specs.Numbers.{IsOnceAtMost};
 ghost use Rattle.steal_crew.specs.Rule.{IsAllTaken, IsSomeLeft};
 ghost use Rattle.steal_crew.specs.Rights.{right_of, taken_by};
 ghost use Rattle.steal_crew.specs.Hands.{AreHandsOfOneDeal, AreWhole, standing_of, rights_at, all_drawn, dealt_of, taken_of, drawn_of, is_done, own_view};
-ghost use Rattle.steal_crew.specs.Settling.{AreKept};
+ghost use Rattle.steal_crew.specs.Settling.{AreKept, AreLookedAt};
 
 use crate::hand::Hand;
 use crate::steps::{look, merge};
@@ -135,6 +135,7 @@ pub fn settle(hands: &mut Vec<Hand>) -> bool
     ensures complete { (n : ℕ) → AreHandsOfOneDeal n hands.old.items → list_all is_done hands.old.items ≡ true → IsEachOnce n (all_drawn hands.old.items) → result ≡ true }
     ensures answer { result ≡ list_all is_done hands.new.items }
     ensures done { OnTrue result (list_all is_done hands.old.items ≡ true) }
+    ensures looked { AreLookedAt hands.old.items hands.new.items }
 {
     law_counting();
     give_all_back(hands);

@@ -1,4 +1,8 @@
 //! Numbered subproblems, asked for one after another.
+//!
+//! `Walk::path_box`: each number leads to the same box, or none, as it does alone, whatever was asked before; after want of
+//! memory the walk may be asked again. It keeps the way to the last number, which only saves time. It stands on `subproblems`
+//! and `moved_fixpoint`.
 #![tactic(auto)]
 
 mod cutter;

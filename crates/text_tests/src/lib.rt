@@ -31,4 +31,6 @@ mod streams;
 #[cfg(test)]
 mod tokens;
 #[cfg(test)]
+mod turns;
+#[cfg(test)]
 mod words;

@@ -12,6 +12,7 @@ const DEFAULTS: Options = Options {
     depth: 6,
     node_limit: 0,
     round_limit: 0,
+    domains: false,
     steal: false,
 };
 
@@ -37,11 +38,17 @@ fn options_and_what_is_solved_are_read(rt: HostRuntime) -> Result<(), Fail> {
         depth: 0,
         node_limit: 1_000_000_000_000,
         round_limit: 7,
+        domains: true,
         steal: true,
     };
     let thieves = Options {
         workers: 2,
         steal: true,
+        ..DEFAULTS
+    };
+    let domains = Options {
+        lanes: 3,
+        domains: true,
         ..DEFAULTS
     };
     let table = [
@@ -52,11 +59,12 @@ fn options_and_what_is_solved_are_read(rt: HostRuntime) -> Result<(), Fail> {
         ("turbofzn f -a", all, Input::File("f")),
         ("turbofzn -- -a", DEFAULTS, Input::File("-a")),
         (
-            "turbofzn -ap64 --lanes=3 --depth 0 --node-limit 1000000000000 --round-limit 007 --steal f",
+            "turbofzn -ap64 --lanes=3 --depth 0 --node-limit 1000000000000 --round-limit 007 --domains --steal f",
             every,
             Input::File("f"),
         ),
         ("turbofzn --steal -p 2 f", thieves, Input::File("f")),
+        ("turbofzn f --domains --lanes 3", domains, Input::File("f")),
         ("turbofzn --make 2", DEFAULTS, Input::Made(2)),
         ("turbofzn f --make +2000", DEFAULTS, Input::Made(2000)),
     ];
@@ -90,6 +98,10 @@ fn other_words_are_not_taken(rt: HostRuntime) -> Result<(), Fail> {
         "turbofzn --round-limit 18446744073709551616 f",
         "turbofzn --steal=1 f",
         "turbofzn --steal --steal f",
+        "turbofzn --domains",
+        "turbofzn --domains=true f",
+        "turbofzn --domains --domains f",
+        "turbofzn --domains --depth 17 f",
         "turbofzn --make 1",
         "turbofzn --make 2001 f",
     ];

@@ -1,4 +1,7 @@
 //! `turbofzn`: solves the FlatZinc file that its words name, and ends with the status of the call.
+//!
+//! It hands the real words, files and streams to `solve_main` of `solver_top`; that these are what the system says is trusted.
+//! It promises nothing but to be safe, and is run on a stored text by the gate.
 #![tactic(auto)]
 
 use fzn_io::{FileSource, StdSink};

@@ -1,7 +1,6 @@
-use Rattle.std.proofs.Common.{◌≡◌, ◌∙◌, ap₂, codes}
+use Rattle.std.proofs.Common.{◌∙◌, ap₂}
 use Rattle.std.proofs.lemmas.Result.{IfOk-weaker}
-use Rattle.clap.specs.Simple.{App, app_of, new_app, with_rule}
-use Rattle.command_line.specs.CommandLine.{command, flag_rule, letter_rule, plain_rule, word_flag_rule, word_rule}
+use Rattle.clap.specs.Simple.{with_rule}
 use Rattle.command_line.proofs.command.command.Goals as goal
 
 pub returns : goal.returns
@@ -13,5 +12,6 @@ returns c =
     let five = c.in_ok-arg-5.ensures.shape c.number-3.ensures.own ∙ ap₂ with_rule four c.number-3.ensures.rule in
     let six = c.in_ok-arg-6.ensures.shape c.number-4.ensures.own ∙ ap₂ with_rule five c.number-4.ensures.rule in
     let seven = c.in_ok-arg-7.ensures.shape c.word_flag.ensures.own ∙ ap₂ with_rule six c.word_flag.ensures.rule in
-    let eight = c.in_ok-arg-8.ensures.shape c.plain_number.ensures.own ∙ ap₂ with_rule seven c.plain_number.ensures.rule in
-    IfOk-weaker c.arg-9.result _ _ (λ made h. h.shape c.new-2.ensures.optional.1 ∙ ap₂ with_rule eight c.new-2.ensures.rule) c.arg-9.ensures
+    let eight = c.in_ok-arg-8.ensures.shape c.word_flag-2.ensures.own ∙ ap₂ with_rule seven c.word_flag-2.ensures.rule in
+    let nine = c.in_ok-arg-9.ensures.shape c.plain_number.ensures.own ∙ ap₂ with_rule eight c.plain_number.ensures.rule in
+    IfOk-weaker c.arg-10.result _ _ (λ made h. h.shape c.new-2.ensures.optional.1 ∙ ap₂ with_rule nine c.new-2.ensures.rule) c.arg-10.ensures

@@ -1,4 +1,4 @@
-use Rattle.std.proofs.Common.{◌≡◌, ◌∙◌, Option, None, Some, refl, sym, ap, option_map, codes}
+use Rattle.std.proofs.Common.{◌∙◌, sym, ap, option_map, codes}
 use Rattle.clap.specs.Matches.{found_of}
 use Rattle.clap.proofs.WalkLemmas.{first_value-rows}
 use Rattle.command_line.specs.CommandLine.{file, input_meant, made}

@@ -1,4 +1,4 @@
-use Rattle.std.proofs.Common.{◌∙◌, sym, ◌≤◌, refl, arith, inl, inr}
+use Rattle.std.proofs.Common.{◌∙◌, sym, refl, arith, inl, inr}
 use Rattle.std.specs.Str.Parse.{ExplainsUnsignedError, HasUnsignedDigitsIfOk, ParsesUnsigned}
 use Rattle.clap.specs.Matches.{found_of}
 use Rattle.command_line.proofs.WordLaws.{number_is_in, number_is_none, number_is_out}

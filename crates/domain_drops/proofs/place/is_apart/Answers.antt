@@ -1,7 +1,7 @@
 -- A value from 1 on and up to the length is the place before it, counted from 0; any other is none.
 use Rattle.std.proofs.Common.{◌≡◌, ◌<◌, ◌-◌, ◌∙◌, pos, suc, ◌+◌, not, length, unsigned_abs, sym, ap, arith, w64, to_z, of_z}
 use Rattle.std.proofs.lemmas.Int.{ints, to_z-of_z}
-use Rattle.guarded_tell.specs.Extremes.{member_limit}
+use Rattle.extreme_tells.specs.Extremes.{member_limit}
 use Rattle.domain_drops.proofs.PlaceLaws.{place_apart, no_place_apart}
 use Rattle.domain_drops.proofs.place.is_apart.Goals as goal
 use Rattle.domain_drops.proofs.place.is_apart.Goals.{else-value-ge1-via-then-value-ge1+else-value-entries, else-value-ge1-via-else-value-ge1}

@@ -1,7 +1,7 @@
 -- The kernel's variables are there.
 use Rattle.std.proofs.Common.{ℕ, zero, suc, ◌<◌, List, ◌∷◌, length, get_or, arith}
 use Rattle.std.specs.Prelude.{All}
-use Rattle.guarded_tell.specs.Extremes.{member_limit}
+use Rattle.extreme_tells.specs.Extremes.{member_limit}
 use Rattle.guarded_tell.specs.Kernels.{vars_of, HasNumbers}
 use Rattle.fixpoint_tests.proofs.naming.element.Goals as goal
 

@@ -1,5 +1,5 @@
 -- One line for each kernel.
-use Rattle.std.proofs.Common.{ℕ, ℤ, ◌<◌, List, length}
+use Rattle.std.proofs.Common.{ℕ, ℤ, ◌<◌, List, length, [], ◌∷◌}
 use Rattle.std.specs.List.{All, Contains}
 use Rattle.interval.specs.Limits.{IsBound, ClampOrder}
 use Rattle.interval.specs.Boxes.{Bounds}
@@ -7,28 +7,38 @@ use Rattle.guarded_tell.specs.declared.kernel.Kernel.{Kernel}
 use Rattle.guarded_tell.specs.declared.kernel.Kernel.TheVariants.{Le, Eq, Times, Div, Mod, Abs, Max, Min, Clause, Element, InSet, AllDiff, Cumulative}
 use Rattle.guarded_tell.specs.Words.{AreVariables}
 use Rattle.guarded_tell.specs.Kernels.{vars_of, tells, HasNumbers}
+use Rattle.set_tells.specs.InSet.{in_set_tells}
+use Rattle.tells.specs.declared.tell.Lit.{Lit}
+use Rattle.element_tells.specs.Element.{element_tells}
+use Rattle.extreme_tells.specs.Maximum.{max_tells}
+use Rattle.extreme_tells.specs.Minimum.{min_tells}
+use Rattle.tells.specs.Laws.{TellsOnly}
+use Rattle.arithmetic_tells.specs.Absolute.{abs_tells}
+use Rattle.arithmetic_tells.specs.Division.{div_tells}
+use Rattle.arithmetic_tells.specs.Remainder.{mod_tells}
+use Rattle.arithmetic_tells.specs.Times.{times_tells}
 use Rattle.tells.specs.declared.tell.Tell.{Tell}
 use Rattle.global_tells.specs.AllDifferent.{all_different_tells}
 use Rattle.global_tells.specs.Cumulative.{AreTasks, tasks_of, cumulative_tells}
 use Rattle.guarded_tell.proofs.PlaceLaws.{IsPlaced}
 use Rattle.guarded_tell.proofs.LePlace.{le_placed}
 use Rattle.guarded_tell.proofs.EqualityPlace.{eq_placed}
-use Rattle.guarded_tell.proofs.TimesLaws.{times_placed}
-use Rattle.guarded_tell.proofs.DivisionLaws.{div_placed}
-use Rattle.guarded_tell.proofs.RemainderLaws.{mod_placed}
-use Rattle.guarded_tell.proofs.AbsoluteLaws.{abs_placed}
-use Rattle.guarded_tell.proofs.MaximumLaws.{max_placed}
-use Rattle.guarded_tell.proofs.MinimumLaws.{min_placed}
 use Rattle.guarded_tell.proofs.ClauseLaws.{clause_placed}
-use Rattle.guarded_tell.proofs.ElementLaws.{element_placed}
-use Rattle.guarded_tell.proofs.InSetLaws.{in_set_placed}
 use Rattle.guarded_tell.proofs.laws.law_tell_place.Goals as goal
 
--- where the tells of the two global constraints are
+-- where the tells of the families are
 abbrev AtPlace : List ℕ → Bounds → List Tell → Type 0
 AtPlace vars b ts = All (λ t. Contains vars t.var × (t.var < length b) × IsBound t.bound) ts
 
 record Places : Type 0 where
+  product : (x y z : ℕ) → TellsOnly (x ∷ y ∷ z ∷ []) (times_tells x y z)
+  quotient : (x y z : ℕ) → TellsOnly (x ∷ y ∷ z ∷ []) (div_tells x y z)
+  remainder : (x y z : ℕ) → TellsOnly (x ∷ y ∷ z ∷ []) (mod_tells x y z)
+  absolute : (x y : ℕ) → TellsOnly (x ∷ y ∷ []) (abs_tells x y)
+  maximum : (m : ℕ) (xs : List ℕ) → TellsOnly (m ∷ xs) (max_tells m xs)
+  minimum : (m : ℕ) (xs : List ℕ) → TellsOnly (m ∷ xs) (min_tells m xs)
+  element : (x : ℕ) (entries : List ℕ) (z : ℕ) → TellsOnly (x ∷ z ∷ entries) (element_tells x entries z)
+  in_set : (l : Lit) (x : ℕ) (ranges : List (ℤ × ℤ)) → TellsOnly (l.var ∷ x ∷ []) (in_set_tells l x ranges)
   different : (xs : List ℕ) (b : Bounds) → AreVariables (length b) xs → AtPlace xs b (all_different_tells xs b)
   cumulative : (s : List ℕ) (d r : List ℤ) (limit : ℤ) (b : Bounds) → AreTasks s d r limit → AreVariables (length b) s → AtPlace s b (cumulative_tells (tasks_of s d r) limit b)
 
@@ -39,17 +49,17 @@ placed : Places → ClampOrder → (k : Kernel) (b : Bounds) → HasNumbers k �
 unfolding vars_of tells HasNumbers
 placed o c (Le l coeffs vars limit) b n variables = le_placed c (length b) l coeffs vars limit b n.same_length variables
 placed o c (Eq l coeffs vars limit) b n variables = eq_placed c (length b) l coeffs vars limit b n.same_length variables
-placed o c (Times x y z) b n variables = times_placed c (length b) x y z b variables
-placed o c (Div x y z) b n variables = div_placed c (length b) x y z b variables
-placed o c (Mod x y z) b n variables = mod_placed c (length b) x y z b variables
-placed o c (Abs x y) b n variables = abs_placed c (length b) x y b variables
-placed o c (Max m xs) b n variables = max_placed c (length b) m xs b variables
-placed o c (Min m xs) b n variables = min_placed c (length b) m xs b variables
+placed o c (Times x y z) b n variables = as_placed (x ∷ y ∷ z ∷ []) b (times_tells x y z b) (o.product x y z b variables)
+placed o c (Div x y z) b n variables = as_placed (x ∷ y ∷ z ∷ []) b (div_tells x y z b) (o.quotient x y z b variables)
+placed o c (Mod x y z) b n variables = as_placed (x ∷ y ∷ z ∷ []) b (mod_tells x y z b) (o.remainder x y z b variables)
+placed o c (Abs x y) b n variables = as_placed (x ∷ y ∷ []) b (abs_tells x y b) (o.absolute x y b variables)
+placed o c (Max m xs) b n variables = as_placed (m ∷ xs) b (max_tells m xs b) (o.maximum m xs b variables)
+placed o c (Min m xs) b n variables = as_placed (m ∷ xs) b (min_tells m xs b) (o.minimum m xs b variables)
 placed o c (Clause lits) b n variables = clause_placed c (length b) lits b variables
-placed o c (Element x entries z) b n variables = element_placed c (length b) x z entries b variables
-placed o c (InSet l x ranges) b n variables = in_set_placed c (length b) l x ranges b variables
+placed o c (Element x entries z) b n variables = as_placed (x ∷ z ∷ entries) b (element_tells x entries z b) (o.element x entries z b variables)
+placed o c (InSet l x ranges) b n variables = as_placed (l.var ∷ x ∷ []) b (in_set_tells l x ranges b) (o.in_set l x ranges b variables)
 placed o c (AllDiff xs) b n variables = as_placed xs b (all_different_tells xs b) (o.different xs b variables)
 placed o c (Cumulative starts durations usages limit) b n variables = as_placed starts b (cumulative_tells (tasks_of starts durations usages) limit b) (o.cumulative starts durations usages limit b n variables)
 
 pub returns : goal.returns
-returns c = λ k b kernel i d h. let p = placed (record { different = c.law_all_different_place.ensures; cumulative = c.law_cumulative_place.ensures }) c.law_clamp_order.ensures k b kernel.numbers kernel.variables i d h in (p.named, p.in_box, p.bound)
+returns c = λ k b kernel i d h. let p = placed (record { product = c.law_product_place.ensures; quotient = c.law_quotient_place.ensures; remainder = c.law_remainder_place.ensures; absolute = c.law_absolute_place.ensures; maximum = c.law_maximum_place.ensures; minimum = c.law_minimum_place.ensures; element = c.law_element_place.ensures; in_set = c.law_in_set_place.ensures; different = c.law_all_different_place.ensures; cumulative = c.law_cumulative_place.ensures }) c.law_clamp_order.ensures k b kernel.numbers kernel.variables i d h in (p.named, p.in_box, p.bound)

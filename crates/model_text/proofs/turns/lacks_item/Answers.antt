@@ -3,8 +3,8 @@ use Rattle.model_text.specs.Texts.{IsFaultOf}
 use Rattle.model_text.proofs.TurnLaws.{TurnLaws, lacking, stuck_lacking}
 use Rattle.model_text.proofs.turns.lacks_item.Goals as goal
 
-pub survey-requires : goal.survey-requires
-survey-requires c = c.requires.lacks.lexed.inside
+pub pass_tokens-requires : goal.pass_tokens-requires
+pass_tokens-requires c = c.requires.lacks.lexed.inside
 
 pub returns-in-Ok : goal.returns-in-Ok
 returns-in-Ok c =

@@ -10,7 +10,10 @@ shape_of-requires-in-loop-j c = subst HasNumbers (sym c.index-kernels-j.is) (c.r
 pub loop-j-preserved : goal.loop-j-preserved
 loop-j-preserved c =
     subst (AreFirstShapes c.args.kernels.now (c.loop-j.j + 1)) (sym c.in_ok-push.ensures.items)
-    (shapes_more c.args.kernels.now c.loop-j.j c.index-kernels-j.result c.loop-j.shapes.items c.shape_of.result (omega arith) c.index-kernels-j.is c.shape_of.ensures.shape c.loop-j.invariant)
+    (shapes_more c.args.kernels.now c.loop-j.j c.index-kernels-j.result c.loop-j.shapes.items c.shape_of.result (omega arith) c.index-kernels-j.is c.shape_of.ensures.shape c.shape_of.ensures.shortest c.loop-j.invariant)
 
-pub returns : goal.returns
-returns c = record { same_length = omega (arith, c.loop-j.invariant.same_length); each = λ i k s h. c.loop-j.invariant.each i k s (omega arith) }
+pub returns-clause-shapes : goal.returns-clause-shapes
+returns-clause-shapes c = record { same_length = omega (arith, c.loop-j.invariant.same_length); each = λ i k s h. c.loop-j.invariant.each i k s (omega arith) }
+
+pub returns-clause-own : goal.returns-clause-own
+returns-clause-own c = record { each = λ i k s t h. c.loop-j.invariant.own i k s t (omega arith) }

@@ -1,16 +1,20 @@
-use Rattle.std.proofs.Common.{Some, subst}
+use Rattle.std.proofs.Common.{ℕ, List, subst, sym}
+use Rattle.fzn_io.specs.Streams.{IsHeld}
+use Rattle.solver_top.specs.Outcome.{told_of}
 use Rattle.std.proofs.lemmas.Result.{IfOk-weaker}
 use Rattle.command_line.specs.CommandLine.{input_meant}
-use Rattle.solver_top.specs.Outcome.{CanOpen}
-use Rattle.solver_top.proofs.OutcomeLaws.{can_open, made_answer}
+use Rattle.solver_top.proofs.OutcomeLaws.{answer_of_held, input_cause_of_result}
 use Rattle.solver_top.proofs.solving.answer_of_input.Goals as goal
 
-pub answer_of_file-requires-clause-open : goal.answer_of_file-requires-clause-open
-answer_of_file-requires-clause-open g c = λ lives outlive.
-    can_open (g.S.Source.names c.args.files.now) c.args.config.now.options c.in-File.name.now
-    (subst (λ i. CanOpen (g.S.Source.names c.args.files.now) (Some (c.args.config.now.options, input_meant i))) c.in-File.is c.requires.open)
+pub returns-clause-ok : goal.returns-clause-ok
+returns-clause-ok g c =
+    IfOk-weaker c.written_of_text.result _ _
+    (λ bytes written. answer_of_held (g.S.Source.held c.args.files.now) c.args.config.now.options (input_meant c.args.config.now.input) c.in_ok-text.text.items _ bytes.items c.in_ok-text.ensures.ok
+    c.deref.ensures.value written)
+    c.written_of_text.ensures.ok
 
-pub returns-in-Made-clause-ok : goal.returns-in-Made-clause-ok
-returns-in-Made-clause-ok g c =
-    IfOk-weaker c.line_of_made.result _ _ (λ bytes line. made_answer (g.S.Source.held c.args.files.now) c.args.config.now.options c.args.config.now.input c.in-Made.n bytes.items c.in-Made.is line)
-    c.line_of_made.ensures.ok
+pub returns-clause-cause : goal.returns-clause-cause
+returns-clause-cause g c =
+    let held = told_of (g.S.Source.held c.args.files.now) (input_meant c.args.config.now.input) in
+    let told = subst (λ (t : List ℕ). IsHeld held t) (sym c.deref.ensures.value) c.in_ok-text.ensures.ok in
+    input_cause_of_result (g.S.Source.held c.args.files.now) (input_meant c.args.config.now.input) _ _ _ c.written_of_text.result told c.written_of_text.ensures.cause

@@ -1,4 +1,3 @@
-use Rattle.std.proofs.Common.{◌≡◌, Result, Ok, Err, IfOk}
 use Rattle.solver_top.proofs.KnownLaws.{answered_with}
 use Rattle.solver_top.proofs.solving.search.Goals as goal
 

@@ -1,4 +1,4 @@
-use Rattle.std.proofs.Common.{◌≡◌, ◌∙◌, sym}
+use Rattle.std.proofs.Common.{◌∙◌, sym}
 use Rattle.solver_top.proofs.OutcomeLaws.{cause_reported, status_before, never_answered, never_unwritten, wrote_front, wrote_whole, ends_answered, ends_refused, ends_unread, never_reported, no_written_fault, nothing_answered, nothing_reported, read_reported, refused_reported, usage_reported}
 use Rattle.solver_top.specs.declared.status.Status.TheVariants.{Answered, WriteFault}
 use Rattle.solver_top.proofs.top.solve_main.Goals.{in-Ok, in-Err}

@@ -1,7 +1,7 @@
 use Rattle.std.proofs.Common.{◌≡◌, sym, ap, ◌∙◌}
 use Rattle.std.specs.List.{list_all}
 use Rattle.steal_crew.specs.Hands.{all_drawn, is_done}
-use Rattle.steal_crew.proofs.SettleLaws.{settled_deal, settled_once, settled_all, settled_complete, settled_done, on_true}
+use Rattle.steal_crew.proofs.SettleLaws.{settled_deal, settled_once, settled_all, settled_complete, settled_done, settled_looked, on_true}
 use Rattle.steal_crew.proofs.settling.settle.Goals as goal
 
 pub returns-clause-deal : goal.returns-clause-deal
@@ -31,3 +31,7 @@ returns-clause-complete c = λ n deal done each.
     let g = c.give_all_back.ensures in let k = c.check_all.ensures in
     let is : c.are_done.result ≡ list_all is_done c.check_all.new.hands.items = c.are_done.ensures ∙ ap (list_all is_done) c.deref.ensures.value in
     is ∙ settled_complete n c.args.hands.now.items c.give_all_back.new.hands.items c.check_all.new.hands.items g.kept g.whole g.given k.standings k.taken k.drawn deal k.some done (c.law_counting.ensures.all n (all_drawn c.args.hands.now.items) each)
+
+pub returns-clause-looked : goal.returns-clause-looked
+returns-clause-looked c =
+    settled_looked c.args.hands.now.items c.give_all_back.new.hands.items c.check_all.new.hands.items c.give_all_back.ensures.kept c.check_all.ensures.done c.check_all.ensures.some

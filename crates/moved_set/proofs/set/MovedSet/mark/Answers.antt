@@ -1,9 +1,9 @@
 use Rattle.std.proofs.Common.{◌≡◌, ◌<◌, ◌/◌, ◌%◌, ◌*◌, ◌^◌, ℕ, List, Bool, true, false, bit_or, set, length, get_or, sym, ap, subst, ◌∙◌, arith}
 use Rattle.std.proofs.lemmas.List.{get_or_read, length-set}
 use Rattle.moved_set.specs.Words.{has, set_of}
-use Rattle.moved_set.specs.Listed.{IsListing}
+use Rattle.moved_set.specs.Listed.{IsListing, IsWorthwhile}
 use Rattle.moved_set.proofs.SetLaws.{length-set_of, set_of_at, set_of_marked, word_there}
-use Rattle.moved_set.proofs.ListedLaws.{listing_put}
+use Rattle.moved_set.proofs.ListedLaws.{listing_put, worthwhile_put}
 use Rattle.moved_set.proofs.set.MovedSet.mark.Goals as goal
 
 pub is_set-is_known-requires : goal.is_set-is_known-requires
@@ -26,6 +26,9 @@ invariant_of-self c =
       listing = subst (IsListing c.put.new.self) (sym marked)
           (listing_put c.self.inside.few c.put.new.self (set_of c.self.inside.words.items c.self.inside.count) c.args.v c.is_set-is_known.result
           (omega (arith, length-set_of c.self.inside.words.items c.self.inside.count)) known c.put.ensures c.self.invariant.listing);
+      worthwhile = subst (IsWorthwhile c.put.new.self) (sym marked)
+          (worthwhile_put c.self.inside.few c.put.new.self (set_of c.self.inside.words.items c.self.inside.count) c.args.v c.is_set-is_known.result
+          (omega (arith, length-set_of c.self.inside.words.items c.self.inside.count)) known c.put.ensures c.self.invariant.worthwhile);
     }
 
 pub returns : goal.returns

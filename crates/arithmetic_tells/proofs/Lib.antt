@@ -1,0 +1,13 @@
+pub mod Lists
+pub mod BoundLaws
+pub mod LiteralLaws
+pub mod PlaceLaws
+pub mod TimesLaws
+pub mod AbsoluteLaws
+pub mod DivisionCode
+pub mod TruncationLaws
+pub mod DivisorLaws
+pub mod DivisionLaws
+pub mod RemainderLaws
+pub mod ProductQuiet
+pub mod PointLaws

@@ -1,0 +1,6 @@
+use Rattle.arithmetic_tells.proofs.RemainderLaws.{mod_monotone}
+use Rattle.arithmetic_tells.proofs.laws.law_remainder_monotone.Goals as goal
+
+pub returns : goal.returns
+returns c = λ x y z outer inner variables range proper inside closed.
+    mod_monotone inner outer c.law_quotient_order.ensures c.law_clamp_order.ensures x y z proper inside closed

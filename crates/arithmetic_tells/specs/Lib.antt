@@ -1,0 +1,5 @@
+pub mod Times
+pub mod Absolute
+pub mod Division
+pub mod Remainder
+pub mod Products

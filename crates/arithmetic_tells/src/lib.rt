@@ -1,0 +1,26 @@
+//! The bounds that products, quotients, remainders and absolute values tell.
+//!
+//! Exactly the tells of the definitions, in order (`visit_times`, `visit_div`, `visit_mod`, `visit_abs`), and a test
+//! without a division which sees that a product narrows nothing (`is_product_quiet`); monotone, exact at a point, on their
+//! own variables alone (`src/laws.rt`). It stands on `tells`; `guarded_tell` has the four as kernels. Begin with
+//! `specs/Times.antt`. All are on bounds: that the test sees each product which narrows nothing isn't claimed.
+#![tactic(auto)]
+
+mod absolute;
+mod division;
+mod laws;
+mod products;
+mod remainder;
+mod times;
+
+pub use absolute::visit_abs;
+pub use division::visit_div;
+pub use laws::{
+    law_absolute_local, law_absolute_monotone, law_absolute_place, law_absolute_point,
+    law_product_local, law_product_monotone, law_product_place, law_product_point,
+    law_quotient_local, law_quotient_monotone, law_quotient_place, law_quotient_point,
+    law_remainder_local, law_remainder_monotone, law_remainder_place, law_remainder_point,
+};
+pub use products::is_product_quiet;
+pub use remainder::visit_mod;
+pub use times::visit_times;

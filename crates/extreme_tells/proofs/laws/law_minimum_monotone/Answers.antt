@@ -1,0 +1,5 @@
+use Rattle.extreme_tells.proofs.MinimumLaws.{min_monotone}
+use Rattle.extreme_tells.proofs.laws.law_minimum_monotone.Goals as goal
+
+pub returns : goal.returns
+returns c = λ m xs outer inner variables range proper inside closed. min_monotone c.law_clamp_order.ensures m inner outer xs variables range proper inside closed

@@ -1,0 +1,3 @@
+pub mod Extremes
+pub mod Maximum
+pub mod Minimum

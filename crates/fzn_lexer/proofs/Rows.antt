@@ -1,0 +1,118 @@
+-- Rows of bytes that leave the machine in one state.
+use Rattle.std.proofs.Common.{◌≡◌, ◌<◌, ◌≤◌, ◌+◌, ◌∙◌, ℕ, Bool, List, drop, length, refl, sym, ap, subst, get_or}
+use Rattle.std.specs.Prelude.{true, false, Option, Some, None, not}
+use Rattle.std.specs.Char.{is_ascii_digit}
+use Rattle.std.specs.Prelude.{◌==◌, ◌&&◌, ◌≢◌, [], ◌∷◌, zero, suc}
+use Rattle.std.proofs.Common.{inl, inr, arith, zero-add}
+use Rattle.std.proofs.lemmas.Bool.{cond-true, cond-false, cases_Bool, eqb-true, and_parts}
+use Rattle.fzn_lexer.specs.Bytes.{is_word_byte, is_in_line}
+use Rattle.fzn_lexer.specs.Machine.{step, accepted, alive_if, digits_step, later, found_as, found_on, longest_found, word, int, comment}
+use Rattle.fzn_lexer.specs.declared.PieceKind.{PieceKind}
+use Rattle.fzn_lexer.specs.declared.machine.Found.{Found}
+use Rattle.fzn_lexer.specs.declared.machine.State.{State}
+use Rattle.fzn_lexer.specs.declared.machine.State.TheVariants.{Start, Dead, InWord, Digits, InComment}
+use Rattle.fzn_lexer.specs.declared.machine.TheConstants.{WORD_BYTES}
+use Rattle.fzn_lexer.proofs.Longest.{found_more, found_dead, found_all, dead_found}
+
+alive_at : (t : Bool) (q : State) → t ≡ true → alive_if t q ≡ q
+alive_at t q e = cond-true t q Dead e
+
+dead_at : (t : Bool) (q : State) → t ≡ false → alive_if t q ≡ Dead
+dead_at t q e = cond-false t q Dead e
+
+none_later : (o : Option Found) → later None o ≡ o
+none_later None = refl
+none_later (Some f) = refl
+
+-- one more byte that stays in the state
+row_more : (k : PieceKind) (q : State) (at : ℕ) (text : List ℕ) → at < length text → accepted q ≡ Some k → step q (get_or text at 0) ≡ q
+    → found_on (Some k) q (at + 1) text ≡ found_on (Some k) q at text
+row_more k q at text h a s =
+    let first : Option Found = found_as (Some k) at in
+    let whole : Option Found = found_on (Some k) q at text in
+    let more = found_more first whole q at text h refl in
+    let put = subst (λ (r : State). later (later first (found_as (accepted r) (at + 1))) (longest_found r (at + 1) (drop (at + 1) text)) ≡ whole) s more in
+    subst (λ (o : Option PieceKind). later (later first (found_as o (at + 1))) (longest_found q (at + 1) (drop (at + 1) text)) ≡ whole) a put
+
+row_dead : (k : PieceKind) (q : State) (at : ℕ) (text : List ℕ) → at < length text → step q (get_or text at 0) ≡ Dead
+    → found_on (Some k) q at text ≡ found_as (Some k) at
+row_dead k q at text h d = sym (found_dead (found_as (Some k) at) (found_on (Some k) q at text) q at text h refl d)
+
+row_end : (k : PieceKind) (q : State) (at : ℕ) (text : List ℕ) → length text ≤ at → found_on (Some k) q at text ≡ found_as (Some k) at
+row_end k q at text h = sym (found_all (found_as (Some k) at) (found_on (Some k) q at text) q at text h refl)
+
+pub word_more : (at : ℕ) (text : List ℕ) → at < length text → is_word_byte (get_or text at 0) ≡ true → found_on word InWord (at + 1) text ≡ found_on word InWord at text
+word_more at text h e = row_more _ InWord at text h refl (alive_at (is_word_byte (get_or text at 0)) InWord e)
+
+pub word_dead : (at : ℕ) (text : List ℕ) → at < length text → is_word_byte (get_or text at 0) ≡ false → found_on word InWord at text ≡ found_as word at
+word_dead at text h e = row_dead _ InWord at text h (dead_at (is_word_byte (get_or text at 0)) InWord e)
+
+pub word_all : (at : ℕ) (text : List ℕ) → length text ≤ at → found_on word InWord at text ≡ found_as word at
+word_all at text h = row_end _ InWord at text h
+
+pub digits_more : (at : ℕ) (text : List ℕ) → at < length text → is_ascii_digit (get_or text at 0) ≡ true → found_on int Digits (at + 1) text ≡ found_on int Digits at text
+digits_more at text h e = row_more _ Digits at text h refl (cond-true (is_ascii_digit (get_or text at 0)) Digits _ e)
+
+pub comment_more : (at : ℕ) (text : List ℕ) → at < length text → is_in_line (get_or text at 0) ≡ true → found_on comment InComment (at + 1) text ≡ found_on comment InComment at text
+comment_more at text h e = row_more _ InComment at text h refl (alive_at (is_in_line (get_or text at 0)) InComment e)
+
+pub comment_dead : (at : ℕ) (text : List ℕ) → at < length text → is_in_line (get_or text at 0) ≡ false → found_on comment InComment at text ≡ found_as comment at
+comment_dead at text h e = row_dead _ InComment at text h (dead_at (is_in_line (get_or text at 0)) InComment e)
+
+pub comment_all : (at : ℕ) (text : List ℕ) → length text ≤ at → found_on comment InComment at text ≡ found_as comment at
+comment_all at text h = row_end _ InComment at text h
+
+-- 10 is the line end
+pub line_end : (b : ℕ) → b ≡ 10 → is_in_line b ≡ false
+line_end b e = subst (λ (n : ℕ). is_in_line n ≡ false) (sym e) refl
+
+pub in_line : (b : ℕ) → b ≢ 10 → is_in_line b ≡ true
+in_line b h = elim (cases_Bool (b == 10)) [
+  | inl e ↦ absurd (h (eqb-true b 10 e))
+  | inr e ↦ ap (λ (t : Bool). not t) e
+]
+
+-- nothing is found behind the dead state
+pub dead_piece : (q : State) (at : ℕ) (text : List ℕ) → q ≡ Dead → None ≡ found_on (accepted q) q at text
+dead_piece q at text e = subst (λ (r : State). None ≡ found_on (accepted r) r at text) (sym e) (sym (ap (λ (o : Option Found). later None o) (dead_found at (drop at text))))
+
+-- the first byte, and what is found behind it
+pub first_byte : (at : ℕ) (text : List ℕ) → at < length text
+    → found_on (accepted (step Start (get_or text at 0))) (step Start (get_or text at 0)) (at + 1) text ≡ longest_found Start at (drop at text)
+first_byte at text h =
+    ap (λ (o : Option Found). later o (longest_found (step Start (get_or text at 0)) (at + 1) (drop (at + 1) text))) (sym (none_later (found_as (accepted (step Start (get_or text at 0))) (at + 1))))
+    ∙ found_more None (longest_found Start at (drop at text)) Start at text h (none_later (longest_found Start at (drop at text)))
+
+-- nothing is found at the text's end
+pub no_byte : (at : ℕ) (text : List ℕ) → at ≡ length text → None ≡ longest_found Start at (drop at text)
+no_byte at text h = found_all None (longest_found Start at (drop at text)) Start at text (omega arith) (none_later (longest_found Start at (drop at text)))
+
+-- two tests
+abbrev same : Bool → Bool → Bool
+same true b = b
+same false b = not b
+
+same_is : (a b : Bool) → same a b ≡ true → a ≡ b
+same_is true true e = refl
+same_is true false e = sym e
+same_is false true e = e
+same_is false false e = refl
+
+-- entry by entry a table of 0 and 1 says what the test says of the bytes from `at` on
+abbrev tells : (ℕ → Bool) → ℕ → List ℕ → Bool
+tells test at [] = true
+tells test at (t ∷ ts) = same (t == 1) (test at) && tells test (suc at) ts
+
+tells_at : (test : ℕ → Bool) (at : ℕ) (ts : List ℕ) (i : ℕ) → tells test at ts ≡ true → i < length ts → (get_or ts i 0 == 1) ≡ test (at + i)
+tells_at test at [] i e h = absurd (omega (arith, h))
+tells_at test at (t ∷ ts) zero e h =
+    let places : at ≡ at + zero = omega arith in
+    subst (λ (n : ℕ). (t == 1) ≡ test n) places (same_is (t == 1) (test at) (and_parts (same (t == 1) (test at)) (tells test (suc at) ts) e).0)
+tells_at test at (t ∷ ts) (suc i) e h =
+    let more = tells_at test (suc at) ts i (and_parts (same (t == 1) (test at)) (tells test (suc at) ts) e).1 (omega (arith, h)) in
+    let places : suc at + i ≡ at + suc i = omega arith in
+    subst (λ (n : ℕ). (get_or ts i 0 == 1) ≡ test n) places more
+
+-- the table tells the letters and digits
+pub table_tells : (b : ℕ) → b < 256 → (get_or WORD_BYTES b 0 == 1) ≡ is_word_byte b
+table_tells b h = subst (λ (n : ℕ). (get_or WORD_BYTES b 0 == 1) ≡ is_word_byte n) (zero-add b) (tells_at is_word_byte 0 WORD_BYTES b refl h)

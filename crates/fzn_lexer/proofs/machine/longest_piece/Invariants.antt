@@ -1,8 +1,0 @@
-use Rattle.std.proofs.Common.{◌≡◌, drop}
-use Rattle.fzn_lexer.specs.Machine.{start, later, longest_found}
-use Rattle.fzn_lexer.proofs.machine.longest_piece.Given as goal
-
--- the better of what was found and what the rest will find is the longest from the start
-abbrev pub invariant-loop-at : goal.invariant-loop-at
-invariant-loop-at l =
-    later l.found (longest_found l.state l.at (drop l.at l.text)) ≡ longest_found start l.fn.from (drop l.fn.from l.text)

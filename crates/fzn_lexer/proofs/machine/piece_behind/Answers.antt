@@ -1,0 +1,5 @@
+use Rattle.fzn_lexer.proofs.Rows.{dead_piece}
+use Rattle.fzn_lexer.proofs.machine.piece_behind.Goals as goal
+
+pub returns-in-Dead : goal.returns-in-Dead
+returns-in-Dead c = dead_piece c.args.state c.args.from c.args.text.now c.in-Dead.is

@@ -1,9 +1,0 @@
--- What is found so far is all that the variables so far hold.
-use Rattle.std.proofs.Common.{◌≡◌, take}
-use Rattle.std.specs.List.{filter}
-use Rattle.std.specs.Option.{option_to_list}
-use Rattle.guarded_tell.specs.Maximum.{max_reaches}
-use Rattle.guarded_tell.proofs.maximum.sole_reaching.Given as goal
-
-abbrev pub invariant-loop-i : goal.invariant-loop-i
-invariant-loop-i l = option_to_list l.found ≡ filter (max_reaches l.m l.b) (take l.i l.xs)

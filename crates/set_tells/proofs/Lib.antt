@@ -1,0 +1,9 @@
+pub mod HearingLaws
+pub mod Lists
+pub mod LiteralLaws
+pub mod PlaceLaws
+pub mod CommonLaws
+pub mod InSetTells
+pub mod InSetLaws
+pub mod ListPlaces
+pub mod ExtremeLaws

@@ -1,0 +1,230 @@
+//! Texts read token by token and item by item, from places that were counted by hand.
+
+use fzn_lexer::{Kind, next_token};
+use fzn_parser::{ItemError, Room, next_item};
+use std::test::Fail;
+
+/// What stands behind a byte of a text: a token as (kind, from, to), no token, or a byte at which none begins.
+struct TokenCase {
+    text: &'static [u8],
+    from: usize,
+    answer: Result<Option<(Kind, usize, usize)>, usize>,
+}
+
+const TOKENS: &[TokenCase] = &[
+    TokenCase {
+        text: b"",
+        from: 0,
+        answer: Ok(None),
+    },
+    TokenCase {
+        text: b" \t\r\n%x\n ab",
+        from: 0,
+        answer: Ok(Some((Kind::Word, 8, 10))),
+    },
+    TokenCase {
+        text: b" \t\r\n%x\n ab",
+        from: 9,
+        answer: Ok(Some((Kind::Word, 9, 10))),
+    },
+    TokenCase {
+        text: b"_a9+",
+        from: 0,
+        answer: Ok(Some((Kind::Word, 0, 3))),
+    },
+    TokenCase {
+        text: b"_a9+",
+        from: 2,
+        answer: Ok(Some((Kind::Int, 2, 3))),
+    },
+    TokenCase {
+        text: b"_a9+",
+        from: 3,
+        answer: Err(3),
+    },
+    TokenCase {
+        text: b"1203x",
+        from: 0,
+        answer: Ok(Some((Kind::Int, 0, 4))),
+    },
+    TokenCase {
+        text: b"1203x",
+        from: 3,
+        answer: Ok(Some((Kind::Int, 3, 4))),
+    },
+    TokenCase {
+        text: b"12..34",
+        from: 0,
+        answer: Ok(Some((Kind::Int, 0, 2))),
+    },
+    TokenCase {
+        text: b"12..34",
+        from: 2,
+        answer: Ok(Some((Kind::Mark, 2, 4))),
+    },
+    TokenCase {
+        text: b"12..34",
+        from: 3,
+        answer: Err(3),
+    },
+    TokenCase {
+        text: b"-1.5e3;",
+        from: 0,
+        answer: Ok(Some((Kind::Float, 0, 6))),
+    },
+    TokenCase {
+        text: b"-1.5e3;",
+        from: 1,
+        answer: Ok(Some((Kind::Float, 1, 6))),
+    },
+    TokenCase {
+        text: b"-1.5e3;",
+        from: 3,
+        answer: Ok(Some((Kind::Float, 3, 6))),
+    },
+    TokenCase {
+        text: b"-1.5e3;",
+        from: 6,
+        answer: Ok(Some((Kind::Mark, 6, 7))),
+    },
+    TokenCase {
+        text: b"-1.5e3;",
+        from: 7,
+        answer: Ok(None),
+    },
+    TokenCase {
+        text: b"12e+x",
+        from: 0,
+        answer: Ok(Some((Kind::Int, 0, 2))),
+    },
+    TokenCase {
+        text: b"0x1G",
+        from: 0,
+        answer: Ok(Some((Kind::Int, 0, 3))),
+    },
+    TokenCase {
+        text: b"\"a %\"%b",
+        from: 0,
+        answer: Ok(Some((Kind::Text, 0, 5))),
+    },
+    TokenCase {
+        text: b"\"a %\"%b",
+        from: 2,
+        answer: Ok(None),
+    },
+    TokenCase {
+        text: b"\"a %\"%b",
+        from: 5,
+        answer: Ok(None),
+    },
+    TokenCase {
+        text: b"x::y",
+        from: 1,
+        answer: Ok(Some((Kind::Mark, 1, 3))),
+    },
+    TokenCase {
+        text: b"x::y",
+        from: 2,
+        answer: Ok(Some((Kind::Mark, 2, 3))),
+    },
+    TokenCase {
+        text: b"a % b\n ^",
+        from: 1,
+        answer: Err(7),
+    },
+    TokenCase {
+        text: b"a % b\n ^",
+        from: 8,
+        answer: Ok(None),
+    },
+];
+
+#[test]
+fn the_next_token_is_this(rt: HostRuntime) -> Result<(), Fail> {
+    for case in TOKENS {
+        assert!(rt; case.from <= case.text.len());
+        match (next_token(case.text, case.from), case.answer) {
+            (Ok(Some(token)), Ok(Some((kind, from, to)))) => {
+                assert_eq!(rt; token.kind, kind);
+                assert_eq!(rt; token.from, from);
+                assert_eq!(rt; token.to, to);
+            }
+            (Ok(None), Ok(None)) => {}
+            (Err(none), Err(at)) => assert_eq!(rt; none.at, at),
+            _ => assert!(rt; false),
+        }
+    }
+    Ok(())
+}
+
+/// What is read behind a byte of a text.
+#[derive(Clone, Copy, Debug, PartialEq, Eq)]
+enum Next {
+    /// An item that begins at the first place, and the place behind it.
+    Item(usize, usize),
+    /// No token is left.
+    End,
+    /// The tokens from the first place to the second are no item.
+    NoItem(usize, usize),
+    /// No token begins there.
+    NoToken(usize),
+    NoMemory,
+}
+
+/// A text, a place in it, and what is read behind it.
+type ItemCase = (&'static str, usize, Next);
+
+/// The words of these texts stand apart by blanks.
+const ITEMS: &[ItemCase] = &[
+    ("", 0, Next::End),
+    (" % only ; ", 0, Next::End),
+    ("var int : x ; solve satisfy ; ", 0, Next::Item(0, 13)),
+    ("var int : x ; solve satisfy ; ", 13, Next::Item(14, 29)),
+    ("var int : x ; solve satisfy ; ", 29, Next::End),
+    ("var int : x ; ^", 0, Next::Item(0, 13)),
+    ("var int : x ; ^", 13, Next::NoToken(14)),
+    ("var int : x ; var ; x ; ", 13, Next::NoItem(14, 19)),
+    ("var int : x ; var ; x ; ", 19, Next::NoItem(20, 23)),
+    ("var int : x ; solve", 13, Next::NoItem(14, 19)),
+    ("var int : x ; predicate p (", 13, Next::NoItem(14, 27)),
+    ("var int : x ; predicate p ( ; ", 13, Next::Item(14, 29)),
+    ("var int ^ : x ; ", 0, Next::NoToken(8)),
+    (
+        "constraint c ( [ 1 , x ] , { } ) :: d ( \"t\" ) ; ; ",
+        0,
+        Next::Item(0, 47),
+    ),
+    (
+        "constraint c ( [ 1 , x ] , { } ) :: d ( \"t\" ) ; ; ",
+        48,
+        Next::NoItem(48, 49),
+    ),
+    (
+        "array [ 1 .. 1 ] of int : a = [ 1 ] ; ",
+        0,
+        Next::Item(0, 37),
+    ),
+    (
+        "array [ 1 .. 1 ] of int : a = [ 1 ] ; ",
+        7,
+        Next::NoItem(8, 37),
+    ),
+];
+
+#[test]
+fn the_next_item_is_this(rt: HostRuntime) -> Result<(), Fail> {
+    // One room serves all texts, those behind a fault too.
+    let mut room = Room::new(rt.alloc());
+    for (text, from, expected) in ITEMS {
+        assert!(rt; *from <= text.len());
+        let next = match next_item(rt.alloc(), text.as_bytes(), *from, &mut room) {
+            Ok(Some(read)) => Next::Item(read.0.from, read.1),
+            Ok(None) => Next::End,
+            Err(ItemError::NoItem { at, to }) => Next::NoItem(at, to),
+            Err(ItemError::NoToken { at }) => Next::NoToken(at),
+            Err(ItemError::NoMemory) => Next::NoMemory,
+        };
+        assert_eq!(rt; next, *expected);
+    }
+    Ok(())
+}

@@ -1,0 +1,7 @@
+% Quasigroups of n elements in which each element times itself is itself, and ((b*a)*b)*b = a.
+int: n; array[1..n,1..n] of var 1..n: q;
+constraint forall(i in 1..n)(q[i,i]=i);
+constraint forall(i,j,k in 1..n where j<k)(q[i,j]!=q[i,k] /\ q[j,i]!=q[k,i]);
+constraint forall(a,b in 1..n)(q[q[q[b,a],b],b]=a);
+constraint forall(i in 1..n)(q[i,n]>=i-1);
+solve :: int_search([q[i,j]|i,j in 1..n],first_fail,indomain_min,complete) satisfy;

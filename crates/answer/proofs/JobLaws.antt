@@ -1,6 +1,6 @@
 -- One run of a job.
-use Rattle.std.proofs.Common.{◌≡◌, ℕ, ℤ, List, [], ◌∷◌, ◌++◌, Option, None, Some, refl, sym, subst, inr}
-use Rattle.interval.specs.Boxes.{Bounds}
+use Rattle.std.proofs.Common.{◌≡◌, ℕ, ℤ, List, [], ◌∷◌, ◌++◌, length, Option, None, Some, refl, sym, subst, inr}
+use Rattle.interval.specs.Boxes.{Bounds, IsInside}
 use Rattle.guarded_tell.specs.declared.kernel.Kernel.{Kernel}
 use Rattle.constraint_model.specs.declared.model.FznModel.{FznModel}
 use Rattle.decompose.specs.Kernels.{kernels_of}
@@ -10,6 +10,8 @@ use Rattle.search.specs.declared.kind.Kind.{Kind}
 use Rattle.search.specs.declared.ends.FirstEnd.{FirstEnd}
 use Rattle.search.specs.declared.ends.AllEnd.{AllEnd}
 use Rattle.search.specs.Machine.{Search}
+use Rattle.search.specs.declared.kept.Kept.{Kept}
+use Rattle.search.specs.Keeping.{IsKeptFor}
 use Rattle.search.specs.Ends.{search_of, IsFirstEnd, IsAllEnd, posts_of}
 use Rattle.answer.specs.declared.plan.Plan.{Plan}
 use Rattle.answer.specs.Plans.{IsPlan, model_of, kernels_in}
@@ -91,3 +93,10 @@ seen_was_posted {A} o seen after posted posts e p all x h =
     still : (o : Option A) → Among (with_seen o seen) x
     still None = h
     still (Some y) = inr h
+
+-- what is kept for boxes of a start's variables is kept for those of a box inside, and the other way round
+pub kept_inside : (kernels : List Kernel) (b start : Bounds) (kept : Kept) → IsInside b start → IsKeptFor kernels (length start) kept → IsKeptFor kernels (length b) kept
+kept_inside kernels b start kept inside h = subst (λ (n : ℕ). IsKeptFor kernels n kept) (sym inside.same_length) h
+
+pub kept_around : (kernels : List Kernel) (b start : Bounds) (kept : Kept) → IsInside b start → IsKeptFor kernels (length b) kept → IsKeptFor kernels (length start) kept
+kept_around kernels b start kept inside h = subst (λ (n : ℕ). IsKeptFor kernels n kept) inside.same_length h

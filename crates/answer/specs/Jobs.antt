@@ -1,15 +1,15 @@
 -- What jobs say of seats, of what a worker keeps, and of runs.
-use Rattle.std.specs.Prelude.{◌≡◌, ◌≢◌, ℕ, ◌^◌, List}
+use Rattle.std.specs.Prelude.{◌≡◌, ◌≢◌, ℕ, ◌^◌, List, length}
 use Rattle.best_bound.specs.declared.seat.FoundSeat.{FoundSeat}
 use Rattle.best_bound.specs.declared.seat.BestSeat.{BestSeat}
 use Rattle.best_bound.specs.Seats.{IsFoundSeatOf, found_parts, numbers_seen, numbers_posted, IsBestSeatOf, best_parts, costs_seen, costs_posted}
 use Rattle.constraint_model.specs.declared.model.Goal.{Goal}
-use Rattle.subproblem_walk.specs.declared.walk.Walk.{Walk}
-use Rattle.subproblem_walk.specs.Walks.{IsWalkFrom}
 use Rattle.search.specs.declared.ends.FirstEnd.{FirstEnd}
 use Rattle.search.specs.declared.ends.AllEnd.{AllEnd}
 use Rattle.search.specs.declared.ends.LeastEnd.{LeastEnd}
 use Rattle.answer.specs.declared.plan.Plan.{Plan}
+use Rattle.answer.specs.declared.plan.Own.{Own}
+use Rattle.answer.specs.Owned.{IsOwnFrom}
 use Rattle.answer.specs.declared.first_job.FirstJob.{FirstJob}
 use Rattle.answer.specs.declared.all_job.AllJob.{AllJob}
 use Rattle.answer.specs.declared.least_job.LeastJob.{LeastJob}
@@ -20,9 +20,9 @@ use Rattle.answer.specs.Runs.{AreFirstRuns, AreAllRuns, AreLeastRuns}
 abbrev pub numbers_of : {L : Type 0} → Plan L → ℕ
 numbers_of plan = 2 ^ plan.options.depth
 
--- a worker may keep a walk of its own from the box
-abbrev pub Owns : {L : Type 0} → Plan L → Walk → Type 0
-Owns plan walk = IsWalkFrom (model_of plan) (kernels_in plan) plan.start.now walk
+-- a worker may keep a walk of its own from the box, and what runs over boxes of the start's variables may use
+abbrev pub Owns : {L : Type 0} → Plan L → Own → Type 0
+Owns plan own = IsOwnFrom (model_of plan) (kernels_in plan) plan.start.now (length plan.run.now.program.now.start) own
 
 -- ---- for the first solution
 

@@ -9,6 +9,7 @@ pub mod Unspent
 pub mod Answers
 pub mod Given
 pub mod Plans
+pub mod Owned
 pub mod Runs
 pub mod Jobs
 pub mod Fronts

@@ -8,15 +8,14 @@ ghost use Rattle.answer.specs.Places.{AreResults};
 ghost use Rattle.answer.specs.Results.{IsAllResult};
 ghost use Rattle.answer.specs.Jobs.{numbers_of, Owns, AllFits, AllParts, AllStands};
 
-use crate::plan::{Plan, numbers_to, subproblem};
+use crate::plan::{Own, Plan, numbers_to, subproblem};
 use crew::{Gate as CrewGate, Job, Workers, run_numbers};
 use interval::NoMemory;
 use list_of::ListOf;
 use rounds::Gate;
-use search::{AllEnd, run_all};
+use search::{AllEnd, Start, run_all_from};
 use std::alloc::Global;
 use std::thread::Threads;
-use subproblem_walk::Walk;
 
 /// The runs share nothing.
 #[derive(Drop)]
@@ -25,7 +24,7 @@ pub(crate) struct AllJob<'a, L> {
     pub(crate) plan: &'a Plan<'a, L>,
 }
 
-impl<L> Job<(), Walk, AllEnd> for AllJob<'_, L> {
+impl<L> Job<(), Own, AllEnd> for AllJob<'_, L> {
     ghost use Rattle.answer.specs.Jobs.{numbers_of, Owns, AllFits, AllParts, AllStands};
 
     ghost count = { λ job. numbers_of job.plan.now };
@@ -38,8 +37,9 @@ impl<L> Job<(), Walk, AllEnd> for AllJob<'_, L> {
 
     ghost stands = { λ job. AllStands job };
 
-    fn own(&self, alloc: Global) -> Result<Walk, NoMemory> {
-        Ok(Walk::new(alloc))
+    fn own(&self, alloc: Global) -> Result<Own, NoMemory> {
+        let own = Own::new(alloc);
+        Ok(own)
     }
 
     fn split(&self, _seat: &mut ()) {}
@@ -52,7 +52,7 @@ fn run_number<R: Threads + Sync, L: Gate + Sync>(
     rt: &R,
     alloc: Global,
     job: &AllJob<'_, L>,
-    own: &mut Walk,
+    own: &mut Own,
     number: u32,
 ) -> Result<AllEnd, NoMemory>
     requires number { number < numbers_of job.now.plan.now }
@@ -60,10 +60,14 @@ fn run_number<R: Threads + Sync, L: Gate + Sync>(
     requires plan { IsPlan job.now.plan.now }
     ensures { IsRun (AllFits job.now) AllParts (Owns job.now.plan.now) (AllStands job.now) own.new tt tt number result }
 {
-    match subproblem(alloc, job.plan, own, number)? {
+    match subproblem(alloc, job.plan, &mut own.walk, number)? {
         None => Ok(AllEnd::Done(ListOf::new(alloc))),
-        Some(sub) => {
-            let end = run_all(rt, alloc, job.plan.run, &sub)?;
+        Some(found) => {
+            let start = Start {
+                sub: &found.sub,
+                changed: found.changed,
+            };
+            let end = run_all_from(rt, alloc, job.plan.run, &start, &mut own.kept)?;
             Ok(end)
         }
     }
@@ -82,7 +86,7 @@ fn run_each<R: Threads + Sync, C: CrewGate + Sync, L: Gate + Sync>(
     ensures ends { IfOk result (AreEndsOf (numbers_of job.now.plan.now) (AllStands job.now tt)) }
     ensures crew { IsCrewFor job.now.plan.now.options crew.new }
 {
-    let run = |own: &mut Walk, _seat: &mut (), number: u32| -> Result<AllEnd, NoMemory>
+    let run = |own: &mut Own, _seat: &mut (), number: u32| -> Result<AllEnd, NoMemory>
         requires { (number < numbers_of job.now.plan.now) × Owns job.now.plan.now own.now × IsPlan job.now.plan.now }
         ensures { IsRun (AllFits job.entry.now) AllParts (Owns job.entry.now.plan.now) (AllStands job.entry.now) own.exit.now tt tt number result }
     { run_number(rt, alloc, job, own, number) };

@@ -8,17 +8,16 @@ ghost use Rattle.answer.specs.Results.{AreFirstResults};
 ghost use Rattle.answer.specs.Runs.{HasSolution};
 ghost use Rattle.answer.specs.Jobs.{numbers_of, Owns, FirstFits, FirstParts, FirstStands};
 
-use crate::plan::{Plan, numbers_to, subproblem};
+use crate::plan::{Own, Plan, numbers_to, subproblem};
 use best_bound::{Found, FoundSeat, Numbers};
 use crew::{Gate as CrewGate, Job, Workers, run_numbers};
 use interval::NoMemory;
 use list_of::ListOf;
 use rounds::Gate;
-use search::{FirstEnd, run_first};
+use search::{FirstEnd, Start, run_first_from};
 use std::alloc::Global;
 use std::marker::{Brand, PhantomData};
 use std::thread::Threads;
-use subproblem_walk::Walk;
 
 /// Which numbers lead to a solution, for contracts alone.
 pub(crate) trait OfParts {
@@ -49,7 +48,7 @@ pub(crate) struct FirstJob<'a, L, M: OfParts> {
     pub(crate) found: &'a Found<NumbersOf<M>>,
 }
 
-impl<L, M: OfParts> Job<FoundSeat, Walk, FirstEnd> for FirstJob<'_, L, M> {
+impl<L, M: OfParts> Job<FoundSeat, Own, FirstEnd> for FirstJob<'_, L, M> {
     ghost use Rattle.answer.specs.Jobs.{numbers_of, Owns, FirstFits, FirstParts, FirstStands};
 
     ghost count = { λ job. numbers_of job.plan.now };
@@ -62,8 +61,9 @@ impl<L, M: OfParts> Job<FoundSeat, Walk, FirstEnd> for FirstJob<'_, L, M> {
 
     ghost stands = { λ job. FirstStands job };
 
-    fn own(&self, alloc: Global) -> Result<Walk, NoMemory> {
-        Ok(Walk::new(alloc))
+    fn own(&self, alloc: Global) -> Result<Own, NoMemory> {
+        let own = Own::new(alloc);
+        Ok(own)
     }
 
     fn split(&self, seat: &mut FoundSeat) -> FoundSeat {
@@ -80,7 +80,7 @@ fn run_number<R: Threads + Sync, L: Gate + Sync, M: OfParts>(
     rt: &R,
     alloc: Global,
     job: &FirstJob<'_, L, M>,
-    own: &mut Walk,
+    own: &mut Own,
     seat: &mut FoundSeat,
     number: u32,
 ) -> Result<FirstEnd, NoMemory>
@@ -90,10 +90,23 @@ fn run_number<R: Threads + Sync, L: Gate + Sync, M: OfParts>(
     requires numbers { (number : ℕ) → M.has_solution number ↔ HasSolution (model_of job.now.plan.now) job.now.plan.now.options.depth job.now.plan.now.start.now number }
     ensures { IsRun (FirstFits job.now) FirstParts (Owns job.now.plan.now) (FirstStands job.now) own.new seat.old seat.new number result }
 {
-    match subproblem(alloc, job.plan, own, number)? {
+    match subproblem(alloc, job.plan, &mut own.walk, number)? {
         None => Ok(FirstEnd::Done(None)),
-        Some(sub) => {
-            let end = run_first(rt, alloc, job.plan.run, &sub, number, job.found, seat)?;
+        Some(found) => {
+            let start = Start {
+                sub: &found.sub,
+                changed: found.changed,
+            };
+            let end = run_first_from(
+                rt,
+                alloc,
+                job.plan.run,
+                &start,
+                &mut own.kept,
+                number,
+                job.found,
+                seat,
+            )?;
             Ok(end)
         }
     }
@@ -118,7 +131,7 @@ fn run_all<R: Threads + Sync, C: CrewGate + Sync, L: Gate + Sync, M: OfParts + S
     ensures parts { FirstParts seat.new 1024 }
     ensures crew { IsCrewFor job.now.plan.now.options crew.new }
 {
-    let run = |own: &mut Walk, seat: &mut FoundSeat, number: u32| -> Result<FirstEnd, NoMemory>
+    let run = |own: &mut Own, seat: &mut FoundSeat, number: u32| -> Result<FirstEnd, NoMemory>
         requires { (number < numbers_of job.now.plan.now) × Owns job.now.plan.now own.now × FirstFits job.now seat.now × ((number : ℕ) → M.has_solution number ↔ HasSolution (model_of job.now.plan.now) job.now.plan.now.options.depth job.now.plan.now.start.now number) }
         ensures { IsRun (FirstFits job.entry.now) FirstParts (Owns job.entry.now.plan.now) (FirstStands job.entry.now) own.exit.now seat.entry.now seat.exit.now number result }
     { run_number(rt, alloc, job, own, seat, number) };

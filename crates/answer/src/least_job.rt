@@ -10,19 +10,18 @@ ghost use Rattle.answer.specs.Plans.{IsPlan, IsCrewFor, model_of};
 ghost use Rattle.answer.specs.Runs.{AreWholeEnds};
 ghost use Rattle.answer.specs.Jobs.{numbers_of, Owns, LeastFits, LeastParts, LeastStands};
 
-use crate::plan::{Plan, numbers_to, subproblem};
+use crate::plan::{Own, Plan, numbers_to, subproblem};
 use best_bound::{Best, BestSeat, Costs};
 use branching::law_every_list;
 use crew::{Gate as CrewGate, Job, Workers, run_numbers};
 use interval::{NoMemory, law_inside_order};
 use list_of::ListOf;
 use rounds::Gate;
-use search::{LeastEnd, law_costs_fall, law_more_posted, run_least};
+use search::{LeastEnd, Start, law_costs_fall, law_more_posted, run_least_from};
 use solution_lists::law_solutions_listed;
 use std::alloc::Global;
 use std::marker::{Brand, PhantomData};
 use std::thread::Threads;
-use subproblem_walk::Walk;
 use subproblems::{law_cuts, law_paths};
 use tickets::law_counting;
 
@@ -55,7 +54,7 @@ pub(crate) struct LeastJob<'a, L, M: OfModel> {
     pub(crate) best: &'a Best<CostsOf<M>>,
 }
 
-impl<L, M: OfModel> Job<BestSeat, Walk, LeastEnd> for LeastJob<'_, L, M> {
+impl<L, M: OfModel> Job<BestSeat, Own, LeastEnd> for LeastJob<'_, L, M> {
     ghost use Rattle.answer.specs.Jobs.{numbers_of, Owns, LeastFits, LeastParts, LeastStands};
 
     ghost count = { λ job. numbers_of job.plan.now };
@@ -68,8 +67,9 @@ impl<L, M: OfModel> Job<BestSeat, Walk, LeastEnd> for LeastJob<'_, L, M> {
 
     ghost stands = { λ job. LeastStands job };
 
-    fn own(&self, alloc: Global) -> Result<Walk, NoMemory> {
-        Ok(Walk::new(alloc))
+    fn own(&self, alloc: Global) -> Result<Own, NoMemory> {
+        let own = Own::new(alloc);
+        Ok(own)
     }
 
     fn split(&self, seat: &mut BestSeat) -> BestSeat {
@@ -87,7 +87,7 @@ fn run_number<R: Threads + Sync, L: Gate + Sync, M: OfModel>(
     rt: &R,
     alloc: Global,
     job: &LeastJob<'_, L, M>,
-    own: &mut Walk,
+    own: &mut Own,
     seat: &mut BestSeat,
     number: u32,
 ) -> Result<LeastEnd, NoMemory>
@@ -101,12 +101,24 @@ fn run_number<R: Threads + Sync, L: Gate + Sync, M: OfModel>(
     law_costs_fall();
     law_inside_order();
     law_cuts();
-    match subproblem(alloc, job.plan, own, number)? {
+    match subproblem(alloc, job.plan, &mut own.walk, number)? {
         None => Ok(LeastEnd::Done(None)),
-        Some(sub) => {
+        Some(found) => {
+            let start = Start {
+                sub: &found.sub,
+                changed: found.changed,
+            };
             // its contract says that the bounds are in range
-            let _length = sub.len();
-            let end = run_least(rt, alloc, job.plan.run, &sub, job.best, seat)?;
+            let _length = found.sub.len();
+            let end = run_least_from(
+                rt,
+                alloc,
+                job.plan.run,
+                &start,
+                &mut own.kept,
+                job.best,
+                seat,
+            )?;
             Ok(end)
         }
     }
@@ -131,7 +143,7 @@ fn run_all<R: Threads + Sync, C: CrewGate + Sync, L: Gate + Sync, M: OfModel + S
     ensures parts { LeastParts seat.new 1024 }
     ensures crew { IsCrewFor job.now.plan.now.options crew.new }
 {
-    let run = |own: &mut Walk, seat: &mut BestSeat, number: u32| -> Result<LeastEnd, NoMemory>
+    let run = |own: &mut Own, seat: &mut BestSeat, number: u32| -> Result<LeastEnd, NoMemory>
         requires { (number < numbers_of job.now.plan.now) × Owns job.now.plan.now own.now × LeastFits job.now seat.now × ((cost : ℤ) → M.is_cost cost ↔ IsCost (model_of job.now.plan.now) cost) }
         ensures { IsRun (LeastFits job.entry.now) LeastParts (Owns job.entry.now.plan.now) (LeastStands job.entry.now) own.exit.now seat.entry.now seat.exit.now number result }
     { run_number(rt, alloc, job, own, seat, number) };

@@ -1,16 +1,19 @@
 //! What all runs of one job share.
 
-ghost use Rattle.std.specs.Prelude.{◌≡◌, ◌<◌, ◌≤◌, ◌^◌, IfOk, IfSome};
-ghost use Rattle.interval.specs.Boxes.{IsInside};
+ghost use Rattle.std.specs.Prelude.{◌≡◌, ◌<◌, ◌≤◌, ◌^◌, ℕ, List, IfOk, IfSome};
+ghost use Rattle.interval.specs.Boxes.{Bounds, IsInside};
+ghost use Rattle.guarded_tell.specs.declared.kernel.Kernel.{Kernel};
+ghost use Rattle.constraint_model.specs.declared.model.FznModel.{FznModel};
 ghost use Rattle.subproblems.specs.Paths.{LeadsTo};
-ghost use Rattle.subproblem_walk.specs.Walks.{IsWalkFrom};
+ghost use Rattle.subproblem_walk.specs.Walks.{IsWalkFrom, box_of, IsMadeFrom};
+ghost use Rattle.answer.specs.Owned.{IsOwnFrom};
 ghost use Rattle.answer.specs.Plans.{IsPlan, model_of, kernels_in};
 
 use crate::options::Options;
 use interval::{BoxOf, NoMemory, law_inside_order};
-use search::Run;
+use search::{Kept, Run};
 use std::alloc::Global;
-use subproblem_walk::{Tree, Walk};
+use subproblem_walk::{Found, Tree, Walk};
 
 /// What is searched, and from where.
 #[derive(Drop)]
@@ -23,18 +26,39 @@ pub(crate) struct Plan<'a, L> {
     pub(crate) start: &'a BoxOf,
 }
 
+/// What a worker keeps over its numbers, which only saves time.
+#[derive(Drop)]
+pub(crate) struct Own {
+    /// The way to the last number.
+    pub(crate) walk: Walk,
+    /// What the last run searched with.
+    pub(crate) kept: Kept,
+}
+
+impl Own {
+    /// Nothing yet.
+    pub(crate) fn new(alloc: Global) -> Own
+        ensures { (model : FznModel) (kernels : List Kernel) (start : Bounds) (count : ℕ) → IsOwnFrom model kernels start count result }
+    {
+        let walk = Walk::new(alloc);
+        let kept = Kept::new();
+        Own { walk, kept }
+    }
+}
+
 /// What the number leads to.
 pub(crate) fn subproblem<L>(
     alloc: Global,
     plan: &Plan<'_, L>,
     walk: &mut Walk,
     number: u32,
-) -> Result<Option<BoxOf>, NoMemory>
+) -> Result<Option<Found>, NoMemory>
     requires plan { IsPlan plan.now }
     requires number { number < 2 ^ plan.now.options.depth }
     requires walk { IsWalkFrom (model_of plan.now) (kernels_in plan.now) plan.now.start.now walk.old }
-    ensures path { IfOk result (LeadsTo (model_of plan.now) (kernels_in plan.now) plan.now.options.depth plan.now.start.now number) }
-    ensures inside { IfOk result (λ found. IfSome found (λ b. IsInside b plan.now.run.now.program.now.start)) }
+    ensures path { IfOk result (λ found. LeadsTo (model_of plan.now) (kernels_in plan.now) plan.now.options.depth plan.now.start.now number (box_of found)) }
+    ensures inside { IfOk result (λ found. IfSome (box_of found) (λ b. IsInside b plan.now.run.now.program.now.start)) }
+    ensures made { IfOk result (IsMadeFrom (kernels_in plan.now)) }
     ensures walk { IsWalkFrom (model_of plan.now) (kernels_in plan.now) plan.now.start.now walk.new }
 {
     law_inside_order();

@@ -14,7 +14,7 @@ use std::alloc::Global;
 const MIDDLE: u64 = 9_223_372_036_854_775_808;
 
 /// The word of a cost.
-pub(crate) fn cost_word(cost: i64) -> u64
+fn cost_word(cost: i64) -> u64
     requires in_range { IsCostInRange cost }
     ensures word { result ≡ word_of cost }
     ensures cost { cost_of result ≡ cost }
@@ -28,7 +28,7 @@ pub(crate) fn cost_word(cost: i64) -> u64
 }
 
 /// The cost of a word.
-pub(crate) fn word_cost(word: u64) -> i64
+fn word_cost(word: u64) -> i64
     ensures { result ≡ cost_of word }
 {
     if word >= MIDDLE {

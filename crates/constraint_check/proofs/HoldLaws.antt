@@ -1,45 +1,33 @@
 -- Each test of a constraint answers whether the constraint holds.
-use Rattle.std.proofs.Common.{◌≡◌, ◌↔◌, ◌⊎◌, ℤ, pos, Bool, true, false, not, List, [], ◌∷◌, ◌++◌, map, refl, sym, ap, subst, ◌∙◌}
-use Rattle.std.specs.Prelude.{unsigned_abs, int_le, int_rem, ◌&&◌, ◌≤ℤ◌, ◌<ℤ◌, ◌+ℤ◌, ◌-ℤ◌, ◌*ℤ◌, All, Any}
+use Rattle.std.proofs.Common.{◌≡◌, ◌↔◌, ℤ, pos, Bool, not, List, [], ◌∷◌, ◌++◌, map, refl, sym, ap, subst, ◌∙◌}
+use Rattle.std.specs.Prelude.{unsigned_abs, int_le, int_rem, ◌&&◌, ◌≤ℤ◌, ◌+ℤ◌, ◌*ℤ◌}
 use Rattle.std.specs.Int.{int_min, int_max}
 use Rattle.std.specs.Bool.{Decides}
 use Rattle.std.specs.Ordering.{int_eq}
 use Rattle.std.proofs.lemmas.Bool.Decides.{Decides-int_eq, Decides-and, Decides-or, Decides-not}
 use Rattle.constraint_model.specs.declared.model.Term.{Term}
 use Rattle.constraint_model.specs.declared.model.Operand.{Operand}
-use Rattle.constraint_model.specs.declared.table.ConstraintName.{ConstraintName}
 use Rattle.constraint_model.specs.Ranges.{IsIn}
-use Rattle.constraint_model.specs.Relations.{value, HoldsOn, One2, One3, OneRow, RowOne, Row2, Row2One, OneRowOne, OneSet, OneRowAlone, Row3One, Reified, Linear, Differs, IsTrueNumber, IsQuotient, IsRemainder, IsEntry, IsMaximum, IsMinimum, IsConjunction, IsDisjunction, IsClause, AreAllDifferent, IsCumulative, dot, quotient}
+use Rattle.constraint_model.specs.Relations.{value, One2, One3, OneRow, RowOne, Row2, OneRowOne, OneSet, OneRowAlone, Row3One, Reified, Linear, Differs, IsTrueNumber, IsEntry, IsClause, AreAllDifferent, IsCumulative, dot, quotient}
 use Rattle.constraint_check.specs.declared.comparing.Comparison.{Comparison}
 use Rattle.constraint_check.specs.declared.comparing.Operation.{Operation}
 use Rattle.constraint_check.specs.declared.comparing.Extreme.{Extreme}
 use Rattle.constraint_check.specs.declared.comparing.Junction.{Junction}
-use Rattle.constraint_check.specs.Tests.{is_true, same, compares, is_absolute, gives, joined, is_clause, is_extreme, is_entry, is_in, on_two, on_three, on_two_joined, on_row_joined, on_extreme, on_entry, on_set, on_clause, on_sum, on_differing, on_all_differ, on_tasks, reified, says, plain_holds, unreified, holds_by, holds_on}
+use Rattle.constraint_check.specs.declared.holding.Demand.{Demand}
+use Rattle.constraint_check.specs.declared.shapes.Test.{Test}
+use Rattle.constraint_check.specs.Decided.{Compares, Gives, Joined, IsExtreme, Decided, Demanded}
+use Rattle.constraint_check.specs.Tests.{is_true, compares, is_absolute, gives, joined, is_clause, is_extreme, on_two, on_three, on_two_joined, on_row_joined, on_extreme, on_entry, on_set, on_clause, on_sum, on_differing, on_all_differ, on_tasks, reified, says, passes, is_met}
 use Rattle.constraint_check.proofs.SumLaws.{rest_is}
-use Rattle.constraint_check.proofs.TestLaws.{never, untrue, same_decides, le_decides, less_decides, differs_decides, true_decides, any_decides, all_decides, contains_decides, in_decides, entry_decides, differ_decides}
+use Rattle.constraint_check.proofs.TestLaws.{never, same_decides, le_decides, less_decides, differs_decides, true_decides, any_decides, all_decides, contains_decides, in_decides, entry_decides, differ_decides}
 use Rattle.constraint_check.proofs.TaskLaws.{cumulative_decides}
 
 -- ---- relations of numbers
-
-abbrev pub Compares : Comparison → ℤ → ℤ → Type 0
-Compares Comparison.Equal x y = x ≡ y
-Compares Comparison.Different x y = x ≡ y → ⊥
-Compares Comparison.AtMost x y = x ≤ℤ y
-Compares Comparison.Less x y = x <ℤ y
 
 compares_decides : (c : Comparison) (x y : ℤ) → Decides (compares c x y) (Compares c x y)
 compares_decides Comparison.Equal x y = Decides-int_eq x y
 compares_decides Comparison.Different x y = differs_decides x y
 compares_decides Comparison.AtMost x y = le_decides x y
 compares_decides Comparison.Less x y = less_decides x y
-
-abbrev pub Gives : Operation → ℤ → ℤ → ℤ → Type 0
-Gives Operation.Sum x y z = x +ℤ y ≡ z
-Gives Operation.Product x y z = x *ℤ y ≡ z
-Gives Operation.Quotient x y z = IsQuotient x y z
-Gives Operation.Remainder x y z = IsRemainder x y z
-Gives Operation.Greatest x y z = int_max x y ≡ z
-Gives Operation.Least x y z = int_min x y ≡ z
 
 gives_decides : (o : Operation) (x y z : ℤ) → Decides (gives o x y z) (Gives o x y z)
 unfolding gives quotient
@@ -54,10 +42,6 @@ gives_decides Operation.Least x y z = Decides-int_eq (int_min x y) z
 
 -- ---- relations of rows
 
-abbrev pub Joined : Junction → List ℤ → Type 0
-Joined Junction.All xs = All IsTrueNumber xs
-Joined Junction.Some xs = Any IsTrueNumber xs
-
 joined_decides : (j : Junction) (a : List ℤ) (terms : List Term) → Decides (joined j a terms) (Joined j (map (value a) terms))
 joined_decides Junction.All a terms = all_decides (value a) is_true IsTrueNumber true_decides terms
 joined_decides Junction.Some a terms = any_decides (value a) is_true IsTrueNumber true_decides terms
@@ -66,10 +50,6 @@ clause_decides : (a : List ℤ) (ps ns : List Term) → Decides (is_clause a ps 
 clause_decides a ps ns =
     Decides-or _ _ (any_decides (value a) is_true IsTrueNumber true_decides ps)
     (any_decides (value a) (λ z. not (is_true z)) (λ z. IsTrueNumber z → ⊥) (λ z. Decides-not (is_true z) (true_decides z)) ns)
-
-abbrev pub IsExtreme : Extreme → ℤ → List ℤ → Type 0
-IsExtreme Extreme.Greatest m xs = IsMaximum m xs
-IsExtreme Extreme.Least m xs = IsMinimum m xs
 
 extreme_decides : (e : Extreme) (a : List ℤ) (m : ℤ) (terms : List Term) → Decides (is_extreme e a m terms) (IsExtreme e m (map (value a) terms))
 extreme_decides Extreme.Greatest a m terms = Decides-and _ _ (contains_decides (value a) m terms) (all_decides (value a) (λ z. int_le z m) (λ z. z ≤ℤ m) (λ z. le_decides z m) terms)
@@ -134,58 +114,34 @@ module _ (a : List ℤ) where
   reified_law f H h (Operand.Row row ∷ os) = reified_law (λ rest. f (Operand.Row row ∷ rest)) (λ rest. H (Operand.Row row ∷ rest)) (λ rest. h (Operand.Row row ∷ rest)) os
   reified_law f H h (Operand.Set ranges ∷ os) = reified_law (λ rest. f (Operand.Set ranges ∷ rest)) (λ rest. H (Operand.Set ranges ∷ rest)) (λ rest. h (Operand.Set ranges ∷ rest)) os
 
--- ---- the constraints
+-- ---- tests
 
-pub holds_law : (name : ConstraintName) (a : List ℤ) (os : List Operand) → Decides (holds_on name a os) (HoldsOn name a os)
-unfolding HoldsOn plain_holds
-holds_law ConstraintName.IntEq a os = two_law a (compares Comparison.Equal) (Compares Comparison.Equal) (compares_decides Comparison.Equal) os
-holds_law ConstraintName.IntNe a os = two_law a (compares Comparison.Different) (Compares Comparison.Different) (compares_decides Comparison.Different) os
-holds_law ConstraintName.IntLe a os = two_law a (compares Comparison.AtMost) (Compares Comparison.AtMost) (compares_decides Comparison.AtMost) os
-holds_law ConstraintName.IntLt a os = two_law a (compares Comparison.Less) (Compares Comparison.Less) (compares_decides Comparison.Less) os
-holds_law ConstraintName.IntLinEq a os = sum_law a Comparison.Equal os
-holds_law ConstraintName.IntLinNe a os = sum_law a Comparison.Different os
-holds_law ConstraintName.IntLinLe a os = sum_law a Comparison.AtMost os
-holds_law ConstraintName.IntPlus a os = three_law a (gives Operation.Sum) (Gives Operation.Sum) (gives_decides Operation.Sum) os
-holds_law ConstraintName.IntTimes a os = three_law a (gives Operation.Product) (Gives Operation.Product) (gives_decides Operation.Product) os
-holds_law ConstraintName.IntDiv a os = three_law a (gives Operation.Quotient) (Gives Operation.Quotient) (gives_decides Operation.Quotient) os
-holds_law ConstraintName.IntMod a os = three_law a (gives Operation.Remainder) (Gives Operation.Remainder) (gives_decides Operation.Remainder) os
-holds_law ConstraintName.IntAbs a os = two_law a is_absolute (λ x y. pos (unsigned_abs x) ≡ y) (λ x y. Decides-int_eq (pos (unsigned_abs x)) y) os
-holds_law ConstraintName.IntMax a os = three_law a (gives Operation.Greatest) (Gives Operation.Greatest) (gives_decides Operation.Greatest) os
-holds_law ConstraintName.IntMin a os = three_law a (gives Operation.Least) (Gives Operation.Least) (gives_decides Operation.Least) os
-holds_law ConstraintName.ArrayIntMaximum a os = extreme_law a Extreme.Greatest os
-holds_law ConstraintName.ArrayIntMinimum a os = extreme_law a Extreme.Least os
-holds_law ConstraintName.ArrayIntElement a os = entry_law a os
-holds_law ConstraintName.ArrayVarIntElement a os = entry_law a os
-holds_law ConstraintName.ArrayBoolElement a os = entry_law a os
-holds_law ConstraintName.ArrayVarBoolElement a os = entry_law a os
-holds_law ConstraintName.SetIn a os = set_law a os
-holds_law ConstraintName.BoolToInt a os = two_law a (compares Comparison.Equal) (Compares Comparison.Equal) (compares_decides Comparison.Equal) os
-holds_law ConstraintName.BoolEq a os = two_law a (compares Comparison.Equal) (Compares Comparison.Equal) (compares_decides Comparison.Equal) os
-holds_law ConstraintName.BoolLe a os = two_law a (compares Comparison.AtMost) (Compares Comparison.AtMost) (compares_decides Comparison.AtMost) os
-holds_law ConstraintName.BoolLt a os = two_law a (compares Comparison.Less) (Compares Comparison.Less) (compares_decides Comparison.Less) os
-holds_law ConstraintName.BoolNot a os = two_law a (compares Comparison.Different) (Compares Comparison.Different) (compares_decides Comparison.Different) os
-holds_law ConstraintName.BoolXor a os = differing_law a os
-holds_law ConstraintName.BoolAnd a os = two_joined_law a Junction.All os
-holds_law ConstraintName.BoolOr a os = two_joined_law a Junction.Some os
-holds_law ConstraintName.ArrayBoolAnd a os = row_joined_law a Junction.All os
-holds_law ConstraintName.ArrayBoolOr a os = row_joined_law a Junction.Some os
-holds_law ConstraintName.BoolClause a os = clause_law a os
-holds_law ConstraintName.BoolLinLe a os = sum_law a Comparison.AtMost os
-holds_law ConstraintName.BoolLinEq a os = sum_law a Comparison.Equal os
-holds_law ConstraintName.PccpAllDifferent a os = all_differ_law a os
-holds_law ConstraintName.PccpCumulative a os = tasks_law a os
-holds_law ConstraintName.IntEqReif a os = reified_law a (plain_holds ConstraintName.IntEq a) (HoldsOn ConstraintName.IntEq a) (λ rest. two_law a (compares Comparison.Equal) (Compares Comparison.Equal) (compares_decides Comparison.Equal) rest) os
-holds_law ConstraintName.IntNeReif a os = reified_law a (plain_holds ConstraintName.IntNe a) (HoldsOn ConstraintName.IntNe a) (λ rest. two_law a (compares Comparison.Different) (Compares Comparison.Different) (compares_decides Comparison.Different) rest) os
-holds_law ConstraintName.IntLeReif a os = reified_law a (plain_holds ConstraintName.IntLe a) (HoldsOn ConstraintName.IntLe a) (λ rest. two_law a (compares Comparison.AtMost) (Compares Comparison.AtMost) (compares_decides Comparison.AtMost) rest) os
-holds_law ConstraintName.IntLtReif a os = reified_law a (plain_holds ConstraintName.IntLt a) (HoldsOn ConstraintName.IntLt a) (λ rest. two_law a (compares Comparison.Less) (Compares Comparison.Less) (compares_decides Comparison.Less) rest) os
-holds_law ConstraintName.IntLinEqReif a os = reified_law a (plain_holds ConstraintName.IntLinEq a) (HoldsOn ConstraintName.IntLinEq a) (λ rest. sum_law a Comparison.Equal rest) os
-holds_law ConstraintName.IntLinNeReif a os = reified_law a (plain_holds ConstraintName.IntLinNe a) (HoldsOn ConstraintName.IntLinNe a) (λ rest. sum_law a Comparison.Different rest) os
-holds_law ConstraintName.IntLinLeReif a os = reified_law a (plain_holds ConstraintName.IntLinLe a) (HoldsOn ConstraintName.IntLinLe a) (λ rest. sum_law a Comparison.AtMost rest) os
-holds_law ConstraintName.SetInReif a os = reified_law a (plain_holds ConstraintName.SetIn a) (HoldsOn ConstraintName.SetIn a) (λ rest. set_law a rest) os
-holds_law ConstraintName.BoolEqReif a os = reified_law a (plain_holds ConstraintName.BoolEq a) (HoldsOn ConstraintName.BoolEq a) (λ rest. two_law a (compares Comparison.Equal) (Compares Comparison.Equal) (compares_decides Comparison.Equal) rest) os
-holds_law ConstraintName.BoolLeReif a os = reified_law a (plain_holds ConstraintName.BoolLe a) (HoldsOn ConstraintName.BoolLe a) (λ rest. two_law a (compares Comparison.AtMost) (Compares Comparison.AtMost) (compares_decides Comparison.AtMost) rest) os
-holds_law ConstraintName.BoolLtReif a os = reified_law a (plain_holds ConstraintName.BoolLt a) (HoldsOn ConstraintName.BoolLt a) (λ rest. two_law a (compares Comparison.Less) (Compares Comparison.Less) (compares_decides Comparison.Less) rest) os
-holds_law ConstraintName.BoolClauseReif a os = reified_law a (plain_holds ConstraintName.BoolClause a) (HoldsOn ConstraintName.BoolClause a) (λ rest. clause_law a rest) os
+-- a fact is equivalent to itself, in whatever words
+pub exactly : (A : Type 0) → A ↔ A
+exactly A = (λ h. h, λ h. h)
+
+test_law : (test : Test) (a : List ℤ) (os : List Operand) → Decides (passes test a os) (Decided test a os)
+test_law (Test.Two c) a os = two_law a (compares c) (Compares c) (compares_decides c) os
+test_law (Test.Three o) a os = three_law a (gives o) (Gives o) (gives_decides o) os
+test_law (Test.Sum c) a os = sum_law a c os
+test_law Test.Absolute a os = two_law a is_absolute (λ x y. pos (unsigned_abs x) ≡ y) (λ x y. Decides-int_eq (pos (unsigned_abs x)) y) os
+test_law (Test.Extreme e) a os = extreme_law a e os
+test_law Test.Entry a os = entry_law a os
+test_law Test.Member a os = set_law a os
+test_law Test.Differing a os = differing_law a os
+test_law (Test.TwoJoined j) a os = two_joined_law a j os
+test_law (Test.RowJoined j) a os = row_joined_law a j os
+test_law Test.Clause a os = clause_law a os
+test_law Test.AllDifferent a os = all_differ_law a os
+test_law Test.Tasks a os = tasks_law a os
+
+demand_law : (demand : Demand) (a : List ℤ) (os : List Operand) → Decides (is_met demand a os) (Demanded demand a os)
+demand_law (Demand.Plain test) a os = test_law test a os
+demand_law (Demand.Reified test) a os = reified_law a (passes test a) (Decided test a) (test_law test a) os
+
+-- the answer of a constraint's test, where the test is that of its relation
+pub holds_law : (demand : Demand) (a : List ℤ) (os : List Operand) (H : Type 0) → (H ↔ Demanded demand a os) → Decides (is_met demand a os) H
+holds_law demand a os H is = let law = demand_law demand a os in (λ e. is.1 (law.0 e), λ k. law.1 (is.0 k))
 
 -- ---- the last argument
 

@@ -1,18 +1,16 @@
 -- The constraints of a well-formed model have arguments that are small enough, and each its number.
-use Rattle.std.proofs.Common.{◌≡◌, ◌<◌, ◌≤◌, ℕ, zero, suc, ℤ, Bool, List, [], ◌∷◌, length, map, get_or, refl, sym, ap, subst, ◌∙◌, arith, Option, Some, None, Decides, MatchOption, slice_get}
-use Rattle.std.specs.Prelude.{All, ⊤}
+use Rattle.std.proofs.Common.{◌≡◌, ◌<◌, ℕ, zero, suc, Bool, List, [], ◌∷◌, length, get_or, sym, ap, subst, arith, Some, slice_get}
+use Rattle.std.specs.Prelude.{All}
 use Rattle.std.proofs.lemmas.List.{length-map}
 use Rattle.std.proofs.lemmas.List.Elements.{All-map, All-weaker}
 use Rattle.constraint_model.specs.declared.model.Term.{Term}
-use Rattle.constraint_model.specs.declared.model.Operand.{Operand}
 use Rattle.constraint_model.specs.declared.model.Constraint.{Constraint}
 use Rattle.constraint_model.specs.declared.model.VarDecl.{VarDecl}
 use Rattle.constraint_model.specs.declared.meanings.Meaning.{Meaning}
 use Rattle.constraint_model.specs.declared.meanings.Scalar.{Scalar}
 use Rattle.constraint_model.specs.Fits.{operand_of}
-use Rattle.constraint_model.specs.Relations.{Holds}
 use Rattle.constraint_model.specs.WellFormed.{IsConstraintOf, IsMeaningOf, IsScalarOf, IsTermOf}
-use Rattle.constraint_check.specs.Asked.{IsSmall, IsSmallRow, IsSmallTerm}
+use Rattle.constraint_check.specs.Asked.{IsSmall, IsSmallTerm}
 
 small_term : (vars : List VarDecl) (is_bool : Bool) (t : Term) → IsTermOf vars is_bool t → IsSmallTerm t
 small_term vars is_bool (Term.Number n) h = h.0

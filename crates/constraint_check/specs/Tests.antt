@@ -1,18 +1,19 @@
 -- The relations of constraints as tests: what `Relations` says of numbers, with an answer that is computed.
-use Rattle.std.specs.Prelude.{◌-◌, ℤ, pos, ◌+ℤ◌, ◌*ℤ◌, unsigned_abs, int_rem, Bool, true, false, not, ◌&&◌, ◌||◌, int_le, List, [], ◌∷◌, map, slice_get, Option, Some, None}
+use Rattle.std.specs.Prelude.{◌-◌, ℤ, pos, ◌+ℤ◌, ◌*ℤ◌, unsigned_abs, int_rem, Bool, true, false, not, ◌&&◌, ◌||◌, int_le, List, [], ◌∷◌, map, slice_get}
 use Rattle.std.specs.Option.{option_map_or}
 use Rattle.std.specs.Int.{int_min, int_max}
 use Rattle.std.specs.List.{list_any, list_all}
 use Rattle.std.specs.Ordering.{int_eq}
 use Rattle.constraint_model.specs.declared.model.Term.{Term}
 use Rattle.constraint_model.specs.declared.model.Operand.{Operand}
-use Rattle.constraint_model.specs.declared.table.ConstraintName.{ConstraintName}
 use Rattle.constraint_model.specs.Ranges.{Range}
 use Rattle.constraint_model.specs.Relations.{value, dot, quotient, used_at}
 use Rattle.constraint_check.specs.declared.comparing.Comparison.{Comparison}
 use Rattle.constraint_check.specs.declared.comparing.Operation.{Operation}
 use Rattle.constraint_check.specs.declared.comparing.Extreme.{Extreme}
 use Rattle.constraint_check.specs.declared.comparing.Junction.{Junction}
+use Rattle.constraint_check.specs.declared.holding.Demand.{Demand}
+use Rattle.constraint_check.specs.declared.shapes.Test.{Test}
 use Rattle.constraint_check.specs.declared.tasks.Tasks.{Tasks}
 
 -- a boolean is true
@@ -162,67 +163,25 @@ abbrev pub says : List ℤ → Operand → Bool → Bool
 says a (Operand.One r) b = same (is_true (value a r)) b
 says a _ b = false
 
--- ---- the constraints
+-- ---- tests
 
--- those that aren't reified
-unfoldable pub plain_holds : ConstraintName → List ℤ → List Operand → Bool
-plain_holds ConstraintName.IntEq a operands = on_two (compares Comparison.Equal) a operands
-plain_holds ConstraintName.IntNe a operands = on_two (compares Comparison.Different) a operands
-plain_holds ConstraintName.IntLe a operands = on_two (compares Comparison.AtMost) a operands
-plain_holds ConstraintName.IntLt a operands = on_two (compares Comparison.Less) a operands
-plain_holds ConstraintName.IntLinEq a operands = on_sum Comparison.Equal a operands
-plain_holds ConstraintName.IntLinNe a operands = on_sum Comparison.Different a operands
-plain_holds ConstraintName.IntLinLe a operands = on_sum Comparison.AtMost a operands
-plain_holds ConstraintName.IntPlus a operands = on_three (gives Operation.Sum) a operands
-plain_holds ConstraintName.IntTimes a operands = on_three (gives Operation.Product) a operands
-plain_holds ConstraintName.IntDiv a operands = on_three (gives Operation.Quotient) a operands
-plain_holds ConstraintName.IntMod a operands = on_three (gives Operation.Remainder) a operands
-plain_holds ConstraintName.IntAbs a operands = on_two is_absolute a operands
-plain_holds ConstraintName.IntMax a operands = on_three (gives Operation.Greatest) a operands
-plain_holds ConstraintName.IntMin a operands = on_three (gives Operation.Least) a operands
-plain_holds ConstraintName.ArrayIntMaximum a operands = on_extreme Extreme.Greatest a operands
-plain_holds ConstraintName.ArrayIntMinimum a operands = on_extreme Extreme.Least a operands
-plain_holds ConstraintName.ArrayIntElement a operands = on_entry a operands
-plain_holds ConstraintName.ArrayVarIntElement a operands = on_entry a operands
-plain_holds ConstraintName.ArrayBoolElement a operands = on_entry a operands
-plain_holds ConstraintName.ArrayVarBoolElement a operands = on_entry a operands
-plain_holds ConstraintName.SetIn a operands = on_set a operands
-plain_holds ConstraintName.BoolToInt a operands = on_two (compares Comparison.Equal) a operands
-plain_holds ConstraintName.BoolEq a operands = on_two (compares Comparison.Equal) a operands
-plain_holds ConstraintName.BoolLe a operands = on_two (compares Comparison.AtMost) a operands
-plain_holds ConstraintName.BoolLt a operands = on_two (compares Comparison.Less) a operands
-plain_holds ConstraintName.BoolNot a operands = on_two (compares Comparison.Different) a operands
-plain_holds ConstraintName.BoolXor a operands = on_differing a operands
-plain_holds ConstraintName.BoolAnd a operands = on_two_joined Junction.All a operands
-plain_holds ConstraintName.BoolOr a operands = on_two_joined Junction.Some a operands
-plain_holds ConstraintName.ArrayBoolAnd a operands = on_row_joined Junction.All a operands
-plain_holds ConstraintName.ArrayBoolOr a operands = on_row_joined Junction.Some a operands
-plain_holds ConstraintName.BoolClause a operands = on_clause a operands
-plain_holds ConstraintName.BoolLinLe a operands = on_sum Comparison.AtMost a operands
-plain_holds ConstraintName.BoolLinEq a operands = on_sum Comparison.Equal a operands
-plain_holds ConstraintName.PccpAllDifferent a operands = on_all_differ a operands
-plain_holds ConstraintName.PccpCumulative a operands = on_tasks a operands
-plain_holds _ a operands = false
+-- the arguments pass a test
+abbrev pub passes : Test → List ℤ → List Operand → Bool
+passes (Test.Two comparison) = on_two (compares comparison)
+passes (Test.Three operation) = on_three (gives operation)
+passes (Test.Sum comparison) = on_sum comparison
+passes Test.Absolute = on_two is_absolute
+passes (Test.Extreme extreme) = on_extreme extreme
+passes Test.Entry = on_entry
+passes Test.Member = on_set
+passes Test.Differing = on_differing
+passes (Test.TwoJoined junction) = on_two_joined junction
+passes (Test.RowJoined junction) = on_row_joined junction
+passes Test.Clause = on_clause
+passes Test.AllDifferent = on_all_differ
+passes Test.Tasks = on_tasks
 
--- the constraint that is reified
-abbrev pub unreified : ConstraintName → Option ConstraintName
-unreified ConstraintName.IntEqReif = Some ConstraintName.IntEq
-unreified ConstraintName.IntNeReif = Some ConstraintName.IntNe
-unreified ConstraintName.IntLeReif = Some ConstraintName.IntLe
-unreified ConstraintName.IntLtReif = Some ConstraintName.IntLt
-unreified ConstraintName.IntLinEqReif = Some ConstraintName.IntLinEq
-unreified ConstraintName.IntLinNeReif = Some ConstraintName.IntLinNe
-unreified ConstraintName.IntLinLeReif = Some ConstraintName.IntLinLe
-unreified ConstraintName.SetInReif = Some ConstraintName.SetIn
-unreified ConstraintName.BoolEqReif = Some ConstraintName.BoolEq
-unreified ConstraintName.BoolLeReif = Some ConstraintName.BoolLe
-unreified ConstraintName.BoolLtReif = Some ConstraintName.BoolLt
-unreified ConstraintName.BoolClauseReif = Some ConstraintName.BoolClause
-unreified _ = None
-
-abbrev pub holds_by : Option ConstraintName → ConstraintName → List ℤ → List Operand → Bool
-holds_by (Some plain) name a operands = reified (plain_holds plain a) a operands
-holds_by None name a operands = plain_holds name a operands
-
-abbrev pub holds_on : ConstraintName → List ℤ → List Operand → Bool
-holds_on name a operands = holds_by (unreified name) name a operands
+-- they pass it, or the last of them says whether the others do
+abbrev pub is_met : Demand → List ℤ → List Operand → Bool
+is_met (Demand.Plain test) a operands = passes test a operands
+is_met (Demand.Reified test) a operands = reified (passes test a) a operands

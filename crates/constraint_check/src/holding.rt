@@ -1,102 +1,95 @@
 //! Whether a constraint holds.
 
-ghost use Rattle.std.specs.Prelude.{◌≡◌, ◌≤◌, ◌↔◌, length, All, IsTrue};
+ghost use Rattle.std.specs.Prelude.{◌≡◌, ◌≤◌, ◌↔◌, ℤ, List, length, All, IsTrue};
 ghost use Rattle.constraint_model.specs.Numbers.{IsInProfile};
-ghost use Rattle.constraint_model.specs.Relations.{Holds};
+ghost use Rattle.constraint_model.specs.Relations.{Holds, HoldsOn};
 ghost use Rattle.constraint_model.specs.WellFormed.{IsWellFormed};
 ghost use Rattle.constraint_check.specs.Asked.{HoldsNumbered, IsSmall};
-ghost use Rattle.constraint_check.specs.Tests.{holds_on, plain_holds, reified, unreified};
+ghost use Rattle.constraint_check.specs.Decided.{Demanded};
+ghost use Rattle.constraint_check.specs.Tests.{passes, is_met, reified};
 
 use crate::comparing::{Comparison, Extreme, Junction, Operation};
-use crate::shapes::{
-    absolute, clause, differ, differing, entry, extreme, member, resource, row_joined, says, sum,
-    three, two, two_joined,
-};
+use crate::shapes::{Test, passes, says};
+use Demand::{Plain, Reified};
 use constraint_model::{Constraint, ConstraintName as Name, FznModel, Operand};
 
-/// Whether a constraint that isn't reified holds.
-#[tactic(auto, unfolding(crate::specs::Tests::plain_holds))]
-fn plain_passes(name: Name, operands: &[Operand], solution: &[i64]) -> bool
-    requires numbers { All IsInProfile solution.now }
-    requires small { All IsSmall operands.now }
-    ensures { result ≡ plain_holds name solution.now operands.now }
+/// What has to hold of the arguments of a constraint.
+#[derive(Debug, Clone, Copy, PartialEq, Eq)]
+enum Demand {
+    /// They pass the test.
+    Plain(Test),
+    /// The last is true exactly where the others pass it.
+    Reified(Test),
+}
+
+/// The table of tests: what has to hold of the arguments of each constraint.
+#[tactic(auto, using(crate::proofs::HoldLaws::exactly), unfolding(constraint_model::specs::Table::HoldsOn))]
+fn demand_of(name: Name) -> Demand
+    ensures { (a : List ℤ) (operands : List Operand) → HoldsOn name a operands ↔ Demanded result a operands }
 {
     match name {
-        Name::IntEq | Name::BoolToInt | Name::BoolEq => two(Comparison::Equal, operands, solution),
-        Name::IntNe | Name::BoolNot => two(Comparison::Different, operands, solution),
-        Name::IntLe | Name::BoolLe => two(Comparison::AtMost, operands, solution),
-        Name::IntLt | Name::BoolLt => two(Comparison::Less, operands, solution),
-        Name::IntLinEq | Name::BoolLinEq => sum(Comparison::Equal, operands, solution),
-        Name::IntLinNe => sum(Comparison::Different, operands, solution),
-        Name::IntLinLe | Name::BoolLinLe => sum(Comparison::AtMost, operands, solution),
-        Name::IntPlus => three(Operation::Sum, operands, solution),
-        Name::IntTimes => three(Operation::Product, operands, solution),
-        Name::IntDiv => three(Operation::Quotient, operands, solution),
-        Name::IntMod => three(Operation::Remainder, operands, solution),
-        Name::IntAbs => absolute(operands, solution),
-        Name::IntMax => three(Operation::Greatest, operands, solution),
-        Name::IntMin => three(Operation::Least, operands, solution),
-        Name::ArrayIntMaximum => extreme(Extreme::Greatest, operands, solution),
-        Name::ArrayIntMinimum => extreme(Extreme::Least, operands, solution),
+        Name::IntEq | Name::BoolToInt | Name::BoolEq => Plain(Test::Two(Comparison::Equal)),
+        Name::IntNe | Name::BoolNot => Plain(Test::Two(Comparison::Different)),
+        Name::IntLe | Name::BoolLe => Plain(Test::Two(Comparison::AtMost)),
+        Name::IntLt | Name::BoolLt => Plain(Test::Two(Comparison::Less)),
+        Name::IntLinEq | Name::BoolLinEq => Plain(Test::Sum(Comparison::Equal)),
+        Name::IntLinNe => Plain(Test::Sum(Comparison::Different)),
+        Name::IntLinLe | Name::BoolLinLe => Plain(Test::Sum(Comparison::AtMost)),
+        Name::IntEqReif | Name::BoolEqReif => Reified(Test::Two(Comparison::Equal)),
+        Name::IntNeReif => Reified(Test::Two(Comparison::Different)),
+        Name::IntLeReif | Name::BoolLeReif => Reified(Test::Two(Comparison::AtMost)),
+        Name::IntLtReif | Name::BoolLtReif => Reified(Test::Two(Comparison::Less)),
+        Name::IntLinEqReif => Reified(Test::Sum(Comparison::Equal)),
+        Name::IntLinNeReif => Reified(Test::Sum(Comparison::Different)),
+        Name::IntLinLeReif => Reified(Test::Sum(Comparison::AtMost)),
+        Name::IntPlus => Plain(Test::Three(Operation::Sum)),
+        Name::IntTimes => Plain(Test::Three(Operation::Product)),
+        Name::IntDiv => Plain(Test::Three(Operation::Quotient)),
+        Name::IntMod => Plain(Test::Three(Operation::Remainder)),
+        Name::IntAbs => Plain(Test::Absolute),
+        Name::IntMax => Plain(Test::Three(Operation::Greatest)),
+        Name::IntMin => Plain(Test::Three(Operation::Least)),
+        Name::ArrayIntMaximum => Plain(Test::Extreme(Extreme::Greatest)),
+        Name::ArrayIntMinimum => Plain(Test::Extreme(Extreme::Least)),
         Name::ArrayIntElement
         | Name::ArrayVarIntElement
         | Name::ArrayBoolElement
-        | Name::ArrayVarBoolElement => entry(operands, solution),
-        Name::SetIn => member(operands, solution),
-        Name::BoolXor => differing(operands, solution),
-        Name::BoolAnd => two_joined(Junction::All, operands, solution),
-        Name::BoolOr => two_joined(Junction::Some, operands, solution),
-        Name::ArrayBoolAnd => row_joined(Junction::All, operands, solution),
-        Name::ArrayBoolOr => row_joined(Junction::Some, operands, solution),
-        Name::BoolClause => clause(operands, solution),
-        Name::PccpAllDifferent => differ(operands, solution),
-        Name::PccpCumulative => resource(operands, solution),
-        _ => false,
+        | Name::ArrayVarBoolElement => Plain(Test::Entry),
+        Name::SetIn => Plain(Test::Member),
+        Name::SetInReif => Reified(Test::Member),
+        Name::BoolXor => Plain(Test::Differing),
+        Name::BoolAnd => Plain(Test::TwoJoined(Junction::All)),
+        Name::BoolOr => Plain(Test::TwoJoined(Junction::Some)),
+        Name::ArrayBoolAnd => Plain(Test::RowJoined(Junction::All)),
+        Name::ArrayBoolOr => Plain(Test::RowJoined(Junction::Some)),
+        Name::BoolClause => Plain(Test::Clause),
+        Name::BoolClauseReif => Reified(Test::Clause),
+        Name::PccpAllDifferent => Plain(Test::AllDifferent),
+        Name::PccpCumulative => Plain(Test::Tasks),
     }
 }
 
-/// The constraint that is reified.
-fn unreified(name: Name) -> Option<Name>
-    ensures { result ≡ unreified name }
-{
-    match name {
-        Name::IntEqReif => Some(Name::IntEq),
-        Name::IntNeReif => Some(Name::IntNe),
-        Name::IntLeReif => Some(Name::IntLe),
-        Name::IntLtReif => Some(Name::IntLt),
-        Name::IntLinEqReif => Some(Name::IntLinEq),
-        Name::IntLinNeReif => Some(Name::IntLinNe),
-        Name::IntLinLeReif => Some(Name::IntLinLe),
-        Name::SetInReif => Some(Name::SetIn),
-        Name::BoolEqReif => Some(Name::BoolEq),
-        Name::BoolLeReif => Some(Name::BoolLe),
-        Name::BoolLtReif => Some(Name::BoolLt),
-        Name::BoolClauseReif => Some(Name::BoolClause),
-        _ => None,
-    }
-}
-
-/// Whether the last argument is true exactly where the constraint holds of the others.
-fn reified(plain: Name, operands: &[Operand], solution: &[i64]) -> bool
+/// Whether the last argument is true exactly where the others pass a test.
+fn reified(test: Test, operands: &[Operand], solution: &[i64]) -> bool
     requires numbers { All IsInProfile solution.now }
     requires small { All IsSmall operands.now }
-    ensures { result ≡ reified (plain_holds plain solution.now) solution.now operands.now }
+    ensures { result ≡ reified (passes test solution.now) solution.now operands.now }
 {
     match operands.split_last() {
-        Some((last, others)) => says(last, plain_passes(plain, others, solution), solution),
+        Some((last, others)) => says(last, passes(test, others, solution), solution),
         None => false,
     }
 }
 
-/// The answer of the constraint's test.
-fn passes(name: Name, operands: &[Operand], solution: &[i64]) -> bool
+/// Whether what is demanded holds of the arguments.
+fn is_met(demand: Demand, operands: &[Operand], solution: &[i64]) -> bool
     requires numbers { All IsInProfile solution.now }
     requires small { All IsSmall operands.now }
-    ensures { result ≡ holds_on name solution.now operands.now }
+    ensures { result ≡ is_met demand solution.now operands.now }
 {
-    match unreified(name) {
-        Some(plain) => reified(plain, operands, solution),
-        None => plain_passes(name, operands, solution),
+    match demand {
+        Plain(test) => passes(test, operands, solution),
+        Reified(test) => reified(test, operands, solution),
     }
 }
 
@@ -106,7 +99,11 @@ pub fn holds(constraint: &Constraint, solution: &[i64]) -> bool
     requires small { All IsSmall constraint.now.operands }
     ensures { IsTrue result ↔ Holds constraint.now solution.now }
 {
-    passes(constraint.name, constraint.operands.as_slice(), solution)
+    is_met(
+        demand_of(constraint.name),
+        constraint.operands.as_slice(),
+        solution,
+    )
 }
 
 /// Whether the constraint of this number, from 1 to how many there are, holds of these numbers for the variables.

@@ -1,6 +1,6 @@
 //! Whether a constraint holds of numbers for its variables.
 //!
-//! `holds_now` answers exactly as the constraint's line of `HoldsOn` says, for each of the 48 names and whatever its arguments
+//! `holds_now` answers exactly as the constraint's row of the table says, for each of the 48 names and whatever its arguments
 //! are. It stands on `constraint_model`, and searches nothing.
 #![tactic(auto)]
 

@@ -4,7 +4,7 @@ ghost use Rattle.std.specs.Prelude.{◌≡◌, All};
 ghost use Rattle.constraint_model.specs.Numbers.{IsInProfile};
 ghost use Rattle.constraint_model.specs.Relations.{value};
 ghost use Rattle.constraint_check.specs.Asked.{IsSmall, IsSmallRow};
-ghost use Rattle.constraint_check.specs.Tests.{compares, gives, is_absolute, is_true, on_all_differ, on_clause, on_differing, on_entry, on_extreme, on_row_joined, on_set, on_sum, on_tasks, on_three, on_two, on_two_joined, says, sum_compares};
+ghost use Rattle.constraint_check.specs.Tests.{compares, gives, is_absolute, is_true, on_all_differ, on_clause, on_differing, on_entry, on_extreme, on_row_joined, on_set, on_sum, on_tasks, on_three, on_two, on_two_joined, passes, says, sum_compares};
 
 use crate::comparing::{
     Comparison, Extreme, Junction, Operation, compares, compares_sum, gives, is_absolute, is_true,
@@ -15,6 +15,60 @@ use crate::tasks::{Tasks, is_cumulative};
 use crate::values::{sum_of, value_of};
 use constraint_model::{Operand, Term};
 
+/// What numbers have to be, by the shape of the arguments that they stand for.
+#[derive(Debug, Clone, Copy, PartialEq, Eq)]
+pub(crate) enum Test {
+    /// Two numbers compare so.
+    Two(Comparison),
+    /// The third number is that of the first two.
+    Three(Operation),
+    /// A sum compares so with a number.
+    Sum(Comparison),
+    /// The second number is the first without its sign.
+    Absolute,
+    /// A number is the greatest or the least of an array.
+    Extreme(Extreme),
+    /// The entry of an array at a place, counted from 1, is a number.
+    Entry,
+    /// A number lies in a set.
+    Member,
+    /// Two booleans differ, or a third is true exactly where they do.
+    Differing,
+    /// A boolean is true exactly where both of two others are, or one of them is.
+    TwoJoined(Junction),
+    /// A boolean is true exactly where all of an array are, or one of them is.
+    RowJoined(Junction),
+    /// One boolean of an array is true, or one of another isn't.
+    Clause,
+    /// No two numbers of an array are the same.
+    AllDifferent,
+    /// Tasks use no more than a limit at any time.
+    Tasks,
+}
+
+/// Whether arguments pass a test. Those of another shape don't.
+pub(crate) fn passes(test: Test, operands: &[Operand], solution: &[i64]) -> bool
+    requires numbers { All IsInProfile solution.now }
+    requires small { All IsSmall operands.now }
+    ensures { result ≡ passes test solution.now operands.now }
+{
+    match test {
+        Test::Two(comparison) => two(comparison, operands, solution),
+        Test::Three(operation) => three(operation, operands, solution),
+        Test::Sum(comparison) => sum(comparison, operands, solution),
+        Test::Absolute => absolute(operands, solution),
+        Test::Extreme(which) => extreme(which, operands, solution),
+        Test::Entry => entry(operands, solution),
+        Test::Member => member(operands, solution),
+        Test::Differing => differing(operands, solution),
+        Test::TwoJoined(junction) => two_joined(junction, operands, solution),
+        Test::RowJoined(junction) => row_joined(junction, operands, solution),
+        Test::Clause => clause(operands, solution),
+        Test::AllDifferent => differ(operands, solution),
+        Test::Tasks => resource(operands, solution),
+    }
+}
+
 /// Whether a boolean is true.
 fn is_true_term(term: Term, solution: &[i64]) -> bool
     ensures { result ≡ is_true (value solution.now term) }
@@ -23,7 +77,7 @@ fn is_true_term(term: Term, solution: &[i64]) -> bool
 }
 
 /// Two numbers compare so.
-pub(crate) fn two(comparison: Comparison, operands: &[Operand], solution: &[i64]) -> bool
+fn two(comparison: Comparison, operands: &[Operand], solution: &[i64]) -> bool
     ensures { result ≡ on_two (compares comparison) solution.now operands.now }
 {
     match operands {
@@ -35,7 +89,7 @@ pub(crate) fn two(comparison: Comparison, operands: &[Operand], solution: &[i64]
 }
 
 /// The second number is the first without its sign.
-pub(crate) fn absolute(operands: &[Operand], solution: &[i64]) -> bool
+fn absolute(operands: &[Operand], solution: &[i64]) -> bool
     ensures { result ≡ on_two is_absolute solution.now operands.now }
 {
     match operands {
@@ -47,7 +101,7 @@ pub(crate) fn absolute(operands: &[Operand], solution: &[i64]) -> bool
 }
 
 /// The third number is that of the first two.
-pub(crate) fn three(operation: Operation, operands: &[Operand], solution: &[i64]) -> bool
+fn three(operation: Operation, operands: &[Operand], solution: &[i64]) -> bool
     ensures { result ≡ on_three (gives operation) solution.now operands.now }
 {
     match operands {
@@ -62,7 +116,7 @@ pub(crate) fn three(operation: Operation, operands: &[Operand], solution: &[i64]
 }
 
 /// A boolean is true exactly where both of two others are, or one of them is.
-pub(crate) fn two_joined(junction: Junction, operands: &[Operand], solution: &[i64]) -> bool
+fn two_joined(junction: Junction, operands: &[Operand], solution: &[i64]) -> bool
     ensures { result ≡ on_two_joined junction solution.now operands.now }
 {
     match operands {
@@ -75,7 +129,7 @@ pub(crate) fn two_joined(junction: Junction, operands: &[Operand], solution: &[i
 }
 
 /// A boolean is true exactly where all of an array are, or one of them is.
-pub(crate) fn row_joined(junction: Junction, operands: &[Operand], solution: &[i64]) -> bool
+fn row_joined(junction: Junction, operands: &[Operand], solution: &[i64]) -> bool
     ensures { result ≡ on_row_joined junction solution.now operands.now }
 {
     match operands {
@@ -88,7 +142,7 @@ pub(crate) fn row_joined(junction: Junction, operands: &[Operand], solution: &[i
 }
 
 /// A number is the greatest or the least of an array.
-pub(crate) fn extreme(extreme: Extreme, operands: &[Operand], solution: &[i64]) -> bool
+fn extreme(extreme: Extreme, operands: &[Operand], solution: &[i64]) -> bool
     ensures { result ≡ on_extreme extreme solution.now operands.now }
 {
     match operands {
@@ -103,7 +157,7 @@ pub(crate) fn extreme(extreme: Extreme, operands: &[Operand], solution: &[i64]) 
 }
 
 /// The entry of an array at a place, counted from 1, is a number.
-pub(crate) fn entry(operands: &[Operand], solution: &[i64]) -> bool
+fn entry(operands: &[Operand], solution: &[i64]) -> bool
     ensures { result ≡ on_entry solution.now operands.now }
 {
     match operands {
@@ -118,7 +172,7 @@ pub(crate) fn entry(operands: &[Operand], solution: &[i64]) -> bool
 }
 
 /// A number lies in a set.
-pub(crate) fn member(operands: &[Operand], solution: &[i64]) -> bool
+fn member(operands: &[Operand], solution: &[i64]) -> bool
     ensures { result ≡ on_set solution.now operands.now }
 {
     match operands {
@@ -130,7 +184,7 @@ pub(crate) fn member(operands: &[Operand], solution: &[i64]) -> bool
 }
 
 /// No two numbers of an array are the same.
-pub(crate) fn differ(operands: &[Operand], solution: &[i64]) -> bool
+fn differ(operands: &[Operand], solution: &[i64]) -> bool
     ensures { result ≡ on_all_differ solution.now operands.now }
 {
     match operands {
@@ -140,7 +194,7 @@ pub(crate) fn differ(operands: &[Operand], solution: &[i64]) -> bool
 }
 
 /// Tasks use no more than a limit at any time.
-pub(crate) fn resource(operands: &[Operand], solution: &[i64]) -> bool
+fn resource(operands: &[Operand], solution: &[i64]) -> bool
     requires numbers { All IsInProfile solution.now }
     requires small { All IsSmall operands.now }
     ensures { result ≡ on_tasks solution.now operands.now }
@@ -165,7 +219,7 @@ pub(crate) fn resource(operands: &[Operand], solution: &[i64]) -> bool
 }
 
 /// One boolean of an array is true, or one of another isn't.
-pub(crate) fn clause(operands: &[Operand], solution: &[i64]) -> bool
+fn clause(operands: &[Operand], solution: &[i64]) -> bool
     ensures { result ≡ on_clause solution.now operands.now }
 {
     match operands {
@@ -196,7 +250,7 @@ fn sum_compares(
 }
 
 /// A sum compares so with a number.
-pub(crate) fn sum(comparison: Comparison, operands: &[Operand], solution: &[i64]) -> bool
+fn sum(comparison: Comparison, operands: &[Operand], solution: &[i64]) -> bool
     requires numbers { All IsInProfile solution.now }
     requires small { All IsSmall operands.now }
     ensures { result ≡ on_sum comparison solution.now operands.now }
@@ -218,7 +272,7 @@ pub(crate) fn sum(comparison: Comparison, operands: &[Operand], solution: &[i64]
 }
 
 /// Two booleans differ, or a third is true exactly where they do.
-pub(crate) fn differing(operands: &[Operand], solution: &[i64]) -> bool
+fn differing(operands: &[Operand], solution: &[i64]) -> bool
     ensures { result ≡ on_differing solution.now operands.now }
 {
     match operands {

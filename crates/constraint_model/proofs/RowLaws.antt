@@ -1,6 +1,7 @@
 -- The letters by the number of arguments are those that the arguments fit.
-use Rattle.std.proofs.Common.{◌≡◌, ◌≢◌, ℕ, List, [], ◌∷◌, length, Bool, true, false, cond, nat_eq, unwrap_or, Some, None, refl, sym, ap, ◌∙◌, arith}
+use Rattle.std.proofs.Common.{◌≡◌, ◌≢◌, ℕ, List, [], ◌∷◌, length, Bool, true, false, not, ◌&&◌, ◌||◌, cond, nat_eq, unwrap_or, Some, refl, sym, ap, subst, ◌∙◌, arith}
 use Rattle.std.specs.Prelude.{find}
+use Rattle.std.specs.List.{list_any}
 use Rattle.std.proofs.lemmas.List.{length-map}
 use Rattle.std.proofs.lemmas.Bool.{and_parts, eq-eqb, ne_eqb, false≢true}
 use Rattle.constraint_model.specs.declared.meanings.Meaning.{Meaning}
@@ -26,47 +27,55 @@ by_length n rows = unwrap_or (find (λ letters. nat_eq (length letters) n) rows)
 same_some : {A : Type 0} (x y : A) → Some x ≡ Some y → x ≡ y
 same_some x y h = cc
 
-one_row : (r : List Letter) (meanings : List Meaning) (letters : List Letter) → find (fits_row meanings) (r ∷ []) ≡ Some letters → by_length (length meanings) (r ∷ []) ≡ letters
-one_row r meanings letters h = by (fits_row meanings r) refl h
+abbrev has_length : ℕ → List Letter → Bool
+has_length n letters = nat_eq (length letters) n
+
+-- no two lists are of one length
+abbrev are_apart : List (List Letter) → Bool
+are_apart [] = true
+are_apart (r ∷ rs) = not (list_any (has_length (length r)) rs) && are_apart rs
+
+or_second : (b x : Bool) → x ≡ true → (b || x) ≡ true
+or_second true x h = refl
+or_second false x h = h
+
+-- the one that is found has the length of the arguments
+found_length : (rows : List (List Letter)) (meanings : List Meaning) (letters : List Letter) → find (fits_row meanings) rows ≡ Some letters → list_any (has_length (length meanings)) rows ≡ true
+found_length [] meanings letters h = absurd (cc)
+found_length (r ∷ rs) meanings letters h = by (found_length rs meanings letters) (fits_row meanings r) refl h
   where
-    found : fits_row meanings r ≡ true → r ≡ letters → by_length (length meanings) (r ∷ []) ≡ letters
-    found e s = let t = eq-eqb (length r) (length meanings) (row_lengths r meanings e) in ap (λ b. unwrap_or (cond b (Some r) None) []) t ∙ s
+    n : ℕ
+    n = length meanings
 
-    by : (b : Bool) → fits_row meanings r ≡ b → cond b (Some r) None ≡ Some letters → by_length (length meanings) (r ∷ []) ≡ letters
-    by true e k = found e (same_some r letters k)
-    by false e k = absurd (cc)
+    by : (find (fits_row meanings) rs ≡ Some letters → list_any (has_length n) rs ≡ true) → (b : Bool) → fits_row meanings r ≡ b → cond b (Some r) (find (fits_row meanings) rs) ≡ Some letters
+        → list_any (has_length n) (r ∷ rs) ≡ true
+    by rest true e k = ap (λ b. b || list_any (has_length n) rs) (eq-eqb (length r) n (row_lengths r meanings e))
+    by rest false e k = or_second (has_length n r) (list_any (has_length n) rs) (rest k)
 
-two_rows : (r s : List Letter) (meanings : List Meaning) (letters : List Letter) → length r ≢ length s → find (fits_row meanings) (r ∷ s ∷ []) ≡ Some letters → by_length (length meanings) (r ∷ s ∷ []) ≡ letters
-two_rows r s meanings letters apart h = by (one_row s meanings letters) (fits_row meanings r) refl h
+by_lengths : (rows : List (List Letter)) → are_apart rows ≡ true → (meanings : List Meaning) (letters : List Letter) → find (fits_row meanings) rows ≡ Some letters → by_length (length meanings) rows ≡ letters
+by_lengths [] apart meanings letters h = absurd (cc)
+by_lengths (r ∷ rs) apart meanings letters h = by (by_lengths rs parts.1 meanings letters) (fits_row meanings r) refl h
   where
-    found : fits_row meanings r ≡ true → r ≡ letters → by_length (length meanings) (r ∷ s ∷ []) ≡ letters
-    found e same = let t = eq-eqb (length r) (length meanings) (row_lengths r meanings e) in ap (λ b. unwrap_or (cond b (Some r) (find (λ ls. nat_eq (length ls) (length meanings)) (s ∷ []))) []) t ∙ same
+    n : ℕ
+    n = length meanings
 
-    second : fits_row meanings s ≡ true → by_length (length meanings) (s ∷ []) ≡ letters → by_length (length meanings) (r ∷ s ∷ []) ≡ letters
-    second e same =
-        let l = row_lengths s meanings e in
-        let t = ne_eqb (length r) (length meanings) (λ k. apart (k ∙ sym l)) in
-        ap (λ b. unwrap_or (cond b (Some r) (find (λ ls. nat_eq (length ls) (length meanings)) (s ∷ []))) []) t ∙ same
+    parts : (not (list_any (has_length (length r)) rs) ≡ true) × (are_apart rs ≡ true)
+    parts = and_parts (not (list_any (has_length (length r)) rs)) (are_apart rs) apart
 
-    last : (b : Bool) → fits_row meanings s ≡ b → cond b (Some s) None ≡ Some letters → by_length (length meanings) (s ∷ []) ≡ letters → by_length (length meanings) (r ∷ s ∷ []) ≡ letters
-    last true e k same = second e same
-    last false e k same = absurd (cc)
+    other : list_any (has_length n) rs ≡ true → length r ≢ n
+    other some same = false≢true (sym (ap not some) ∙ subst (λ k. not (list_any (has_length k) rs) ≡ true) same parts.0)
 
-    by : (find (fits_row meanings) (s ∷ []) ≡ Some letters → by_length (length meanings) (s ∷ []) ≡ letters) → (b : Bool) → fits_row meanings r ≡ b → cond b (Some r) (find (fits_row meanings) (s ∷ [])) ≡ Some letters → by_length (length meanings) (r ∷ s ∷ []) ≡ letters
-    by rest true e k = found e (same_some r letters k)
-    by rest false e k = last (fits_row meanings s) refl k (rest k)
+    by : (find (fits_row meanings) rs ≡ Some letters → by_length n rs ≡ letters) → (b : Bool) → fits_row meanings r ≡ b → cond b (Some r) (find (fits_row meanings) rs) ≡ Some letters
+        → by_length n (r ∷ rs) ≡ letters
+    by rest true e k = ap (λ b. unwrap_or (cond b (Some r) (find (has_length n) rs)) []) (eq-eqb (length r) n (row_lengths r meanings e)) ∙ same_some r letters k
+    by rest false e k = ap (λ b. unwrap_or (cond b (Some r) (find (has_length n) rs)) []) (ne_eqb (length r) n (other (found_length rs meanings letters k))) ∙ rest k
 
-abbrev first_row : List (List Letter) → List Letter
-first_row [] = []
-first_row (r ∷ rs) = r
-
--- a name has one row, but for the one that has two of different lengths
-rows : (name : ConstraintName) (meanings : List Meaning) (letters : List Letter) → find (fits_row meanings) (signatures name) ≡ Some letters → by_length (length meanings) (signatures name) ≡ letters
-rows ConstraintName.BoolXor meanings letters h =
-    two_rows (Letter.Boolean ∷ Letter.Boolean ∷ []) (Letter.Boolean ∷ Letter.Boolean ∷ Letter.Boolean ∷ []) meanings letters (λ e. omega (arith, e)) h
-rows name meanings letters h = one_row (first_row (signatures name)) meanings letters h
+-- the first line makes a case of each name
+apart : (name : ConstraintName) → are_apart (signatures name) ≡ true
+apart ConstraintName.IntEq = refl
+apart _ = refl
 
 pub letters_those : LettersAreThose
 unfolding row_for
 letters_those name meanings letters h =
-    ap (λ n. by_length n (signatures name)) (length-map meanings operand_of) ∙ rows name meanings letters h
+    ap (λ n. by_length n (signatures name)) (length-map meanings operand_of) ∙ by_lengths (signatures name) (apart name) meanings letters h

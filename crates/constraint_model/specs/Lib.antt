@@ -5,6 +5,7 @@ pub mod Numbers
 pub mod Ranges
 pub mod Relations
 pub mod Searches
+pub mod Shapes
 pub mod Table
 pub mod WellFormed
 pub mod Entries

@@ -1,6 +1,7 @@
 //! The constraints that are known, by name.
 
-ghost use Rattle.std.specs.Prelude.{◌≡◌, ◌&&◌, map, find, bytes_eq, nat_eq, length, MatchOption, None, Some, is_some};
+ghost use Rattle.std.specs.Prelude.{◌≡◌, ◌&&◌, map, find, bytes_eq, nat_eq, length, MatchOption, None, Some, is_some, true};
+ghost use Rattle.std.specs.List.{list_all};
 ghost use Rattle.constraint_model.specs.Table.{spelled, signatures};
 ghost use Rattle.constraint_model.specs.Fits.{named, fits, all_fit, has_equal_lengths, fits_row, row_for, NamesAreFound, LettersAreThose};
 
@@ -135,126 +136,311 @@ pub enum Letter {
     Amounts,
 }
 
-/// Every name, in the order of the table.
-pub(crate) const NAMES: [ConstraintName; 48] = [
-    ConstraintName::IntEq,
-    ConstraintName::IntNe,
-    ConstraintName::IntLe,
-    ConstraintName::IntLt,
-    ConstraintName::IntLinEq,
-    ConstraintName::IntLinNe,
-    ConstraintName::IntLinLe,
-    ConstraintName::IntEqReif,
-    ConstraintName::IntNeReif,
-    ConstraintName::IntLeReif,
-    ConstraintName::IntLtReif,
-    ConstraintName::IntLinEqReif,
-    ConstraintName::IntLinNeReif,
-    ConstraintName::IntLinLeReif,
-    ConstraintName::IntPlus,
-    ConstraintName::IntTimes,
-    ConstraintName::IntDiv,
-    ConstraintName::IntMod,
-    ConstraintName::IntAbs,
-    ConstraintName::IntMax,
-    ConstraintName::IntMin,
-    ConstraintName::ArrayIntMaximum,
-    ConstraintName::ArrayIntMinimum,
-    ConstraintName::ArrayIntElement,
-    ConstraintName::ArrayVarIntElement,
-    ConstraintName::ArrayBoolElement,
-    ConstraintName::ArrayVarBoolElement,
-    ConstraintName::SetIn,
-    ConstraintName::SetInReif,
-    ConstraintName::BoolToInt,
-    ConstraintName::BoolEq,
-    ConstraintName::BoolLe,
-    ConstraintName::BoolLt,
-    ConstraintName::BoolEqReif,
-    ConstraintName::BoolLeReif,
-    ConstraintName::BoolLtReif,
-    ConstraintName::BoolNot,
-    ConstraintName::BoolXor,
-    ConstraintName::BoolAnd,
-    ConstraintName::BoolOr,
-    ConstraintName::ArrayBoolAnd,
-    ConstraintName::ArrayBoolOr,
-    ConstraintName::BoolClause,
-    ConstraintName::BoolClauseReif,
-    ConstraintName::BoolLinLe,
-    ConstraintName::BoolLinEq,
-    ConstraintName::PccpAllDifferent,
-    ConstraintName::PccpCumulative,
+/// What is said of a constraint.
+struct Row {
+    /// Its name.
+    name: ConstraintName,
+    /// How it is spelled.
+    spelling: &'static str,
+    /// What its arguments have to be. A name that may be called in two ways has two lists.
+    signatures: &'static [&'static [Letter]],
+}
+
+/// The table, in the order of the names.
+const TABLE: &[Row] = &[
+    Row {
+        name: ConstraintName::IntEq,
+        spelling: "int_eq",
+        signatures: &[&[Letter::Integer, Letter::Integer]],
+    },
+    Row {
+        name: ConstraintName::IntNe,
+        spelling: "int_ne",
+        signatures: &[&[Letter::Integer, Letter::Integer]],
+    },
+    Row {
+        name: ConstraintName::IntLe,
+        spelling: "int_le",
+        signatures: &[&[Letter::Integer, Letter::Integer]],
+    },
+    Row {
+        name: ConstraintName::IntLt,
+        spelling: "int_lt",
+        signatures: &[&[Letter::Integer, Letter::Integer]],
+    },
+    Row {
+        name: ConstraintName::IntLinEq,
+        spelling: "int_lin_eq",
+        signatures: &[&[Letter::Coefficients, Letter::Integers, Letter::Constant]],
+    },
+    Row {
+        name: ConstraintName::IntLinNe,
+        spelling: "int_lin_ne",
+        signatures: &[&[Letter::Coefficients, Letter::Integers, Letter::Constant]],
+    },
+    Row {
+        name: ConstraintName::IntLinLe,
+        spelling: "int_lin_le",
+        signatures: &[&[Letter::Coefficients, Letter::Integers, Letter::Constant]],
+    },
+    Row {
+        name: ConstraintName::IntEqReif,
+        spelling: "int_eq_reif",
+        signatures: &[&[Letter::Integer, Letter::Integer, Letter::Boolean]],
+    },
+    Row {
+        name: ConstraintName::IntNeReif,
+        spelling: "int_ne_reif",
+        signatures: &[&[Letter::Integer, Letter::Integer, Letter::Boolean]],
+    },
+    Row {
+        name: ConstraintName::IntLeReif,
+        spelling: "int_le_reif",
+        signatures: &[&[Letter::Integer, Letter::Integer, Letter::Boolean]],
+    },
+    Row {
+        name: ConstraintName::IntLtReif,
+        spelling: "int_lt_reif",
+        signatures: &[&[Letter::Integer, Letter::Integer, Letter::Boolean]],
+    },
+    Row {
+        name: ConstraintName::IntLinEqReif,
+        spelling: "int_lin_eq_reif",
+        signatures: &[&[
+            Letter::Coefficients,
+            Letter::Integers,
+            Letter::Constant,
+            Letter::Boolean,
+        ]],
+    },
+    Row {
+        name: ConstraintName::IntLinNeReif,
+        spelling: "int_lin_ne_reif",
+        signatures: &[&[
+            Letter::Coefficients,
+            Letter::Integers,
+            Letter::Constant,
+            Letter::Boolean,
+        ]],
+    },
+    Row {
+        name: ConstraintName::IntLinLeReif,
+        spelling: "int_lin_le_reif",
+        signatures: &[&[
+            Letter::Coefficients,
+            Letter::Integers,
+            Letter::Constant,
+            Letter::Boolean,
+        ]],
+    },
+    Row {
+        name: ConstraintName::IntPlus,
+        spelling: "int_plus",
+        signatures: &[&[Letter::Integer, Letter::Integer, Letter::Integer]],
+    },
+    Row {
+        name: ConstraintName::IntTimes,
+        spelling: "int_times",
+        signatures: &[&[Letter::Integer, Letter::Integer, Letter::Integer]],
+    },
+    Row {
+        name: ConstraintName::IntDiv,
+        spelling: "int_div",
+        signatures: &[&[Letter::Integer, Letter::Integer, Letter::Integer]],
+    },
+    Row {
+        name: ConstraintName::IntMod,
+        spelling: "int_mod",
+        signatures: &[&[Letter::Integer, Letter::Integer, Letter::Integer]],
+    },
+    Row {
+        name: ConstraintName::IntAbs,
+        spelling: "int_abs",
+        signatures: &[&[Letter::Integer, Letter::Integer]],
+    },
+    Row {
+        name: ConstraintName::IntMax,
+        spelling: "int_max",
+        signatures: &[&[Letter::Integer, Letter::Integer, Letter::Integer]],
+    },
+    Row {
+        name: ConstraintName::IntMin,
+        spelling: "int_min",
+        signatures: &[&[Letter::Integer, Letter::Integer, Letter::Integer]],
+    },
+    Row {
+        name: ConstraintName::ArrayIntMaximum,
+        spelling: "array_int_maximum",
+        signatures: &[&[Letter::Integer, Letter::Integers]],
+    },
+    Row {
+        name: ConstraintName::ArrayIntMinimum,
+        spelling: "array_int_minimum",
+        signatures: &[&[Letter::Integer, Letter::Integers]],
+    },
+    Row {
+        name: ConstraintName::ArrayIntElement,
+        spelling: "array_int_element",
+        signatures: &[&[Letter::Integer, Letter::Numbers, Letter::Integer]],
+    },
+    Row {
+        name: ConstraintName::ArrayVarIntElement,
+        spelling: "array_var_int_element",
+        signatures: &[&[Letter::Integer, Letter::Integers, Letter::Integer]],
+    },
+    Row {
+        name: ConstraintName::ArrayBoolElement,
+        spelling: "array_bool_element",
+        signatures: &[&[Letter::Integer, Letter::Truths, Letter::Boolean]],
+    },
+    Row {
+        name: ConstraintName::ArrayVarBoolElement,
+        spelling: "array_var_bool_element",
+        signatures: &[&[Letter::Integer, Letter::Booleans, Letter::Boolean]],
+    },
+    Row {
+        name: ConstraintName::SetIn,
+        spelling: "set_in",
+        signatures: &[&[Letter::Integer, Letter::Set]],
+    },
+    Row {
+        name: ConstraintName::SetInReif,
+        spelling: "set_in_reif",
+        signatures: &[&[Letter::Integer, Letter::Set, Letter::Boolean]],
+    },
+    Row {
+        name: ConstraintName::BoolToInt,
+        spelling: "bool2int",
+        signatures: &[&[Letter::Boolean, Letter::Integer]],
+    },
+    Row {
+        name: ConstraintName::BoolEq,
+        spelling: "bool_eq",
+        signatures: &[&[Letter::Boolean, Letter::Boolean]],
+    },
+    Row {
+        name: ConstraintName::BoolLe,
+        spelling: "bool_le",
+        signatures: &[&[Letter::Boolean, Letter::Boolean]],
+    },
+    Row {
+        name: ConstraintName::BoolLt,
+        spelling: "bool_lt",
+        signatures: &[&[Letter::Boolean, Letter::Boolean]],
+    },
+    Row {
+        name: ConstraintName::BoolEqReif,
+        spelling: "bool_eq_reif",
+        signatures: &[&[Letter::Boolean, Letter::Boolean, Letter::Boolean]],
+    },
+    Row {
+        name: ConstraintName::BoolLeReif,
+        spelling: "bool_le_reif",
+        signatures: &[&[Letter::Boolean, Letter::Boolean, Letter::Boolean]],
+    },
+    Row {
+        name: ConstraintName::BoolLtReif,
+        spelling: "bool_lt_reif",
+        signatures: &[&[Letter::Boolean, Letter::Boolean, Letter::Boolean]],
+    },
+    Row {
+        name: ConstraintName::BoolNot,
+        spelling: "bool_not",
+        signatures: &[&[Letter::Boolean, Letter::Boolean]],
+    },
+    Row {
+        name: ConstraintName::BoolXor,
+        spelling: "bool_xor",
+        signatures: &[
+            &[Letter::Boolean, Letter::Boolean],
+            &[Letter::Boolean, Letter::Boolean, Letter::Boolean],
+        ],
+    },
+    Row {
+        name: ConstraintName::BoolAnd,
+        spelling: "bool_and",
+        signatures: &[&[Letter::Boolean, Letter::Boolean, Letter::Boolean]],
+    },
+    Row {
+        name: ConstraintName::BoolOr,
+        spelling: "bool_or",
+        signatures: &[&[Letter::Boolean, Letter::Boolean, Letter::Boolean]],
+    },
+    Row {
+        name: ConstraintName::ArrayBoolAnd,
+        spelling: "array_bool_and",
+        signatures: &[&[Letter::Booleans, Letter::Boolean]],
+    },
+    Row {
+        name: ConstraintName::ArrayBoolOr,
+        spelling: "array_bool_or",
+        signatures: &[&[Letter::Booleans, Letter::Boolean]],
+    },
+    Row {
+        name: ConstraintName::BoolClause,
+        spelling: "bool_clause",
+        signatures: &[&[Letter::Booleans, Letter::Booleans]],
+    },
+    Row {
+        name: ConstraintName::BoolClauseReif,
+        spelling: "bool_clause_reif",
+        signatures: &[&[Letter::Booleans, Letter::Booleans, Letter::Boolean]],
+    },
+    Row {
+        name: ConstraintName::BoolLinLe,
+        spelling: "bool_lin_le",
+        signatures: &[&[Letter::Coefficients, Letter::Booleans, Letter::Constant]],
+    },
+    Row {
+        name: ConstraintName::BoolLinEq,
+        spelling: "bool_lin_eq",
+        signatures: &[&[Letter::Coefficients, Letter::Booleans, Letter::Integer]],
+    },
+    Row {
+        name: ConstraintName::PccpAllDifferent,
+        spelling: "pccp_all_different",
+        signatures: &[&[Letter::Integers]],
+    },
+    Row {
+        name: ConstraintName::PccpCumulative,
+        spelling: "pccp_cumulative",
+        signatures: &[&[
+            Letter::Integers,
+            Letter::Amounts,
+            Letter::Amounts,
+            Letter::Amount,
+        ]],
+    },
 ];
 
-/// The first of these names that is spelled so.
-#[tactic(auto, using(crate::proofs::Finds::finds))]
-fn first_named(names: &[ConstraintName], word: &[u8]) -> Option<ConstraintName>
-    ensures { result ≡ find (λ name. bytes_eq (spelled name) word.now) names.now }
+/// The name of the first of these rows that is spelled so. Each of them is spelled as its name.
+#[tactic(auto, using(crate::proofs::Finds::finds, crate::proofs::NameLaws::found_here))]
+fn first_named(rows: &[Row], word: &[u8]) -> Option<ConstraintName>
+    requires { list_all (λ row. bytes_eq row.spelling.now (spelled row.name)) rows.now ≡ true }
+    ensures { result ≡ find (λ name. bytes_eq (spelled name) word.now) (map (λ row. row.name) rows.now) }
 {
-    for name in names {
-        if name.text().as_bytes() == word {
-            return Some(*name);
+    for row in rows {
+        if row.spelling.as_bytes() == word {
+            return Some(row.name);
         }
     }
     None
 }
 
 impl ConstraintName {
+    /// What is said of it.
+    fn row(self) -> &'static Row
+        ensures spelling { result.now.spelling.now ≡ spelled self }
+        ensures signatures { map (λ letters. letters.now) result.now.signatures.now ≡ signatures self }
+    {
+        &TABLE[self as usize]
+    }
+
     /// How it is spelled.
     pub fn text(self) -> &'static str
         ensures { result.now ≡ spelled self }
     {
-        match self {
-            Self::IntEq => "int_eq",
-            Self::IntNe => "int_ne",
-            Self::IntLe => "int_le",
-            Self::IntLt => "int_lt",
-            Self::IntLinEq => "int_lin_eq",
-            Self::IntLinNe => "int_lin_ne",
-            Self::IntLinLe => "int_lin_le",
-            Self::IntEqReif => "int_eq_reif",
-            Self::IntNeReif => "int_ne_reif",
-            Self::IntLeReif => "int_le_reif",
-            Self::IntLtReif => "int_lt_reif",
-            Self::IntLinEqReif => "int_lin_eq_reif",
-            Self::IntLinNeReif => "int_lin_ne_reif",
-            Self::IntLinLeReif => "int_lin_le_reif",
-            Self::IntPlus => "int_plus",
-            Self::IntTimes => "int_times",
-            Self::IntDiv => "int_div",
-            Self::IntMod => "int_mod",
-            Self::IntAbs => "int_abs",
-            Self::IntMax => "int_max",
-            Self::IntMin => "int_min",
-            Self::ArrayIntMaximum => "array_int_maximum",
-            Self::ArrayIntMinimum => "array_int_minimum",
-            Self::ArrayIntElement => "array_int_element",
-            Self::ArrayVarIntElement => "array_var_int_element",
-            Self::ArrayBoolElement => "array_bool_element",
-            Self::ArrayVarBoolElement => "array_var_bool_element",
-            Self::SetIn => "set_in",
-            Self::SetInReif => "set_in_reif",
-            Self::BoolToInt => "bool2int",
-            Self::BoolEq => "bool_eq",
-            Self::BoolLe => "bool_le",
-            Self::BoolLt => "bool_lt",
-            Self::BoolEqReif => "bool_eq_reif",
-            Self::BoolLeReif => "bool_le_reif",
-            Self::BoolLtReif => "bool_lt_reif",
-            Self::BoolNot => "bool_not",
-            Self::BoolXor => "bool_xor",
-            Self::BoolAnd => "bool_and",
-            Self::BoolOr => "bool_or",
-            Self::ArrayBoolAnd => "array_bool_and",
-            Self::ArrayBoolOr => "array_bool_or",
-            Self::BoolClause => "bool_clause",
-            Self::BoolClauseReif => "bool_clause_reif",
-            Self::BoolLinLe => "bool_lin_le",
-            Self::BoolLinEq => "bool_lin_eq",
-            Self::PccpAllDifferent => "pccp_all_different",
-            Self::PccpCumulative => "pccp_cumulative",
-        }
+        self.row().spelling
     }
 
     /// The name that is spelled so, where it is known.
@@ -262,74 +448,14 @@ impl ConstraintName {
     pub fn named(word: &[u8]) -> Option<ConstraintName>
         ensures { result ≡ named word.now }
     {
-        first_named(&NAMES, word)
+        first_named(TABLE, word)
     }
 
     /// What its arguments have to be. A name that may be called in two ways has two lists.
     pub(crate) fn signatures(self) -> &'static [&'static [Letter]]
         ensures { map (λ letters. letters.now) result.now ≡ signatures self }
     {
-        match self {
-            Self::IntEq | Self::IntNe | Self::IntLe | Self::IntLt | Self::IntAbs => &[&[
-                Letter::Integer,
-                Letter::Integer,
-            ]],
-            Self::IntLinEq | Self::IntLinNe | Self::IntLinLe => &[&[
-                Letter::Coefficients,
-                Letter::Integers,
-                Letter::Constant,
-            ]],
-            Self::IntEqReif | Self::IntNeReif | Self::IntLeReif | Self::IntLtReif => &[&[
-                Letter::Integer,
-                Letter::Integer,
-                Letter::Boolean,
-            ]],
-            Self::IntLinEqReif | Self::IntLinNeReif | Self::IntLinLeReif => &[&[
-                Letter::Coefficients,
-                Letter::Integers,
-                Letter::Constant,
-                Letter::Boolean,
-            ]],
-            Self::IntPlus
-            | Self::IntTimes
-            | Self::IntDiv
-            | Self::IntMod
-            | Self::IntMax
-            | Self::IntMin => &[&[Letter::Integer, Letter::Integer, Letter::Integer]],
-            Self::ArrayIntMaximum | Self::ArrayIntMinimum => &[&[
-                Letter::Integer,
-                Letter::Integers,
-            ]],
-            Self::ArrayIntElement => &[&[Letter::Integer, Letter::Numbers, Letter::Integer]],
-            Self::ArrayVarIntElement => &[&[Letter::Integer, Letter::Integers, Letter::Integer]],
-            Self::ArrayBoolElement => &[&[Letter::Integer, Letter::Truths, Letter::Boolean]],
-            Self::ArrayVarBoolElement => &[&[Letter::Integer, Letter::Booleans, Letter::Boolean]],
-            Self::SetIn => &[&[Letter::Integer, Letter::Set]],
-            Self::SetInReif => &[&[Letter::Integer, Letter::Set, Letter::Boolean]],
-            Self::BoolToInt => &[&[Letter::Boolean, Letter::Integer]],
-            Self::BoolEq | Self::BoolLe | Self::BoolLt | Self::BoolNot => &[&[
-                Letter::Boolean,
-                Letter::Boolean,
-            ]],
-            Self::BoolEqReif | Self::BoolLeReif | Self::BoolLtReif | Self::BoolAnd | Self::BoolOr =>
-                &[&[Letter::Boolean, Letter::Boolean, Letter::Boolean]],
-            Self::BoolXor => &[
-                &[Letter::Boolean, Letter::Boolean],
-                &[Letter::Boolean, Letter::Boolean, Letter::Boolean],
-            ],
-            Self::ArrayBoolAnd | Self::ArrayBoolOr => &[&[Letter::Booleans, Letter::Boolean]],
-            Self::BoolClause => &[&[Letter::Booleans, Letter::Booleans]],
-            Self::BoolClauseReif => &[&[Letter::Booleans, Letter::Booleans, Letter::Boolean]],
-            Self::BoolLinLe => &[&[Letter::Coefficients, Letter::Booleans, Letter::Constant]],
-            Self::BoolLinEq => &[&[Letter::Coefficients, Letter::Booleans, Letter::Integer]],
-            Self::PccpAllDifferent => &[&[Letter::Integers]],
-            Self::PccpCumulative => &[&[
-                Letter::Integers,
-                Letter::Amounts,
-                Letter::Amounts,
-                Letter::Amount,
-            ]],
-        }
+        self.row().signatures
     }
 }
 

@@ -5,7 +5,7 @@ use Rattle.std.proofs.lemmas.List.{map-append}
 use Rattle.guarded_tell.specs.Words.{Lit}
 use Rattle.guarded_tell.specs.declared.kernel.Kernel.{Kernel}
 use Rattle.constraint_model.specs.declared.model.Term.{Term}
-use Rattle.guarded_tell.specs.Literals.{literal, literals_by_sign}
+use Rattle.clause_tells.specs.Literals.{literal, literals_by_sign}
 use Rattle.decompose.specs.Kernels.{negated, some_of, variable_of, variables_of, clause_literals}
 use Rattle.decompose.specs.Places.{Numbering}
 

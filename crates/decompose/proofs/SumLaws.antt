@@ -12,7 +12,7 @@ use Rattle.interval.specs.Limits.{IsNumber, largest_number}
 use Rattle.guarded_tell.specs.Words.{Lit}
 use Rattle.guarded_tell.specs.declared.kernel.Kernel.{Kernel}
 use Rattle.guarded_tell.specs.Words.{value_of, literal_true}
-use Rattle.guarded_tell.specs.Linear.{sum_over, term_limit, term_value, IsLinear}
+use Rattle.sum_tells.specs.Linear.{sum_over, term_limit, term_value, IsLinear}
 use Rattle.guarded_tell.specs.Kernels.{IsKernel, vars_of, HasNumbers, Holds as KernelHolds}
 use Rattle.constraint_model.specs.declared.model.Term.{Term}
 use Rattle.constraint_model.specs.declared.model.VarDecl.{VarDecl}

@@ -4,8 +4,8 @@ use Rattle.std.proofs.lemmas.List.Elements.{filter_agree}
 use Rattle.std.specs.List.{filter, flat_map}
 use Rattle.tells.specs.declared.tell.Lit.{Lit}
 use Rattle.guarded_tell.specs.Words.{is_out}
-use Rattle.guarded_tell.specs.Linear.{Term, least_of, greatest_of}
-use Rattle.guarded_tell.specs.Equality.{is_same, is_product}
+use Rattle.sum_tells.specs.Linear.{Term, least_of, greatest_of}
+use Rattle.sum_tells.specs.Equality.{is_same, is_product}
 use Rattle.bit_domain.specs.Mixes.{Mix, dom_of, hull, values_of}
 use Rattle.domain_drops.specs.Removals.{makes_limit, term_removal}
 use Rattle.domain_drops.specs.Drops.{dropped, term_drops}

@@ -13,8 +13,8 @@ use Rattle.interval.specs.Boxes.{Bounds, low_of, high_of}
 use Rattle.guarded_tell.specs.declared.kernel.Kernel.{Kernel}
 use Rattle.guarded_tell.specs.declared.kernel.Kernel.TheVariants.{Le, Eq, Times, Div, Mod, Abs, Max, Min, Clause, Element, InSet, AllDiff, Cumulative}
 use Rattle.guarded_tell.specs.Words.{is_sure, is_out, IsProperIn, IsInsideIn}
-use Rattle.guarded_tell.specs.Linear.{Term, least_of, greatest_of, sum_over}
-use Rattle.guarded_tell.specs.Equality.{is_same, is_product}
+use Rattle.sum_tells.specs.Linear.{Term, least_of, greatest_of, sum_over}
+use Rattle.sum_tells.specs.Equality.{is_same, is_product}
 use Rattle.element_tells.specs.Element.{can_equal, places_of}
 use Rattle.set_tells.specs.InSet.{has_number}
 use Rattle.guarded_tell.specs.Kernels.{vars_of, HasNumbers}

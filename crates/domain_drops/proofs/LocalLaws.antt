@@ -9,8 +9,8 @@ use Rattle.tells.specs.declared.tell.Lit.{Lit}
 use Rattle.guarded_tell.specs.declared.kernel.Kernel.{Kernel}
 use Rattle.guarded_tell.specs.declared.kernel.Kernel.TheVariants.{Le, Eq, Times, Div, Mod, Abs, Max, Min, Clause, Element, InSet, AllDiff, Cumulative}
 use Rattle.guarded_tell.specs.Words.{AgreeIn}
-use Rattle.guarded_tell.specs.Linear.{Term, least_of, greatest_of, sum_over}
-use Rattle.guarded_tell.specs.Equality.{is_same, is_product}
+use Rattle.sum_tells.specs.Linear.{Term, least_of, greatest_of, sum_over}
+use Rattle.sum_tells.specs.Equality.{is_same, is_product}
 use Rattle.element_tells.specs.Element.{can_equal}
 use Rattle.set_tells.specs.InSet.{has_number}
 use Rattle.guarded_tell.specs.Kernels.{vars_of}

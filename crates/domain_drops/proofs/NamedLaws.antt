@@ -7,7 +7,7 @@ use Rattle.tells.specs.declared.tell.Lit.{Lit}
 use Rattle.interval.specs.Boxes.{Bounds}
 use Rattle.guarded_tell.specs.declared.kernel.Kernel.{Kernel}
 use Rattle.guarded_tell.specs.declared.kernel.Kernel.TheVariants.{Le, Eq, Times, Div, Mod, Abs, Max, Min, Clause, Element, InSet, AllDiff, Cumulative}
-use Rattle.guarded_tell.specs.Linear.{Term, least_of, greatest_of, sum_over}
+use Rattle.sum_tells.specs.Linear.{Term, least_of, greatest_of, sum_over}
 use Rattle.guarded_tell.specs.Kernels.{vars_of, HasNumbers}
 use Rattle.domain_drops.specs.Removals.{Removal, term_removal, equation_removals, set_removal, place_removal, removals}
 use Rattle.domain_drops.proofs.TermLaws.{length-zip, get_or-zip}

@@ -15,8 +15,8 @@ use Rattle.interval.specs.Boxes.{Bounds, low_of, high_of, IsPoint}
 use Rattle.guarded_tell.specs.declared.kernel.Kernel.{Kernel}
 use Rattle.guarded_tell.specs.declared.kernel.Kernel.TheVariants.{Le, Eq, Times, Div, Mod, Abs, Max, Min, Clause, Element, InSet, AllDiff, Cumulative}
 use Rattle.guarded_tell.specs.Words.{literal_true, is_sure, is_out, value_of, point_of, AreVariables}
-use Rattle.guarded_tell.specs.Linear.{Term, least_of, greatest_of, sum_over, term_value}
-use Rattle.guarded_tell.specs.Equality.{is_same, is_product, IsEquation}
+use Rattle.sum_tells.specs.Linear.{Term, least_of, greatest_of, sum_over, term_value}
+use Rattle.sum_tells.specs.Equality.{is_same, is_product, IsEquation}
 use Rattle.element_tells.specs.Element.{can_equal, places_of, IsElement}
 use Rattle.set_tells.specs.InSet.{has_number, IsInSet}
 use Rattle.guarded_tell.specs.Kernels.{vars_of, HasNumbers, Holds}

@@ -7,8 +7,8 @@ use Rattle.std.specs.Int.{int_min, int_max}
 use Rattle.std.specs.Int.RustNames.{int_le}
 use mir.Syntax.{w64, w128}
 use Rattle.interval.specs.Limits.{IsNumber, IsBound, largest_number, bound_limit, dividend_limit}
-use Rattle.guarded_tell.specs.Linear.{product_limit, sum_limit, term_limit}
-use Rattle.guarded_tell.specs.Equality.{is_same, is_product}
+use Rattle.sum_tells.specs.Linear.{product_limit, sum_limit, term_limit}
+use Rattle.sum_tells.specs.Equality.{is_same, is_product}
 
 pub by_bool : {P : Type 0} (t : Bool) → (t ≡ true → P) → (t ≡ false → P) → P
 by_bool true f g = f refl

@@ -9,7 +9,7 @@ use borrow.Author.Differences.{up, down}
 use Rattle.tells.specs.declared.tell.Lit.{Lit}
 use Rattle.interval.specs.Boxes.{Bounds, low_of, high_of, IsPoint}
 use Rattle.guarded_tell.specs.Words.{literal_true, sign_true, is_sure, is_out, value_of, point_of, AreVariables, IsProperIn, IsInsideIn, AgreeIn}
-use Rattle.guarded_tell.specs.Linear.{Term, least_of, greatest_of, sum_over, term_value}
+use Rattle.sum_tells.specs.Linear.{Term, least_of, greatest_of, sum_over, term_value}
 use Rattle.domain_drops.proofs.TermLaws.{length-zip, get_or-zip}
 
 -- ---- sums

@@ -2,7 +2,7 @@
 use Rattle.std.proofs.Common.{◌≡◌, ℕ, zero, suc, ◌+◌, ◌<◌, ◌≤◌, List, [], ◌∷◌, length, drop, get_or, ℤ, pos, ◌+ℤ◌, refl, ap, ◌∙◌, arith}
 use Rattle.std.proofs.lemmas.List.{at_drop_more, at_drop_all}
 use Rattle.std.specs.List.{zip}
-use Rattle.guarded_tell.specs.Linear.{Term, sum_over}
+use Rattle.sum_tells.specs.Linear.{Term, sum_over}
 
 pub length-zip : (coeffs : List ℤ) (vars : List ℕ) → length coeffs ≡ length vars → length (zip coeffs vars) ≡ length coeffs
 length-zip [] vars e = refl

@@ -3,7 +3,7 @@
 use Rattle.std.specs.Prelude.{◌≡◌, ◌<◌, ℕ, ℤ, List, length, map, slice_index}
 use Rattle.std.specs.List.{filter, flat_map}
 use Rattle.guarded_tell.specs.declared.kernel.Kernel.{Kernel}
-use Rattle.guarded_tell.specs.Linear.{Term}
+use Rattle.sum_tells.specs.Linear.{Term}
 use Rattle.bit_domain.specs.Mixes.{Mix, dom_of, hull, values_of, IsInsideDom}
 use Rattle.domain_drops.specs.Hearing.{Drop}
 use Rattle.domain_drops.specs.Removals.{Removal, removals, makes_limit}

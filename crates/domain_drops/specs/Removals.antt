@@ -8,8 +8,8 @@ use Rattle.interval.specs.Boxes.{Bounds}
 use Rattle.guarded_tell.specs.declared.kernel.Kernel.{Kernel}
 use Rattle.guarded_tell.specs.declared.kernel.Kernel.TheVariants.{Le, Eq, Times, Div, Mod, Abs, Max, Min, Clause, Element, InSet, AllDiff, Cumulative}
 use Rattle.guarded_tell.specs.Words.{is_sure, is_out}
-use Rattle.guarded_tell.specs.Linear.{Term, sum_over, least_of, greatest_of}
-use Rattle.guarded_tell.specs.Equality.{is_same, is_product}
+use Rattle.sum_tells.specs.Linear.{Term, sum_over, least_of, greatest_of}
+use Rattle.sum_tells.specs.Equality.{is_same, is_product}
 use Rattle.element_tells.specs.Element.{places_of, can_equal}
 use Rattle.set_tells.specs.InSet.{has_number}
 

@@ -4,8 +4,8 @@ ghost use Rattle.std.specs.Prelude.{◌≡◌, ◌<◌, ◌≤◌, ◌∷◌, le
 ghost use Rattle.std.specs.List.{filter, zip, flat_map};
 ghost use Rattle.interval.specs.Limits.{IsNumber};
 ghost use Rattle.guarded_tell.specs.Words.{AreVariables};
-ghost use Rattle.guarded_tell.specs.Linear.{sum_limit, IsLinear};
-ghost use Rattle.guarded_tell.specs.Equality.{is_product};
+ghost use Rattle.sum_tells.specs.Linear.{sum_limit, IsLinear};
+ghost use Rattle.sum_tells.specs.Equality.{is_product};
 ghost use Rattle.bit_domain.specs.Mixes.{dom_of, hull, values_of};
 ghost use Rattle.domain_drops.specs.Hearing.{MayHearDrops, HearsDrops};
 ghost use Rattle.domain_drops.specs.Removals.{equation_removals};

@@ -4,8 +4,8 @@ ghost use Rattle.std.specs.Prelude.{◌≡◌, ◌<◌, ◌≤◌, ◌-ℤ◌, �
 ghost use Rattle.std.specs.List.{zip};
 ghost use Rattle.interval.specs.Limits.{IsBound, IsNumber, dividend_limit};
 ghost use Rattle.guarded_tell.specs.Words.{AreVariables};
-ghost use Rattle.guarded_tell.specs.Linear.{least_of, greatest_of, sum_over, sum_limit, product_limit, IsLinear};
-ghost use Rattle.guarded_tell.specs.Equality as equality;
+ghost use Rattle.sum_tells.specs.Linear.{least_of, greatest_of, sum_over, sum_limit, product_limit, IsLinear};
+ghost use Rattle.sum_tells.specs.Equality as equality;
 ghost use Rattle.bit_domain.specs.Mixes.{hull};
 
 use crate::walk::NumberTest;
@@ -50,7 +50,7 @@ impl NumberTest for Product {
 }
 
 /// Whether the coefficient isn't 0, and times this number it is `product`.
-#[tactic(auto, unfolding(guarded_tell::specs::Linear::product_limit, interval::specs::Limits::bound_limit, interval::specs::Limits::largest_number))]
+#[tactic(auto, unfolding(sum_tells::specs::Linear::product_limit, interval::specs::Limits::bound_limit, interval::specs::Limits::largest_number))]
 fn is_product(coeff: i64, z: i64, product: i128) -> bool
     requires coefficient { IsNumber coeff }
     requires number { IsBound z }
@@ -112,7 +112,7 @@ pub(crate) fn sum_range(coeffs: &Extended<i64>, vars: &Extended<u32>, m: &MixOf)
 }
 
 /// The sum with one more term.
-#[tactic(auto, unfolding(guarded_tell::specs::Linear::sum_limit, guarded_tell::specs::Linear::term_limit, guarded_tell::specs::Linear::product_limit, interval::specs::Limits::bound_limit, interval::specs::Limits::largest_number))]
+#[tactic(auto, unfolding(sum_tells::specs::Linear::sum_limit, sum_tells::specs::Linear::term_limit, sum_tells::specs::Linear::product_limit, interval::specs::Limits::bound_limit, interval::specs::Limits::largest_number))]
 fn sum_with(sum: Range, own: Range) -> Range
     requires sum_least { unsigned_abs sum.least ≤ sum_limit }
     requires sum_greatest { unsigned_abs sum.greatest ≤ sum_limit }
@@ -128,7 +128,7 @@ fn sum_with(sum: Range, own: Range) -> Range
 }
 
 /// What one term is at least and at most.
-#[tactic(auto, unfolding(guarded_tell::specs::Linear::least_of, guarded_tell::specs::Linear::greatest_of))]
+#[tactic(auto, unfolding(sum_tells::specs::Linear::least_of, sum_tells::specs::Linear::greatest_of))]
 pub(crate) fn term_range(term: Term, m: &MixOf) -> Range
     requires coefficient { IsNumber term.coeff }
     requires variable { term.var < length m.now }
@@ -147,7 +147,7 @@ pub(crate) fn term_range(term: Term, m: &MixOf) -> Range
 }
 
 /// Whether the other terms of a sum are fixed: what they are at least and at most is the same.
-#[tactic(auto, unfolding(guarded_tell::specs::Linear::sum_limit, guarded_tell::specs::Linear::term_limit, guarded_tell::specs::Linear::product_limit, interval::specs::Limits::bound_limit, interval::specs::Limits::largest_number))]
+#[tactic(auto, unfolding(sum_tells::specs::Linear::sum_limit, sum_tells::specs::Linear::term_limit, sum_tells::specs::Linear::product_limit, interval::specs::Limits::bound_limit, interval::specs::Limits::largest_number))]
 pub(crate) fn are_others_fixed(own: Range, sum: Range) -> bool
     requires least_sum { unsigned_abs sum.least ≤ sum_limit }
     requires greatest_sum { unsigned_abs sum.greatest ≤ sum_limit }
@@ -159,7 +159,7 @@ pub(crate) fn are_others_fixed(own: Range, sum: Range) -> bool
 }
 
 /// What the values of the other terms of a sum leave for a term of the limit.
-#[tactic(auto, unfolding(guarded_tell::specs::Linear::sum_limit, guarded_tell::specs::Linear::term_limit, guarded_tell::specs::Linear::product_limit, interval::specs::Limits::bound_limit, interval::specs::Limits::largest_number, interval::specs::Limits::dividend_limit))]
+#[tactic(auto, unfolding(sum_tells::specs::Linear::sum_limit, sum_tells::specs::Linear::term_limit, sum_tells::specs::Linear::product_limit, interval::specs::Limits::bound_limit, interval::specs::Limits::largest_number, interval::specs::Limits::dividend_limit))]
 pub(crate) fn room_for(limit: i64, sum: i128, own: i128) -> i128
     requires limit { IsNumber limit }
     requires sum { unsigned_abs sum ≤ sum_limit }

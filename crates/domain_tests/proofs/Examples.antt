@@ -14,7 +14,7 @@ use Rattle.interval.specs.Boxes.{Bounds, IsInRange, IsProper, low_of, high_of}
 use Rattle.guarded_tell.specs.Words.{Lit, IsProperIn, AreVariables}
 use Rattle.guarded_tell.specs.declared.kernel.Kernel.{Kernel}
 use Rattle.guarded_tell.specs.declared.kernel.Kernel.TheVariants.{Eq, Abs, Element, InSet}
-use Rattle.guarded_tell.specs.Linear.{IsLinear, term_limit}
+use Rattle.sum_tells.specs.Linear.{IsLinear, term_limit}
 use Rattle.extreme_tells.specs.Extremes.{member_limit}
 use Rattle.set_tells.specs.InSet.{IsSet, range_limit}
 use Rattle.guarded_tell.specs.Kernels.{vars_of, HasNumbers, IsKernel}

@@ -4,7 +4,7 @@ ghost use Rattle.std.specs.Prelude.{◌≡◌, ◌<◌, ◌++◌, [], ◌∷◌,
 ghost use Rattle.std.specs.Bool.{OnTrue};
 ghost use Rattle.interval.specs.Limits.{IsBound, IsNumber};
 ghost use Rattle.guarded_tell.specs.Words.{AreVariables};
-ghost use Rattle.guarded_tell.specs.Linear.{IsLinear};
+ghost use Rattle.sum_tells.specs.Linear.{IsLinear};
 ghost use Rattle.interval.specs.Boxes.{IsProper};
 ghost use Rattle.guarded_tell.specs.Kernels.{IsKernel};
 ghost use Rattle.bit_domain.specs.Mixes.{hull};

@@ -12,7 +12,7 @@ use Rattle.guarded_tell.specs.Words.{Lit}
 use Rattle.guarded_tell.specs.Words.{Tell}
 use Rattle.guarded_tell.specs.Words.{Low, High}
 use Rattle.guarded_tell.specs.Words.{Keeps, is_sure, is_out}
-use Rattle.guarded_tell.specs.Linear.{sum_over, least_of, greatest_of}
+use Rattle.sum_tells.specs.Linear.{sum_over, least_of, greatest_of}
 use Rattle.guarded_tell.specs.Kernels.{tells}
 use Rattle.fixpoint_laws.specs.OneRound.{IsOneRound, IsHeardBetween, LeadsIn, LeavesAlone}
 

@@ -11,9 +11,9 @@ use Rattle.interval.specs.Boxes.{IsInRange}
 use Rattle.guarded_tell.specs.Words.{Lit}
 use Rattle.guarded_tell.specs.declared.kernel.Kernel.TheVariants.{Le, Eq, Times, Div, Mod, Abs, Max, Min, Clause, Element, InSet}
 use Rattle.guarded_tell.specs.Words.{AreVariables}
-use Rattle.guarded_tell.specs.Linear.{IsLinear, term_limit}
+use Rattle.sum_tells.specs.Linear.{IsLinear, term_limit}
 use Rattle.extreme_tells.specs.Extremes.{member_limit}
-use Rattle.guarded_tell.specs.Clause.{clause_vars, literal_limit}
+use Rattle.clause_tells.specs.Clause.{clause_vars, literal_limit}
 use Rattle.set_tells.specs.InSet.{IsSet, range_limit}
 use Rattle.guarded_tell.specs.Kernels.{vars_of, HasNumbers, IsKernel}
 

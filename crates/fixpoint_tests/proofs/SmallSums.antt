@@ -9,7 +9,7 @@ use Rattle.interval.specs.Limits.{IsNumber, largest_number}
 use Rattle.guarded_tell.specs.Words.{Lit}
 use Rattle.guarded_tell.specs.declared.kernel.Kernel.TheVariants.{Le, Eq}
 use Rattle.guarded_tell.specs.Words.{AreVariables}
-use Rattle.guarded_tell.specs.Linear.{IsLinear, term_limit}
+use Rattle.sum_tells.specs.Linear.{IsLinear, term_limit}
 use Rattle.guarded_tell.specs.Kernels.{vars_of, HasNumbers, IsKernel}
 use Rattle.rounds.specs.Shares.{IsCut, share_limit, share_at}
 use Rattle.fixpoint_tests.specs.Small.{is_small, are_small, are_below_four}

@@ -10,9 +10,9 @@ use Rattle.fzn_lexer.specs.Machine.{step, accepted, alive_if, digits_step, later
 use Rattle.fzn_lexer.specs.declared.PieceKind.{PieceKind}
 use Rattle.fzn_lexer.specs.declared.machine.Found.{Found}
 use Rattle.fzn_lexer.specs.declared.machine.State.{State}
-use Rattle.fzn_lexer.specs.declared.machine.State.TheVariants.{Start, Dead, InWord, Digits, InComment}
+use Rattle.fzn_lexer.specs.declared.machine.State.TheVariants.{Start, Dead, InWord, Digits, MarkEnd, InComment}
 use Rattle.fzn_lexer.specs.declared.machine.TheConstants.{WORD_BYTES}
-use Rattle.fzn_lexer.proofs.Longest.{found_more, found_dead, found_all, dead_found}
+use Rattle.fzn_lexer.proofs.Longest.{found_more, found_dead, found_last, found_all, dead_found}
 
 alive_at : (t : Bool) (q : State) → t ≡ true → alive_if t q ≡ q
 alive_at t q e = cond-true t q Dead e
@@ -53,6 +53,9 @@ word_all at text h = row_end _ InWord at text h
 pub digits_more : (at : ℕ) (text : List ℕ) → at < length text → is_ascii_digit (get_or text at 0) ≡ true → found_on int Digits (at + 1) text ≡ found_on int Digits at text
 digits_more at text h e = row_more _ Digits at text h refl (cond-true (is_ascii_digit (get_or text at 0)) Digits _ e)
 
+pub digits_dead : (at : ℕ) (text : List ℕ) → at < length text → step Digits (get_or text at 0) ≡ Dead → found_on int Digits at text ≡ found_as int at
+digits_dead at text h e = row_dead _ Digits at text h e
+
 pub comment_more : (at : ℕ) (text : List ℕ) → at < length text → is_in_line (get_or text at 0) ≡ true → found_on comment InComment (at + 1) text ≡ found_on comment InComment at text
 comment_more at text h e = row_more _ InComment at text h refl (alive_at (is_in_line (get_or text at 0)) InComment e)
 
@@ -75,6 +78,12 @@ in_line b h = elim (cases_Bool (b == 10)) [
 -- nothing is found behind the dead state
 pub dead_piece : (q : State) (at : ℕ) (text : List ℕ) → q ≡ Dead → None ≡ found_on (accepted q) q at text
 dead_piece q at text e = subst (λ (r : State). None ≡ found_on (accepted r) r at text) (sym e) (sym (ap (λ (o : Option Found). later None o) (dead_found at (drop at text))))
+
+-- a mark that nothing makes longer
+pub mark_piece : (q : State) (at : ℕ) (text : List ℕ) → q ≡ MarkEnd → found_as (accepted MarkEnd) at ≡ found_on (accepted q) q at text
+mark_piece q at text e =
+    subst (λ (r : State). found_as (accepted MarkEnd) at ≡ found_on (accepted r) r at text) (sym e)
+    (found_last (found_as (accepted MarkEnd) at) (found_on (accepted MarkEnd) MarkEnd at text) MarkEnd at (drop at text) refl refl)
 
 -- the first byte, and what is found behind it
 pub first_byte : (at : ℕ) (text : List ℕ) → at < length text

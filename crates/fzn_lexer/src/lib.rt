@@ -85,6 +85,7 @@ impl<T: Drop> From<AllocFailed<T>> for LexError {
 }
 
 /// The piece that begins at `from` as a token, where it is one.
+#[inline(always)]
 fn token_in(found: Found, from: usize) -> Option<Token>
     ensures token { token_of found.piece from found.to ≡ option_to_list result }
     ensures ends { IfSome result (λ t. t.to ≡ found.to) }
@@ -129,6 +130,7 @@ pub fn lex(alloc: Global, text: &[u8]) -> Result<Vec<Token>, LexError>
 
 /// The first token behind the byte `from`, or none where the text ends first. Errors: the first byte where no token, blank
 /// or comment begins, where no token stands before it. It takes no memory.
+#[inline(always)]
 pub fn next_token(text: &[u8], from: usize) -> Result<Option<Token>, NoToken>
     requires { from ≤ length text.now }
     ensures { MatchResult result (λ o. IsNext text.now from o) (λ e. LacksToken text.now from e.at) }

@@ -1,6 +1,6 @@
 // A machine over bytes that finds the longest piece that begins at a place, in one pass.
 
-ghost use Rattle.std.specs.Prelude.{◌≡◌, ◌≤◌, ◌<◌, [], drop, length};
+ghost use Rattle.std.specs.Prelude.{◌≡◌, ◌≤◌, ◌<◌, [], drop, false, length};
 ghost use Rattle.fzn_lexer.specs.Lexing.{LexesTo};
 ghost use Rattle.fzn_lexer.specs.Bytes as bytes;
 ghost use Rattle.fzn_lexer.specs.Machine as machine;
@@ -87,6 +87,7 @@ fn is_blank_byte(b: u8) -> bool
     matches!(b, b' ' | b'\t' | b'\r' | b'\n')
 }
 
+#[inline(always)]
 fn start_step(b: u8) -> State
     ensures { result ≡ machine.start_step b }
 {
@@ -254,6 +255,7 @@ fn later(first: Option<Found>, piece: Option<PieceKind>, to: usize) -> Option<Fo
 }
 
 /// The place behind the letters and digits at `from`, where a word goes on.
+#[inline(always)]
 fn word_end(text: &[u8], from: usize) -> usize
     requires { from ≤ length text.now }
     ensures { machine.found_on machine.word States.InWord from text.now ≡ machine.found_as machine.word result }
@@ -267,6 +269,7 @@ fn word_end(text: &[u8], from: usize) -> usize
 }
 
 /// The place behind the decimal digits at `from`, where a number goes on.
+#[inline(always)]
 fn digits_end(text: &[u8], from: usize) -> usize
     requires { from ≤ length text.now }
     ensures found { machine.found_on machine.int States.Digits from text.now ≡ machine.found_on machine.int States.Digits result text.now }
@@ -294,6 +297,7 @@ fn comment_end(text: &[u8], from: usize) -> usize
 }
 
 /// The longest piece where the bytes before `from` leave this state, and this was found before.
+#[inline(never)]
 fn longest_behind(text: &[u8], from: usize, first: Option<Found>, before: State) -> Option<Found>
     requires { from ≤ length text.now }
     ensures { result ≡ machine.later first (machine.longest_found before from (drop from text.now)) }
@@ -313,17 +317,30 @@ fn longest_behind(text: &[u8], from: usize, first: Option<Found>, before: State)
     found
 }
 
+/// Whether a number may go on with this byte behind its digits.
+#[inline(always)]
+fn goes_on(b: u8) -> bool
+    ensures { result ≡ false → machine.step States.Digits b ≡ States.Dead }
+{
+    b.is_ascii_digit() || b == b'.' || is_exponent_letter(b)
+}
+
 /// The longest number where decimal digits stand before `from`.
+#[inline(always)]
 fn number_behind(text: &[u8], from: usize) -> Option<Found>
     requires { from ≤ length text.now }
     ensures { result ≡ machine.found_on machine.int States.Digits from text.now }
 {
     let to = digits_end(text, from);
     let piece = PieceKind::Token(Kind::Int);
+    if to < text.len() && !goes_on(text[to]) {
+        return Some(Found { piece, to });
+    }
     longest_behind(text, to, Some(Found { piece, to }), State::Digits)
 }
 
 /// The longest piece where its first byte, before `from`, leaves this state.
+#[inline(always)]
 fn piece_behind(text: &[u8], from: usize, state: State) -> Option<Found>
     requires { from ≤ length text.now }
     ensures { result ≡ machine.found_on (machine.accepted state) state from text.now }
@@ -338,12 +355,17 @@ fn piece_behind(text: &[u8], from: usize, state: State) -> Option<Found>
             piece: PieceKind::Comment,
             to: comment_end(text, from),
         }),
+        State::MarkEnd => Some(Found {
+            piece: PieceKind::Token(Kind::Mark),
+            to: from,
+        }),
         State::Dead => None,
         _ => longest_behind(text, from, later(None, accepted(state), from), state),
     }
 }
 
 /// The longest piece that begins at `from`.
+#[inline(always)]
 pub fn longest_piece(text: &[u8], from: usize) -> Option<Found>
     requires { from ≤ length text.now }
     ensures { result ≡ machine.longest_found machine.start from (drop from text.now) }
@@ -355,6 +377,7 @@ pub fn longest_piece(text: &[u8], from: usize) -> Option<Found>
 }
 
 /// The first place from `from` on at which no blank stands.
+#[inline(always)]
 pub fn after_blanks(text: &[u8], from: usize) -> usize
     requires { from ≤ length text.now }
     ensures { LexesTo text.now from result [] }

@@ -30,12 +30,8 @@ name_found (x ∷ xs) name m e = by (bytes_eq name x.0) (name_found xs name m) e
     by true f e = absurd (true≢false (ap is_some e))
     by false f e = f e
 
-slot_stays : (scope : Scope) (d : List ℕ × Meaning) (slot : Option Hint) → IfSome slot (IsRight scope) → IfSome slot (IsRight (scope ++ d ∷ []))
-slot_stays scope d None h = tt
-slot_stays scope d (Some hint) h = name_stays scope d (name_in hint) (meaning_in hint) h
-
-pub hints_stay : (scope : Scope) (d : List ℕ × Meaning) (slots : List (Option Hint)) → AreRight scope slots → AreRight (scope ++ d ∷ []) slots
-hints_stay scope d slots h = All-weaker (λ (slot : Option Hint). IfSome slot (IsRight scope)) (λ (slot : Option Hint). IfSome slot (IsRight (scope ++ d ∷ []))) (slot_stays scope d) slots h
+pub hints_stay : (scope : Scope) (d : List ℕ × Meaning) (hints : List Hint) → AreRight scope hints → AreRight (scope ++ d ∷ []) hints
+hints_stay scope d hints h = All-weaker (IsRight scope) (IsRight (scope ++ d ∷ [])) (λ hint. name_stays scope d (name_in hint) (meaning_in hint)) hints h
 
 pub hint_right : (scope : Scope) (name : List ℕ) (m : Meaning) (hint : Option Hint) → meaning_of scope name ≡ None → IfSome hint (λ (h : Hint). (name_in h ≡ name) × (meaning_in h ≡ m)) → IfSome hint (IsRight (scope ++ (name, m) ∷ []))
 hint_right scope name m None e h = tt

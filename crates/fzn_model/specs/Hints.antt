@@ -1,5 +1,5 @@
 -- Hints of what names stand for, beside the declared names. A hint that is there says what these say; a name may lack one.
-use Rattle.std.specs.Prelude.{◌≡◌, ℕ, List, take, All, Option, Some, IfSome}
+use Rattle.std.specs.Prelude.{◌≡◌, ℕ, List, take, All, Some}
 use Rattle.constraint_model.specs.declared.model.Term.{Term}
 use Rattle.constraint_model.specs.declared.meanings.Meaning.{Meaning}
 use Rattle.fzn_model.specs.declared.hints.Hint.{Hint}
@@ -15,6 +15,6 @@ meaning_in h = Meaning.One (record { is_bool = h.is_bool; term = Term.Var h.vari
 abbrev pub IsRight : Scope → Hint → Type 0
 IsRight scope h = meaning_of scope (name_in h) ≡ Some (meaning_in h)
 
--- each slot is empty or has such a hint
-abbrev pub AreRight : Scope → List (Option Hint) → Type 0
-AreRight scope slots = All (λ slot. IfSome slot (IsRight scope)) slots
+-- each of them is such a hint
+abbrev pub AreRight : Scope → List Hint → Type 0
+AreRight scope hints = All (IsRight scope) hints

@@ -24,6 +24,7 @@ use fzn_parser::tree::{Aim, Ann, Expr};
 use list_of::ListOf;
 use std::alloc::{AllocError, Global};
 
+#[inline(always)]
 fn operand_of(meaning: Meaning) -> Operand
     ensures { result ≡ fitting.operand_of meaning }
 {
@@ -37,6 +38,7 @@ fn operand_of(meaning: Meaning) -> Operand
     }
 }
 
+#[inline(always)]
 fn constraint_on(
     alloc: Global,
     name: ConstraintName,
@@ -52,6 +54,7 @@ fn constraint_on(
 }
 
 /// What the arguments stand for, where each stands for something.
+#[inline(always)]
 fn arguments(
     alloc: Global,
     text: &[u8],
@@ -71,6 +74,7 @@ fn arguments(
     Ok(Some(meanings))
 }
 
+#[inline(always)]
 fn one_constraint(alloc: Global, constraint: Constraint) -> Result<Effect, Stop>
     ensures { IfOk result (λ e. e ≡ effects.constraint_alone constraint) }
 {
@@ -85,6 +89,7 @@ fn one_constraint(alloc: Global, constraint: Constraint) -> Result<Effect, Stop>
     })
 }
 
+#[inline(always)]
 fn known_effect(
     alloc: Global,
     name: ConstraintName,
@@ -97,6 +102,7 @@ fn known_effect(
 }
 
 /// What a constraint item adds, where its arguments fit.
+#[inline(always)]
 pub(crate) fn read_constraint(
     alloc: Global,
     text: &[u8],

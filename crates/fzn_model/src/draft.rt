@@ -144,6 +144,7 @@ fn declare(
 }
 
 /// Puts constraints behind others.
+#[inline(always)]
 fn push_all(list: &mut ListOf<Constraint>, more: ListOf<Constraint>) -> Result<(), AllocError>
     ensures { OnOk result (list.new ≡ list.old ++ more) }
 {
@@ -201,6 +202,7 @@ impl Draft {
     }
 
     /// Puts behind what stands what an item adds, which was counted. A declared array gets its number.
+    #[inline(always)]
     fn put(&mut self, alloc: Global, effect: Effect) -> Result<(), AllocError>
         requires new { IsNew self.old.scope effect }
         ensures { OnOk result (seen self.new ≡ put (seen self.old) effect) }
@@ -226,6 +228,7 @@ impl Draft {
     }
 
     /// Counts what an item adds. Errors: the item's least fault against all that stands; memory.
+    #[inline(always)]
     fn place(&mut self, what: &What, effect: &Effect) -> Result<(), Stop>
         requires vars { length self.old.vars ≤ limits.most_vars }
         requires kernels { self.old.kernels ≤ limits.most_kernels }
@@ -253,6 +256,7 @@ impl Draft {
 
     /// What an item adds, counted. Errors: its least fault against what stands; memory.
     #[tactic(auto, unfolding(crate::specs::Faults::fault_of))]
+    #[inline(always)]
     fn judge(&mut self, alloc: Global, text: &[u8], what: &What) -> Result<Effect, Stop>
         requires vars { length self.old.vars ≤ limits.most_vars }
         requires kernels { self.old.kernels ≤ limits.most_kernels }

@@ -15,6 +15,7 @@ use std::alloc::{AllocError, Global};
 
 /// The bytes of a token; none where its place is not in the text.
 #[tactic(auto, unfolding(fzn_parser::specs::Texts::spelling))]
+#[inline(always)]
 pub(crate) fn spelling<'a>(text: &'a [u8], token: &Token) -> &'a [u8]
     ensures { result.now ≡ spelling text.now token.now }
 {
@@ -26,6 +27,7 @@ pub(crate) fn spelling<'a>(text: &'a [u8], token: &Token) -> &'a [u8]
 }
 
 /// The number of an integer literal; 0 where the profile doesn't have it.
+#[inline(always)]
 fn number_at(text: &[u8], token: &Token) -> i64
     ensures { result ≡ number_at text.now token.now }
 {
@@ -69,6 +71,7 @@ pub(crate) fn share_meaning(alloc: Global, meaning: &Meaning) -> Result<Meaning,
     }
 }
 
+#[inline(always)]
 fn boolean(number: i64) -> Scalar
     ensures { result ≡ boolean number }
 {
@@ -78,6 +81,7 @@ fn boolean(number: i64) -> Scalar
     }
 }
 
+#[inline(always)]
 fn integer(number: i64) -> Scalar
     ensures { result ≡ integer number }
 {
@@ -88,6 +92,7 @@ fn integer(number: i64) -> Scalar
 }
 
 /// What an array's entry stands for, where it is a boolean or an integer.
+#[inline(always)]
 fn entry_at(text: &[u8], scope: &Scope, entry: &Elem) -> Option<Scalar>
     ensures { result ≡ entry_at text.now scope.now entry.now }
 {
@@ -101,6 +106,7 @@ fn entry_at(text: &[u8], scope: &Scope, entry: &Elem) -> Option<Scalar>
 }
 
 /// What the entries of an array stand for, where each is a boolean or an integer.
+#[inline(always)]
 fn entries_at(
     alloc: Global,
     text: &[u8],
@@ -138,6 +144,7 @@ fn row_at(
 }
 
 /// What a name stands for, where it was declared.
+#[inline(always)]
 fn meaning_named(alloc: Global, scope: &Scope, name: &[u8]) -> Result<Option<Meaning>, AllocError>
     ensures { IfOk result (λ o. o ≡ meaning_of scope.now name.now) }
 {
@@ -150,6 +157,7 @@ fn meaning_named(alloc: Global, scope: &Scope, name: &[u8]) -> Result<Option<Mea
     }
 }
 
+#[inline(always)]
 fn simple_at(
     alloc: Global,
     text: &[u8],
@@ -170,6 +178,7 @@ fn simple_at(
 
 /// What an expression stands for, where it is a boolean, an integer, an array of these or a set.
 #[tactic(auto, unfolding(crate::specs::Scopes::expr_meaning))]
+#[inline(always)]
 pub(crate) fn expr_meaning(
     alloc: Global,
     text: &[u8],

@@ -16,6 +16,9 @@ const MOST_BYTES: usize = 21;
 /// So many names there is room for at most.
 const MOST_NAMES: usize = 65_536;
 
+/// So many slots stand side by side, and a name has its hint in one of them.
+const BUCKET: usize = 4;
+
 /// A short name, and the variable that it stands for.
 #[derive(Clone, Copy)]
 pub(crate) struct Hint {
@@ -37,6 +40,7 @@ fn first_bytes(name: &[u8]) -> [u8; MOST_BYTES] {
 }
 
 impl Hint {
+    #[inline(always)]
     fn has_name(&self, name: &[u8]) -> bool
         ensures { IsTrue result → name_in self.now ≡ name.now }
     {
@@ -87,117 +91,171 @@ impl Hint {
         }
     }
 
-    fn first_slot(&self, room: usize) -> usize {
+    fn hash(&self) -> u64 {
         let length = self.length as usize;
         if length <= MOST_BYTES {
-            slot_of(&self.bytes[..length], room)
+            hash_of(&self.bytes[..length])
         } else {
             0
         }
     }
 }
 
-/// Where the hint of a name stands, there or at the slot beside it. Any slot is right: what is found there is compared.
-fn slot_of(name: &[u8], room: usize) -> usize {
-    if room == 0 {
-        return 0;
-    }
-    let mut hasher = FoldHasher::default();
-    hasher.write(name);
-    (hasher.finish() % room as u64) as usize
+/// Where a hint stands, beside some bits of the hash of its name.
+#[derive(Clone, Copy)]
+struct Slot {
+    /// 0 where the slot is empty.
+    mark: u16,
+    place: u16,
 }
 
-/// Hints, each in one of two slots for its name, whose places a fast hash gives. There are four slots a name, so that few
-/// names lack a hint. Where it is foreseen which names collide, more do, and are found as they would be without.
+const EMPTY: Slot = Slot { mark: 0, place: 0 };
+
+#[inline(always)]
+fn hash_of(name: &[u8]) -> u64 {
+    let mut hasher = FoldHasher::default();
+    hasher.write(name);
+    hasher.finish()
+}
+
+/// The slot of a name with this hash, where there are so many slots.
+#[inline(always)]
+fn slot_of(hash: u64, room: usize) -> usize {
+    ((hash >> 32).wrapping_mul(room as u64) >> 32) as usize
+}
+
+#[inline(always)]
+fn mark_of(hash: u64) -> u16 {
+    (hash % 65_536) as u16 | 1
+}
+
+/// Hints, found by slots whose places a fast hash gives. There are four slots a name, so that few names lack a hint. Where it
+/// is foreseen which names collide, more do, and are found as they would be without. Slots and hints stand apart, since a
+/// slot is small: many names in no order are asked for, and what is asked for should be near.
 #[derive(Drop)]
 pub(crate) struct Hints {
-    slots: Vec<Option<Hint>>,
+    hints: Vec<Hint>,
+    slots: Vec<Slot>,
     room: usize,
 }
 
 impl Hints {
     /// No hints, with room for those of so many names. It takes no memory.
     pub(crate) fn new(alloc: Global, names: usize) -> Hints
-        ensures { result.slots.items ≡ [] }
+        ensures { result.hints.items ≡ [] }
     {
         Hints {
+            hints: Vec::new(alloc),
             slots: Vec::new(alloc),
-            room: MOST_NAMES.min(names) * 4,
+            room: MOST_NAMES.min(names) * BUCKET,
         }
     }
 
     /// Makes the slots, where there are none.
     pub(crate) fn make(&mut self) -> Result<(), AllocError>
-        ensures { (scope : Scope) → AreRight scope self.old.slots.items → AreRight scope self.new.slots.items }
+        ensures { self.new.hints.items ≡ self.old.hints.items }
     {
         if self.slots.is_empty() {
-            self.slots.resize(self.room, None)?;
+            self.slots.resize(self.room, EMPTY)?;
         }
         Ok(())
     }
 
-    /// What the hint at a slot says of a name.
-    fn at(&self, slot: usize, name: &[u8]) -> Option<Scalar>
-        ensures { (scope : Scope) → AreRight scope self.now.slots.items → IfSome result (λ s. meaning_of scope name.now ≡ Some (Stands.One s)) }
+    /// What the hint at a place says of a name.
+    #[inline(always)]
+    fn at(&self, place: usize, name: &[u8]) -> Option<Scalar>
+        ensures { (scope : Scope) → AreRight scope self.now.hints.items → IfSome result (λ s. meaning_of scope name.now ≡ Some (Stands.One s)) }
     {
-        if slot >= self.slots.len() {
+        if place >= self.hints.len() {
             return None;
         }
-        match self.slots[slot] {
-            Some(hint) => {
-                if hint.has_name(name) {
-                    Some(hint.scalar())
-                } else {
-                    None
-                }
-            }
-            None => None,
+        let hint = &self.hints[place];
+        if hint.has_name(name) {
+            Some(hint.scalar())
+        } else {
+            None
         }
     }
 
+    /// Where the hint of a name with this hash may stand: any place is right, since what is found there is compared.
+    #[inline(always)]
+    fn place_of(&self, hash: u64) -> Option<usize> {
+        let first = slot_of(hash, self.room);
+        let mark = mark_of(hash);
+        for step in 0..BUCKET {
+            let slot = first ^ step;
+            if slot < self.slots.len() && self.slots[slot].mark == mark {
+                return Some(self.slots[slot].place as usize);
+            }
+        }
+        None
+    }
+
     /// The variable that a name stands for, where there is a hint.
+    #[inline(always)]
     pub(crate) fn find(&self, name: &[u8]) -> Option<Scalar>
-        ensures { (scope : Scope) → AreRight scope self.now.slots.items → IfSome result (λ s. meaning_of scope name.now ≡ Some (Stands.One s)) }
+        ensures { (scope : Scope) → AreRight scope self.now.hints.items → IfSome result (λ s. meaning_of scope name.now ≡ Some (Stands.One s)) }
     {
         if name.len() > MOST_BYTES {
             return None;
         }
-        let slot = slot_of(name, self.room);
-        match self.at(slot, name) {
-            Some(scalar) => Some(scalar),
-            None => self.at(slot ^ 1, name),
+        match self.place_of(hash_of(name)) {
+            Some(place) => self.at(place, name),
+            None => None,
         }
     }
 
-    fn is_taken(&self, slot: usize) -> bool {
-        slot < self.slots.len() && self.slots[slot].is_some()
+    /// The first empty slot of a bucket.
+    fn empty_slot(&self, first: usize) -> Option<usize> {
+        for step in 0..BUCKET {
+            let slot = first ^ step;
+            if slot < self.slots.len() && self.slots[slot].mark == 0 {
+                return Some(slot);
+            }
+        }
+        None
     }
 
-    fn put_at(&mut self, slot: usize, hint: Hint)
-        ensures { (scope : Scope) → AreRight scope self.old.slots.items → IsRight scope hint → AreRight scope self.new.slots.items }
+    /// Names the place of the next hint at an empty slot; whether there was one.
+    fn take_slot(&mut self, hash: u64) -> bool
+        ensures { self.new.hints.items ≡ self.old.hints.items }
     {
-        if slot < self.slots.len() {
-            self.slots[slot] = Some(hint);
+        if self.hints.len() >= MOST_NAMES {
+            return false;
+        }
+        let place = self.hints.len() as u16;
+        match self.empty_slot(slot_of(hash, self.room)) {
+            Some(slot) => {
+                if slot < self.slots.len() {
+                    let mark = mark_of(hash);
+                    self.slots[slot] = Slot { mark, place };
+                }
+                true
+            }
+            None => false,
         }
     }
 
-    fn put_one(&mut self, hint: Hint)
-        ensures { (scope : Scope) → AreRight scope self.old.slots.items → IsRight scope hint → AreRight scope self.new.slots.items }
+    /// Puts a hint behind the others. Where there is no memory for it, its name is found as it would be without.
+    fn push(&mut self, hint: Hint)
+        ensures { (scope : Scope) → AreRight scope self.old.hints.items → IsRight scope hint → AreRight scope self.new.hints.items }
     {
-        let slot = hint.first_slot(self.room);
-        if self.is_taken(slot) {
-            self.put_at(slot ^ 1, hint);
-        } else {
-            self.put_at(slot, hint);
+        match self.hints.push(hint) {
+            Ok(()) => {}
+            Err(_) => {}
         }
     }
 
-    /// Puts a hint, where there is one, at one of its slots.
+    /// Puts a hint, where there is one, and a slot for it is empty.
     pub(crate) fn put(&mut self, hint: Option<Hint>)
-        ensures { (scope : Scope) → AreRight scope self.old.slots.items → IfSome hint (IsRight scope) → AreRight scope self.new.slots.items }
+        ensures { (scope : Scope) → AreRight scope self.old.hints.items → IfSome hint (IsRight scope) → AreRight scope self.new.hints.items }
     {
         match hint {
-            Some(hint) => self.put_one(hint),
+            Some(hint) => {
+                if self.take_slot(hint.hash()) {
+                    self.push(hint);
+                }
+            }
             None => {}
         }
     }

@@ -10,6 +10,7 @@ use std::str;
 
 /// The number that digits of this base write, where they are nothing else and the profile has it.
 #[tactic(auto, using(crate::proofs::NumberLaws::number_laws), unfolding(crate::specs::Literals::number_in, constraint_model::specs::Numbers::largest))]
+#[inline(never)]
 fn number_in(base: u32, digits: &[u8]) -> Option<u64>
     requires low { 2 ≤ base }
     requires high { base ≤ 16 }
@@ -30,6 +31,7 @@ fn number_in(base: u32, digits: &[u8]) -> Option<u64>
 }
 
 /// The number that decimal digits write; none where it may be long, or something else stands there.
+#[inline(always)]
 fn short_number(digits: &[u8]) -> Option<u64>
     ensures { IfSome result (λ n. (is_numeral 10 digits.now ≡ true) × (n ≡ digits_value 10 digits.now) × (n ≤ 999999999)) }
 {
@@ -49,6 +51,7 @@ fn short_number(digits: &[u8]) -> Option<u64>
 
 /// The number of a literal without its minus, where the profile has it. Most are short and decimal, and read first.
 #[tactic(auto, using(crate::proofs::NumberLaws::natural_short), unfolding(crate::specs::Literals::natural_of, constraint_model::specs::Numbers::largest))]
+#[inline(always)]
 fn natural_of(literal: &[u8]) -> Option<u64>
     ensures value { result ≡ natural_of literal.now }
     ensures small { IfSome result (λ n. n ≤ largest) }
@@ -67,6 +70,7 @@ fn natural_of(literal: &[u8]) -> Option<u64>
 
 /// The number of an integer literal, where the profile has it.
 #[tactic(auto, unfolding(crate::specs::Literals::number_of, constraint_model::specs::Numbers::largest))]
+#[inline(always)]
 pub(crate) fn number_of(literal: &[u8]) -> Option<i64>
     ensures { MatchOption result (number_of literal.now ≡ None) (λ n. number_of literal.now ≡ Some n) }
 {

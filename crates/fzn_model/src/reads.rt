@@ -36,6 +36,7 @@ fn no_effect(alloc: Global) -> Effect
 
 /// What an item adds, where its arguments, its value or its objective fit.
 #[tactic(auto, unfolding(crate::specs::Effects::effect_of))]
+#[inline(always)]
 fn read_effect(
     alloc: Global,
     text: &[u8],

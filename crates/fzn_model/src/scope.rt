@@ -29,7 +29,7 @@ impl Model for Scope {
 
     ghost view = { λ s. declared_in s.entries.entries };
 
-    ghost invariant = { λ s. AreRight (declared_in s.entries.entries) s.hints.slots.items };
+    ghost invariant = { λ s. AreRight (declared_in s.entries.entries) s.hints.hints.items };
 }
 
 /// The boolean or the integer that something stands for.
@@ -54,6 +54,7 @@ impl Scope {
     }
 
     /// The variable that `name` stands for, where there is a hint of it.
+    #[inline(always)]
     pub(crate) fn hinted(&self, name: &[u8]) -> Option<Scalar>
         ensures { IfSome result (λ s. meaning_of self.now name.now ≡ Some (Stands.One s)) }
     {
@@ -61,6 +62,7 @@ impl Scope {
     }
 
     /// The boolean or the integer that `name` stands for.
+    #[inline(always)]
     pub(crate) fn scalar(&self, name: &[u8]) -> Option<Scalar>
         ensures { result ≡ option_and_then scalar_of (meaning_of self.now name.now) }
     {

@@ -4,7 +4,8 @@ use Rattle.fzn_lexer.specs.declared.Token.{Token}
 use Rattle.fzn_parser.specs.declared.cursor.Symbol.{Symbol}
 use Rattle.fzn_parser.specs.declared.cursor.Lexeme.{Lexeme}
 use Rattle.fzn_parser.specs.Items.{WhatTree, predicate_item, whole_at}
-use Rattle.fzn_parser.specs.Texts.{lexeme_of, is_at, before_last}
+use Rattle.fzn_parser.specs.Terminals.{begins}
+use Rattle.fzn_parser.specs.Texts.{lexeme_of, is_at, is_symbol, before_last}
 use Rattle.fzn_parser.specs.Parsing.{placed, max_depth}
 use Rattle.fzn_parser.specs.Stretches.{item_at}
 
@@ -39,3 +40,12 @@ pub item_empty : (text : List ℕ) (ts : List Token) → length ts < 1 → item_
 unfolding item_at
 item_empty text [] h = refl
 item_empty text (t ∷ ts) h = absurd (omega arith)
+
+begins_on : (s : Symbol) (l : Lexeme) (ls : List Lexeme) → begins s (l ∷ ls) ≡ is_symbol s l
+unfolding begins
+begins_on s (Lexeme.Fixed t) ls = refl
+begins_on s (Lexeme.Kept c t) ls = refl
+
+-- the first lexeme of a stretch is that of its first token
+pub begins_first : (s : Symbol) (text : List ℕ) (first : Token) (stretch more : List Token) (ls : List Lexeme) → stretch ≡ first ∷ more → ls ≡ map (lexeme_of text) stretch → is_at s text first ≡ begins s ls
+begins_first s text first stretch more ls g h = sym (ap (begins s) (h ∙ ap (map (lexeme_of text)) g) ∙ begins_on s (lexeme_of text first) (map (lexeme_of text) more))

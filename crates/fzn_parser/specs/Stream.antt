@@ -1,18 +1,36 @@
 -- The items of a text one by one.
-use Rattle.std.specs.Prelude.{◌≡◌, ◌<◌, ℕ, List, [], ◌++◌, length, Option, Some, None}
+use Rattle.std.specs.Prelude.{◌≡◌, ◌<◌, ◌⊎◌, ℕ, List, [], ◌∷◌, ◌++◌, All, true, false, length, Option, Some, None}
 use Rattle.fzn_lexer.specs.declared.Token.{Token}
 use Rattle.fzn_lexer.specs.Lexing.{LexesTo, LacksPiece}
 use Rattle.fzn_parser.specs.declared.tree.Item.{Item}
 use Rattle.fzn_parser.specs.declared.stream.ItemError.{ItemError}
-use Rattle.fzn_parser.specs.Texts.{first_stretch}
-use Rattle.fzn_parser.specs.Parsing.{ItemTree, item_tree, ReadsAsItem, FaultsAt}
+use Rattle.fzn_parser.specs.declared.cursor.Symbol.{Symbol}
+use Rattle.fzn_parser.specs.Texts.{is_at}
+use Rattle.fzn_parser.specs.Parsing.{ItemTree, item_tree, BeginsAt, ReadsAsItem, FaultsAt}
 
--- the tokens from the byte `from` to the byte `to` are the first stretch of the tokens behind `from`
+-- none of the tokens is a semicolon
+abbrev pub GoesOn : List ℕ → List Token → Type 0
+GoesOn text tokens = All (λ t. is_at Symbol.Semicolon text t ≡ false) tokens
+
+-- the last of the tokens, and none before it, is a semicolon, and it ends before the byte `to`
+pub record ClosesAt (text : List ℕ) (to : ℕ) (tokens : List Token) : Type 0 where
+  pub front : List Token
+  pub last : Token
+  pub cut : tokens ≡ front ++ last ∷ []
+  pub goes : GoesOn text front
+  pub semicolon : is_at Symbol.Semicolon text last ≡ true
+  pub place : to ≡ last.to
+
+-- none of the tokens is a semicolon, and the text ends before the byte `to`
+abbrev pub RunsOut : List ℕ → ℕ → List Token → Type 0
+RunsOut text to tokens = GoesOn text tokens × (to ≡ length text)
+
+-- the tokens from the byte `from` to the byte `to` are the first stretch behind `from`: up to and with the first semicolon, or
+-- to the text's end where none is left; nothing is said of the bytes behind `to`
 pub record IsStretch (text : List ℕ) (from to : ℕ) (tokens : List Token) : Type 0 where
   pub lexed : LexesTo text from to tokens
-  pub stretch : (more : List Token) → LexesTo text to (length text) more → first_stretch text (tokens ++ more) ≡ tokens
+  pub ends : ClosesAt text to tokens ⊎ RunsOut text to tokens
   pub onward : 0 < length tokens → from < to
-  pub end : tokens ≡ [] → to ≡ length text
 
 -- the tokens from the byte `from` to the byte `to` read as this item
 pub record IsItemTo (text : List ℕ) (from to : ℕ) (item : ItemTree) : Type 0 where
@@ -43,3 +61,23 @@ abbrev pub IsCause : List ℕ → ℕ → ItemError → Type 0
 IsCause text from (ItemError.NoToken at) = LacksToken text from at
 IsCause text from (ItemError.NoItem at to) = LacksItem text from at to
 IsCause text from ItemError.NoMemory = Unit {0}
+
+-- from the byte `from` to the byte `at` are tokens, and none of them is a semicolon
+pub record RunsOnTo (text : List ℕ) (from at : ℕ) : Type 0 where
+  pub tokens : List Token
+  pub lexed : LexesTo text from at tokens
+  pub goes : GoesOn text tokens
+
+-- from the byte `from` to the byte `to` is the first stretch of tokens; it begins at the byte `at` and reads as no item
+pub record LacksNext (text : List ℕ) (from at to : ℕ) : Type 0 where
+  pub tokens : List Token
+  pub stretch : IsStretch text from to tokens
+  pub first : BeginsAt at tokens
+  pub refused : (item : ItemTree) → ReadsAsItem text tokens item → ⊥
+
+-- an error tells of the first stretch behind the byte `from`: `NoToken` that no semicolon stands before its byte, `NoItem` that the
+-- stretch from `at` to `to` is this one and reads as no item; memory may be refused at any time
+abbrev pub TellsOfNext : List ℕ → ℕ → ItemError → Type 0
+TellsOfNext text from (ItemError.NoToken at) = RunsOnTo text from at
+TellsOfNext text from (ItemError.NoItem at to) = LacksNext text from at to
+TellsOfNext text from ItemError.NoMemory = Unit {0}

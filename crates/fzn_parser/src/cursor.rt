@@ -59,6 +59,19 @@ pub enum Lexeme {
     Kept(Class, Token),
 }
 
+/// The same token, copied field by field. Copied whole, the bytes between its fields go along in two steps that overlap, and
+/// the next copy of them has to wait for both.
+#[inline(always)]
+pub fn same_token(token: Token) -> Token
+    ensures { result ≡ token }
+{
+    Token {
+        kind: token.kind,
+        from: token.from,
+        to: token.to,
+    }
+}
+
 /// Why no value was read.
 #[derive(Drop)]
 pub enum Stop {
@@ -97,6 +110,7 @@ impl Symbol {
     }
 
     /// Whether both are one symbol.
+    #[inline(always)]
     pub fn is_same(self, other: Symbol) -> bool
         ensures { result ≡ same_symbol self other }
     {
@@ -116,6 +130,18 @@ impl Class {
         ensures { result ≡ same_class self other }
     {
         self.code() == other.code()
+    }
+}
+
+/// Whether these lexemes begin with this keyword or mark.
+#[tactic(auto, unfolding(crate::specs::Terminals::begins))]
+#[inline(always)]
+pub fn begins(symbol: Symbol, lexemes: &[Lexeme]) -> bool
+    ensures { result ≡ begins symbol lexemes.now }
+{
+    match lexemes {
+        [Lexeme::Fixed(first), ..] => first.is_same(symbol),
+        _ => false,
     }
 }
 
@@ -161,6 +187,7 @@ impl<'a> Cursor<'a> {
 
     /// Whether `symbol` stands here; it is then passed.
     #[tactic(auto, unfolding(crate::specs::Terminals::begins, crate::specs::Terminals::rest))]
+    #[inline(always)]
     pub fn take(&mut self, symbol: Symbol) -> bool
         ensures taken { result ≡ begins symbol self.old }
         ensures passed { self.new ≡ cond result (rest self.old) self.old }
@@ -176,13 +203,14 @@ impl<'a> Cursor<'a> {
 
     /// The token that stands here, where it is of `class`; it is then passed.
     #[tactic(auto, unfolding(crate::specs::Terminals::kept_at))]
+    #[inline(always)]
     pub fn take_kept(&mut self, class: Class) -> Option<Token>
         ensures { MatchOption result ((kept_at class self.old ≡ None) × (self.new ≡ self.old)) (λ t. kept_at class self.old ≡ Some (t, self.new)) }
     {
         match self.left {
             [Lexeme::Kept(first, token), left @ ..] if first.is_same(class) => {
                 self.left = left;
-                Some(*token)
+                Some(same_token(*token))
             }
             _ => None,
         }
@@ -191,6 +219,7 @@ impl<'a> Cursor<'a> {
 
 impl Cursor<'_> {
     /// Passes `symbol`, or refuses.
+    #[inline(always)]
     pub fn expect(&mut self, symbol: Symbol) -> Result<(), Stop>
         ensures passed { OnOk result ((begins symbol self.old ≡ true) × (self.new ≡ rest self.old)) }
         ensures refused { OnErr result (begins symbol self.old ≡ false) }
@@ -204,6 +233,7 @@ impl Cursor<'_> {
     }
 
     /// The token of `class` that stands here, or refuses.
+    #[inline(always)]
     pub fn kept(&mut self, class: Class) -> Result<Token, Stop>
         ensures read { IfOk result (λ t. kept_at class self.old ≡ Some (t, self.new)) }
         ensures refused { OnErr result (kept_at class self.old ≡ None) }
@@ -214,6 +244,7 @@ impl Cursor<'_> {
 
     /// Whether a comma goes on with a list that `close` ends; either is passed, and all else refused.
     #[tactic(auto, unfolding(crate::specs::Reading::separator_at))]
+    #[inline(always)]
     pub fn continues(&mut self, close: Symbol) -> Result<bool, Stop>
         ensures read { IfOk result (λ b. separator_at close self.old ≡ Some (b, self.new)) }
         ensures refused { OnErr result (separator_at close self.old ≡ None) }

@@ -21,12 +21,12 @@ ghost use Rattle.fzn_parser.specs.Items.{whole_at};
 ghost use Rattle.fzn_parser.specs.Parsing.{item_tree, placed, max_depth, ReadsAs, IsCause};
 ghost use Rattle.fzn_parser.specs.Stretches.{item_at};
 
-use cursor::{Lexeme, Stop, Symbol};
+use cursor::{Lexeme, Stop, Symbol, begins};
 use fzn_lexer::Token;
 use items::read_whole;
 use std::alloc::{AllocError, AllocFailed, Global};
 pub use stream::{ItemError, Room, next_item};
-use texts::{before_last, is_at, lexemes_of, stretch_len};
+use texts::{before_last, lexemes_of, stretch_len};
 use thiserror::Error;
 use tree::{Item, What};
 
@@ -96,7 +96,7 @@ fn read_stretch(
     match stretch {
         [] => Err(Stop::Refused),
         [first, more @ ..] => {
-            if is_at(Symbol::Predicate, text, *first) {
+            if begins(Symbol::Predicate, lexemes) {
                 read_predicate(alloc, text, *first, more)
             } else {
                 read_other(alloc, *first, lexemes)

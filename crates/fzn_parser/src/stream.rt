@@ -3,9 +3,9 @@
 ghost use Rattle.std.specs.Prelude.{◌≡◌, ◌≤◌, ◌++◌, ◌∷◌, [], length, map, IfOk, OnOk, IfErr};
 ghost use Rattle.fzn_parser.specs.declared.cursor.Symbol.{Symbol as Sign};
 ghost use Rattle.fzn_parser.specs.Texts.{is_at, lexeme_of};
-ghost use Rattle.fzn_parser.specs.Stream.{IsStretch, IsNextItem, IsCause};
+ghost use Rattle.fzn_parser.specs.Stream.{IsStretch, IsNextItem, IsCause, TellsOfNext};
 
-use crate::cursor::{Lexeme, Stop, Symbol};
+use crate::cursor::{Lexeme, Stop, Symbol, same_token};
 use crate::read_stretch;
 use crate::texts::lexeme_of;
 use crate::tree::Item;
@@ -56,6 +56,7 @@ impl Room {
 }
 
 /// Puts a token and its lexeme at the end, and tells whether it is a semicolon.
+#[inline(always)]
 fn keep(
     text: &[u8],
     token: Token,
@@ -66,6 +67,7 @@ fn keep(
     ensures tokens { OnOk result (tokens.new.items ≡ tokens.old.items ++ token ∷ []) }
     ensures lexemes { OnOk result (lexemes.new.items ≡ lexemes.old.items ++ lexeme_of text.now token ∷ []) }
 {
+    let token = same_token(token);
     let lexeme = lexeme_of(text, token);
     tokens.push(token)?;
     lexemes.push(lexeme)?;
@@ -86,6 +88,7 @@ fn gather(
     ensures stretch { IfOk result (λ to. IsStretch text.now from to tokens.new.items) }
     ensures lexemes { OnOk result (lexemes.new.items ≡ map (lexeme_of text.now) tokens.new.items) }
     ensures cause { IfErr result (IsCause text.now from) }
+    ensures next { IfErr result (TellsOfNext text.now from) }
 {
     law_tokens_in_turn();
     tokens.clear();
@@ -118,7 +121,9 @@ pub fn next_item(
     requires { from ≤ length text.now }
     ensures item { IfOk result (IsNextItem text.now from) }
     ensures cause { IfErr result (IsCause text.now from) }
+    ensures next { IfErr result (TellsOfNext text.now from) }
 {
+    law_tokens_in_turn();
     let to = gather(text, from, &mut room.tokens, &mut room.lexemes)?;
     if room.tokens.is_empty() {
         return Ok(None);

@@ -1,9 +1,9 @@
 //! The tokens of a text as lexemes.
 
-ghost use Rattle.std.specs.Prelude.{◌≡◌, ◌≤◌, ◌<◌, length, map, take, IfOk, MatchOption};
+ghost use Rattle.std.specs.Prelude.{◌≡◌, ◌≤◌, ◌<◌, ℕ, List, [], ◌∷◌, None, false, length, map, take, IfOk, MatchOption};
 ghost use Rattle.fzn_parser.specs.Texts.{type_word, other_word, keyword, bracket, other_mark, mark, spelling, lexeme_of, is_at, is_symbol, first_stretch, before_last};
 
-use crate::cursor::{Class, Lexeme, Symbol};
+use crate::cursor::{Class, Lexeme, Symbol, same_token};
 use fzn_lexer::{Kind, Token};
 use list_of::ListOf;
 use std::alloc::{AllocError, Global};
@@ -113,8 +113,21 @@ fn other_mark(s: &[u8]) -> Option<Symbol>
     None
 }
 
+/// Whether a keyword begins with this byte. Most names are told from keywords by it.
 #[tactic(auto, unfolding(crate::specs::Texts::keyword))]
-fn keyword(s: &[u8]) -> Option<Symbol>
+#[inline(always)]
+fn begins_keyword(byte: u8) -> bool
+    ensures { (more : List ℕ) → result ≡ false → keyword (byte ∷ more) ≡ None }
+{
+    matches!(
+        byte,
+        b'a' | b'b' | b'c' | b'f' | b'i' | b'm' | b'o' | b'p' | b's' | b't' | b'v'
+    )
+}
+
+#[tactic(auto, unfolding(crate::specs::Texts::keyword))]
+#[inline(never)]
+fn any_keyword(s: &[u8]) -> Option<Symbol>
     ensures { result ≡ keyword s.now }
 {
     let symbol = type_word(s);
@@ -125,8 +138,40 @@ fn keyword(s: &[u8]) -> Option<Symbol>
     }
 }
 
+#[inline(always)]
+fn keyword(s: &[u8]) -> Option<Symbol>
+    ensures { result ≡ keyword s.now }
+{
+    match s {
+        [first, ..] if !begins_keyword(*first) => None,
+        _ => any_keyword(s),
+    }
+}
+
+/// The mark of one byte.
 #[tactic(auto, unfolding(crate::specs::Texts::mark))]
-fn mark(s: &[u8]) -> Option<Symbol>
+#[inline(always)]
+fn byte_mark(byte: u8) -> Option<Symbol>
+    ensures { result ≡ mark (byte ∷ []) }
+{
+    match byte {
+        b'(' => Some(Symbol::ParenOpen),
+        b')' => Some(Symbol::ParenClose),
+        b'[' => Some(Symbol::BracketOpen),
+        b']' => Some(Symbol::BracketClose),
+        b'{' => Some(Symbol::BraceOpen),
+        b'}' => Some(Symbol::BraceClose),
+        b',' => Some(Symbol::Comma),
+        b';' => Some(Symbol::Semicolon),
+        b':' => Some(Symbol::Colon),
+        b'=' => Some(Symbol::Equals),
+        _ => None,
+    }
+}
+
+#[tactic(auto, unfolding(crate::specs::Texts::mark))]
+#[inline(never)]
+fn any_mark(s: &[u8]) -> Option<Symbol>
     ensures { result ≡ mark s.now }
 {
     let symbol = bracket(s);
@@ -137,7 +182,18 @@ fn mark(s: &[u8]) -> Option<Symbol>
     }
 }
 
+#[inline(always)]
+fn mark(s: &[u8]) -> Option<Symbol>
+    ensures { result ≡ mark s.now }
+{
+    match s {
+        [byte] => byte_mark(*byte),
+        _ => any_mark(s),
+    }
+}
+
 #[tactic(auto, unfolding(crate::specs::Texts::spelling))]
+#[inline(always)]
 fn spelling<'a>(text: &'a [u8], token: Token) -> &'a [u8]
     ensures { result.now ≡ spelling text.now token }
 {
@@ -150,17 +206,18 @@ fn spelling<'a>(text: &'a [u8], token: Token) -> &'a [u8]
 
 /// The token as the grammar sees it.
 #[tactic(auto, unfolding(crate::specs::Texts::lexeme_of))]
+#[inline(always)]
 pub(crate) fn lexeme_of(text: &[u8], token: Token) -> Lexeme
     ensures { result ≡ lexeme_of text.now token }
 {
     match token.kind {
         Kind::Word => match keyword(spelling(text, token)) {
             Some(symbol) => Lexeme::Fixed(symbol),
-            None => Lexeme::Kept(Class::Name, token),
+            None => Lexeme::Kept(Class::Name, same_token(token)),
         },
-        Kind::Int => Lexeme::Kept(Class::Int, token),
-        Kind::Float => Lexeme::Kept(Class::Float, token),
-        Kind::Text => Lexeme::Kept(Class::Text, token),
+        Kind::Int => Lexeme::Kept(Class::Int, same_token(token)),
+        Kind::Float => Lexeme::Kept(Class::Float, same_token(token)),
+        Kind::Text => Lexeme::Kept(Class::Text, same_token(token)),
         Kind::Mark => match mark(spelling(text, token)) {
             Some(symbol) => Lexeme::Fixed(symbol),
             None => Lexeme::Fixed(Symbol::Stray),

@@ -46,6 +46,7 @@ pub(crate) fn read_set(alloc: Global, cursor: &mut Cursor) -> Result<SetLit, Sto
 
 /// The integer `low`, or the set that begins with it.
 #[tactic(auto, unfolding(crate::specs::Reading::from_int))]
+#[inline(always)]
 fn read_from_int(low: Token, cursor: &mut Cursor) -> Result<Elem, Stop>
     ensures read { IfOk result (λ e. from_int low cursor.old ≡ Some (e, cursor.new)) }
     ensures refused { result ≡ Err Stop.Refused → from_int low cursor.old ≡ None }
@@ -59,6 +60,7 @@ fn read_from_int(low: Token, cursor: &mut Cursor) -> Result<Elem, Stop>
 }
 
 #[tactic(auto, unfolding(crate::specs::Reading::number_at))]
+#[inline(always)]
 fn read_number(cursor: &mut Cursor) -> Result<Elem, Stop>
     ensures read { IfOk result (λ e. number_at cursor.old ≡ Some (e, cursor.new)) }
     ensures refused { result ≡ Err Stop.Refused → number_at cursor.old ≡ None }
@@ -72,6 +74,7 @@ fn read_number(cursor: &mut Cursor) -> Result<Elem, Stop>
 }
 
 #[tactic(auto, unfolding(crate::specs::Reading::elem_at))]
+#[inline(always)]
 pub(crate) fn read_elem(alloc: Global, cursor: &mut Cursor) -> Result<Elem, Stop>
     ensures read { IfOk result (λ e. elem_at cursor.old ≡ Some (e, cursor.new)) }
     ensures refused { result ≡ Err Stop.Refused → elem_at cursor.old ≡ None }
@@ -113,6 +116,7 @@ fn read_elems(alloc: Global, cursor: &mut Cursor) -> Result<ListOf<Elem>, Stop>
 }
 
 #[tactic(auto, unfolding(crate::specs::Reading::expr_at))]
+#[inline(always)]
 pub(crate) fn read_expr(alloc: Global, cursor: &mut Cursor) -> Result<Expr, Stop>
     ensures read { IfOk result (λ e. expr_at cursor.old ≡ Some (e, cursor.new)) }
     ensures refused { result ≡ Err Stop.Refused → expr_at cursor.old ≡ None }

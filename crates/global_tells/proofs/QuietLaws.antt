@@ -1,6 +1,6 @@
 -- A range of more numbers than places inside tells nothing, and so does a full one of which no other place has a low or a
 -- high in it; and where each place has more numbers than there are places, no range is full.
-use Rattle.std.proofs.Common.{◌≡◌, ℕ, ◌<◌, List, [], ◌∷◌, ◌++◌, length, get_or, Bool, true, false, not, ℤ, pos, bit_and, ◌+ℤ◌, ◌-ℤ◌, ◌≤ℤ◌, ◌<ℤ◌, ⊎_elim, refl, sym, ap, subst, ◌∙◌, suc, arith}
+use Rattle.std.proofs.Common.{◌≡◌, ℕ, zero, ◌+◌, ◌<◌, List, [], ◌∷◌, ◌++◌, length, get_or, Bool, true, false, not, cond, count_by, ℤ, pos, bit_and, ◌+ℤ◌, ◌-ℤ◌, ◌≤ℤ◌, ◌<ℤ◌, ⊎_elim, refl, sym, ap, subst, ◌∙◌, suc, arith}
 use Rattle.std.proofs.lemmas.Int.{ints}
 use Rattle.std.proofs.lemmas.Bool.{and_parts, both_ways, not-true}
 use Rattle.std.proofs.lemmas.Bool.Decides.{Decides-int_eq}
@@ -17,7 +17,7 @@ use Rattle.global_tells.specs.Ranges.{is_from_to, none_tells}
 use Rattle.global_tells.specs.Places.{mask_of, places_from, places_to, IsWithin}
 use Rattle.global_tells.specs.AllDifferent.{is_inside, places_inside, outside_tells, numbers_between, range_tells, all_different_tells}
 use Rattle.global_tells.proofs.Lists.{All-none}
-use Rattle.global_tells.proofs.AllDifferentLaws.{some_or_none, count_none, inside_then}
+use Rattle.global_tells.proofs.AllDifferentLaws.{some_or_none, count_none, count_step, inside_then}
 use Rattle.global_tells.proofs.SetLaws.{both_of, count_of, same_members}
 
 flat_map_none : {Y : Type 0} (f : Y → List Tell) (ys : List Y) (e : Y) → ((i : ℕ) → i < length ys → f (get_or ys i e) ≡ []) → flat_map f ys ≡ []
@@ -84,6 +84,10 @@ module _ (b : Bounds) (xs : List ℕ) (low high : ℤ) where
         let both = same_members test (λ x. test x && is_inside b low high x) xs same k h t in
         both_ways _ out (and_parts (test x) (is_inside b low high x) both).1
 
+    no_ends : IsWithin (bit_and from.lows upto.lows) (bit_and from.lows upto.highs) × IsWithin (bit_and from.highs upto.highs) (bit_and from.lows upto.highs)
+        → (k : ℕ) → k < length xs → HasNoEnd (get_or xs k 0)
+    no_ends within k h out = (members (λ x. is_from_to low high (low_of b x)) _ lows_set within.0 k h out, members (λ x. is_from_to low high (high_of b x)) _ highs_set within.1 k h out)
+
     pub sets_none : (n : ℕ) → n ≡ count_ones (bit_and from.lows upto.highs) → int_lt (numbers_between low high) (pos n) ≡ false
         → (int_eq (pos n) (numbers_between low high) ≡ true
         → IsWithin (bit_and from.lows upto.lows) (bit_and from.lows upto.highs) × IsWithin (bit_and from.highs upto.highs) (bit_and from.lows upto.highs))
@@ -92,9 +96,48 @@ module _ (b : Bounds) (xs : List ℕ) (low high : ℤ) where
         let count : n ≡ places_inside b low high xs = is ∙ count_inside in
         none_where
         (λ t over. both_ways _ not_over (ap (λ (m : ℕ). int_lt (numbers_between low high) (pos m)) count ∙ over))
-        (λ t is_full k h out.
-        let within = full (ap (λ (m : ℕ). int_eq (pos m) (numbers_between low high)) count ∙ is_full) in
-        (members (λ x. is_from_to low high (low_of b x)) _ lows_set within.0 k h out, members (λ x. is_from_to low high (high_of b x)) _ highs_set within.1 k h out))
+        (λ t is_full. no_ends (full (ap (λ (m : ℕ). int_eq (pos m) (numbers_between low high)) count ∙ is_full)))
+
+-- what holds of each place of two lists
+each_of : (P : ℕ → Type 0) (ys zs : List ℕ) → ((k : ℕ) → k < length ys → P (get_or ys k 0)) → ((k : ℕ) → k < length zs → P (get_or zs k 0)) → (k : ℕ) → k < length (ys ++ zs) → P (get_or (ys ++ zs) k 0)
+each_of P [] zs f g k h = g k h
+each_of P (y ∷ ys) zs f g zero h = f 0 (omega arith)
+each_of P (y ∷ ys) zs f g (suc k) h = each_of P ys zs (λ m l. f (suc m) (omega arith)) g k (omega arith)
+
+count_both : (p : ℕ → Bool) (ys zs : List ℕ) → count_by p (ys ++ zs) ≡ count_by p ys + count_by p zs
+count_both p [] zs =
+    let same : count_by p ([] ++ zs) ≡ count_by p zs = refl in
+    let none : count_by p [] ≡ 0 = refl in
+    omega arith
+count_both p (y ∷ ys) zs =
+    let rest = count_both p ys zs in
+    let whole : count_by p ((y ∷ ys) ++ zs) ≡ cond (p y) 1 0 + count_by p (ys ++ zs) = count_step p y (ys ++ zs) in
+    let first = count_step p y ys in
+    omega arith
+
+-- the same of a list in two halves
+module _ (b : Bounds) (ys zs : List ℕ) (low high : ℤ)
+    (front upto : Places) (e : front ≡ places_from b low ys) (f : upto ≡ places_to b high ys)
+    (back past : Places) (d : back ≡ places_from b low zs) (g : past ≡ places_to b high zs) where
+  pub halves_none : (n : ℕ) → n ≡ count_ones (bit_and front.lows upto.highs) + count_ones (bit_and back.lows past.highs)
+      → int_lt (numbers_between low high) (pos n) ≡ false
+      → (int_eq (pos n) (numbers_between low high) ≡ true
+      → (IsWithin (bit_and front.lows upto.lows) (bit_and front.lows upto.highs) × IsWithin (bit_and front.highs upto.highs) (bit_and front.lows upto.highs))
+      × (IsWithin (bit_and back.lows past.lows) (bit_and back.lows past.highs) × IsWithin (bit_and back.highs past.highs) (bit_and back.lows past.highs)))
+      → range_tells (ys ++ zs) b low high ≡ []
+  unfolding places_inside
+  halves_none n is not_over full =
+      let one = count_inside b ys low high front upto e f in
+      let other = count_inside b zs low high back past d g in
+      let both = count_both (is_inside b low high) ys zs in
+      let count : n ≡ places_inside b low high (ys ++ zs) = omega arith in
+      none_where b (ys ++ zs) low high
+      (λ t over. both_ways _ not_over (ap (λ (m : ℕ). int_lt (numbers_between low high) (pos m)) count ∙ over))
+      (λ t is_full.
+      let within = full (ap (λ (m : ℕ). int_eq (pos m) (numbers_between low high)) count ∙ is_full) in
+      each_of (HasNoEnd b ys low high) ys zs
+      (no_ends b ys low high front upto e f within.0)
+      (no_ends b zs low high back past d g within.1))
 
 module _ (b : Bounds) (xs : List ℕ) (wide : (i : ℕ) → i < length xs → (low_of b (get_or xs i 0) +ℤ pos (length xs)) ≤ℤ high_of b (get_or xs i 0)) where
   few_inside : (low high : ℤ) → low ≤ℤ high → pos (places_inside b low high xs) <ℤ numbers_between low high

@@ -20,10 +20,10 @@ places_to b high xs = record { lows = mask_of (λ x. int_le (low_of b x) high) x
 abbrev pub no_places : Places
 no_places = record { lows = 0; highs = 0 }
 
--- a list has, for each place, the places up to its high
-pub record AreUpToHighs (xs : List ℕ) (b : Bounds) (upto : List Places) : Type 0 where
-  pub a_place_each : length xs ≤ length upto
-  pub each : (j : ℕ) → j < length xs → slice_index_or upto j no_places ≡ places_to b (high_of b (slice_index xs j)) xs
+-- a list has, for each place of a list, the places of another up to its high
+pub record AreUpToHighs (xs lasts : List ℕ) (b : Bounds) (upto : List Places) : Type 0 where
+  pub a_place_each : length lasts ≤ length upto
+  pub each : (j : ℕ) → j < length lasts → slice_index_or upto j no_places ≡ places_to b (high_of b (slice_index lasts j)) xs
 
 -- each place of the first set is in the second
 abbrev pub IsWithin : ℕ → ℕ → Type 0

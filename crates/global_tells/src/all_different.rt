@@ -13,6 +13,7 @@ ghost use Rattle.global_tells.specs.Places.{AreUpToHighs};
 ghost use Rattle.global_tells.specs.AllDifferent as different;
 ghost use Rattle.global_tells.specs.AllDifferent.{range_tells, counted_tells, outside_tells, numbers_between, all_different_tells};
 
+use crate::halves::tell_by_halves;
 use crate::places::{Places, WORD_PLACES, is_untold, places_from, places_up_to_highs};
 use crate::ranges::{is_from_to, tell_none};
 use interval::BoxOf;
@@ -31,16 +32,19 @@ pub struct Ends {
 const FEW_PLACES: usize = 10;
 
 /// Gives the tells of: no two places of the list have the same number, to `h`, in order. It takes no memory.
+#[tactic(auto, unfolding(crate::specs::Ranges::place_limit))]
 pub fn visit_all_different<H: Hear>(xs: &[u32], b: &BoxOf, h: &mut H)
     requires variables { AreVariables (length b.now) xs.now }
     requires short { length xs.now ≤ place_limit }
     requires hearer { MayHearAll H.can_hear H.hears h.old (all_different_tells xs.now b.now) }
     ensures { HearsAll H.hears h.old (all_different_tells xs.now b.now) h.new }
 {
-    if xs.len() < FEW_PLACES || xs.len() > WORD_PLACES {
+    if xs.len() < FEW_PLACES {
         tell_ranges(xs, b, h);
-    } else {
+    } else if xs.len() <= WORD_PLACES {
         tell_by_sets(xs, b, h);
+    } else {
+        tell_by_halves(xs, b, h);
     }
 }
 
@@ -74,7 +78,7 @@ fn tell_from_by_sets<H: Hear>(xs: &[u32], first: u32, upto: &[Places], b: &BoxOf
     requires variables { AreVariables (length b.now) xs.now }
     requires few { length xs.now ≤ 128 }
     requires first { first < length b.now }
-    requires upto { AreUpToHighs xs.now b.now upto.now }
+    requires upto { AreUpToHighs xs.now xs.now b.now upto.now }
     requires hearer { MayHearAll H.can_hear H.hears h.old
         (flat_map (λ y. range_tells xs.now b.now (low_of b.now first) (high_of b.now y)) xs.now) }
     ensures { HearsAll H.hears h.old
@@ -129,7 +133,7 @@ fn tell_from<H: Hear>(xs: &[u32], first: u32, b: &BoxOf, h: &mut H)
 }
 
 /// Tells of one range.
-fn tell_range<H: Hear>(xs: &[u32], ends: Ends, b: &BoxOf, h: &mut H)
+pub fn tell_range<H: Hear>(xs: &[u32], ends: Ends, b: &BoxOf, h: &mut H)
     requires variables { AreVariables (length b.now) xs.now }
     requires short { length xs.now ≤ place_limit }
     requires first { ends.first < length b.now }

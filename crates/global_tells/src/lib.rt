@@ -9,6 +9,7 @@
 mod all_different;
 mod cumulative;
 mod free;
+mod halves;
 mod laws;
 mod places;
 mod quiet;

@@ -61,7 +61,7 @@ pub fn places_to(xs: &[u32], last: u32, b: &BoxOf) -> Places
 pub fn places_up_to_highs(xs: &[u32], b: &BoxOf) -> [Places; WORD_PLACES]
     requires variables { AreVariables (length b.now) xs.now }
     requires few { length xs.now ≤ 128 }
-    ensures { AreUpToHighs xs.now b.now result }
+    ensures { AreUpToHighs xs.now xs.now b.now result }
 {
     let mut upto = [Places { lows: 0, highs: 0 }; WORD_PLACES];
     for j in 0..xs.len() {
@@ -82,7 +82,7 @@ pub fn is_untold(ends: Ends, from: &Places, upto: &Places, b: &BoxOf) -> bool
     if !has_numbers(ends, b) {
         return true;
     }
-    let count = size_of(from.lows & upto.highs);
+    let count = count_inside(from, upto);
     if is_overfull(ends, count, b) {
         return false;
     }
@@ -92,8 +92,16 @@ pub fn is_untold(ends: Ends, from: &Places, upto: &Places, b: &BoxOf) -> bool
     has_no_others(from, upto)
 }
 
+/// How many places have no numbers but those of the range.
+pub fn count_inside(from: &Places, upto: &Places) -> usize
+    ensures value { result ≡ count_ones (bit_and from.now.lows upto.now.highs) }
+    ensures most { result ≤ 128 }
+{
+    size_of(from.lows & upto.highs)
+}
+
 /// Whether only places that have no numbers but those of the range have a low or a high in it.
-fn has_no_others(from: &Places, upto: &Places) -> bool
+pub fn has_no_others(from: &Places, upto: &Places) -> bool
     ensures lows { OnTrue result (IsWithin (bit_and from.now.lows upto.now.lows) (bit_and from.now.lows upto.now.highs)) }
     ensures highs { OnTrue result (IsWithin (bit_and from.now.highs upto.now.highs) (bit_and from.now.lows upto.now.highs)) }
 {

@@ -12,19 +12,20 @@ use Rattle.tells.specs.declared.tell.Tell.{Tell}
 use Rattle.interval.specs.Limits.{IsBound, IsNumber, bound_limit, largest_number, ClampOrder}
 use Rattle.interval.specs.Boxes.{Bounds, low_of, high_of}
 use Rattle.guarded_tell.specs.Words.{Keeps, when, is_out, tell_true, tell_false}
-use Rattle.guarded_tell.specs.Linear.{Term, IsLinear, sum_over, least_of, greatest_of}
-use Rattle.guarded_tell.specs.Equality.{is_same, low_is_not, high_is_not, product_is_not, equation_tells, equal_tell, equal_tells, unequal_tell, unequal_tells, eq_tells}
-use Rattle.guarded_tell.specs.Clause.{clause_tells, sole_tells}
+use Rattle.sum_tells.specs.Linear.{Term, IsLinear, sum_over, least_of, greatest_of}
+use Rattle.sum_tells.specs.Equality.{is_same, low_is_not, high_is_not, product_is_not, equation_tells, equal_tell, equal_tells, unequal_tell, unequal_tells, eq_tells}
+use Rattle.clause_tells.specs.Clause.{clause_tells, sole_tells}
 use Rattle.guarded_tell.specs.declared.kernel.Kernel.{Kernel}
 use Rattle.guarded_tell.specs.declared.shape.Shape.TheVariants.{Same, Either}
 use Rattle.guarded_tell.specs.Kernels.{tells, HasNumbers, IsKernel}
 use Rattle.guarded_tell.specs.Shapes.{IsShapeOf}
-use Rattle.guarded_tell.specs.Narrowing.{narrows, narrowing, narrowing_tells}
-use Rattle.guarded_tell.proofs.Lists.{All-one, All-when}
-use Rattle.guarded_tell.proofs.EqualityLaws.{same_is, is_same_of}
-use Rattle.guarded_tell.proofs.LiteralLaws.{by_bool}
-use Rattle.guarded_tell.proofs.NarrowingLaws.{none_narrows}
-use Rattle.guarded_tell.proofs.QuietLaws.{out_keeps, not_sure}
+use Rattle.tell_laws.specs.Narrowing.{narrows, narrowing}
+use Rattle.guarded_tell.specs.Narrowing.{narrowing_tells}
+use Rattle.tell_laws.proofs.Lists.{All-one, All-when}
+use Rattle.sum_tells.proofs.EqualityLaws.{same_is, is_same_of}
+use Rattle.tell_laws.proofs.LiteralLaws.{by_bool}
+use Rattle.tell_laws.proofs.NarrowingLaws.{none_narrows}
+use Rattle.small_sums.proofs.QuietLaws.{out_keeps, not_sure}
 
 -- ---- two terms whose sum must not be the limit, and of which one is fixed: the other alone is told
 

@@ -8,11 +8,11 @@ use Rattle.tells.specs.declared.tell.Tell.{Tell}
 use Rattle.interval.specs.Limits.{ClampOrder}
 use Rattle.interval.specs.Boxes.{Bounds}
 use Rattle.guarded_tell.specs.Words.{Keeps, is_sure, is_out, tell_true}
-use Rattle.guarded_tell.specs.Clause.{clause_tells, sole_tell}
-use Rattle.guarded_tell.proofs.Lists.{All-one, All-flat_map, All-when}
-use Rattle.guarded_tell.proofs.LiteralLaws.{by_bool}
-use Rattle.guarded_tell.proofs.ClauseTells.{left_of, left_more, clause_by_count, clause_of_many}
-use Rattle.guarded_tell.proofs.QuietLaws.{sure_keeps, not_sure}
+use Rattle.clause_tells.specs.Clause.{clause_tells, sole_tell}
+use Rattle.tell_laws.proofs.Lists.{All-one, All-flat_map, All-when}
+use Rattle.tell_laws.proofs.LiteralLaws.{by_bool}
+use Rattle.clause_tells.proofs.ClauseTells.{left_of, left_more, clause_by_count, clause_of_many}
+use Rattle.small_sums.proofs.QuietLaws.{sure_keeps, not_sure}
 
 -- a literal that isn't out is counted
 counted : (b : Bounds) (l : Lit) → is_out l b ≡ false → ◌≡◌ {A = ℕ} (cond (is_out l b) 0 1) 1

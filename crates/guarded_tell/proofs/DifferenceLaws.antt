@@ -14,25 +14,26 @@ use Rattle.interval.specs.Limits.{IsNumber, bound_limit, largest_number, ClampOr
 use Rattle.interval.specs.Quotients.{QuotientOrder}
 use Rattle.interval.specs.Boxes.{Bounds}
 use Rattle.guarded_tell.specs.declared.kernel.Kernel.{Kernel}
-use Rattle.guarded_tell.specs.declared.pairs.Pair.{Pair}
-use Rattle.guarded_tell.specs.declared.short.Sums.{Sums}
-use Rattle.guarded_tell.specs.declared.short.SmallTerm.{SmallTerm}
-use Rattle.guarded_tell.specs.declared.short_terms.Room.{Room}
+use Rattle.small_sums.specs.declared.pairs.Pair.{Pair}
+use Rattle.small_sums.specs.declared.short.Sums.{Sums}
+use Rattle.small_sums.specs.declared.short.SmallTerm.{SmallTerm}
+use Rattle.short_tells.specs.declared.short_terms.Room.{Room}
 use Rattle.guarded_tell.specs.declared.shape.Shape.TheVariants.{AtMost, Same}
 use Rattle.guarded_tell.specs.Words.{Keeps, when, is_sure, is_out, tell_true, tell_false}
-use Rattle.guarded_tell.specs.Linear.{Term, IsLinear, least_of, greatest_of, product_at_most, product_at_least, literal_tells}
-use Rattle.guarded_tell.specs.Equality.{is_same, equation_tells}
-use Rattle.guarded_tell.specs.Narrowing.{narrowing, narrowing_tells}
+use Rattle.sum_tells.specs.Linear.{Term, IsLinear, least_of, greatest_of, product_at_most, product_at_least, literal_tells}
+use Rattle.sum_tells.specs.Equality.{is_same, equation_tells}
+use Rattle.tell_laws.specs.Narrowing.{narrowing}
+use Rattle.guarded_tell.specs.Narrowing.{narrowing_tells}
 use Rattle.guarded_tell.specs.Kernels.{tells, HasNumbers, IsKernel}
-use Rattle.guarded_tell.specs.Short.{small_product_limit, small_limit, short_sum_limit, growth_limit, sums_of_two, IsTermOf, IsShortGrowth}
-use Rattle.guarded_tell.specs.ShortTells.{room_tells, any_room, room_at_most, room_equal}
+use Rattle.small_sums.specs.Short.{small_product_limit, small_limit, short_sum_limit, growth_limit, sums_of_two, IsTermOf, IsShortGrowth}
+use Rattle.short_tells.specs.ShortTells.{room_tells, any_room, room_at_most, room_equal}
 use Rattle.guarded_tell.specs.Shapes.{IsDifference, IsDifferenceIn, IsShapeOf}
-use Rattle.guarded_tell.proofs.Lists.{All-one, All-when}
-use Rattle.guarded_tell.proofs.EqualityLaws.{least_under_greatest}
-use Rattle.guarded_tell.proofs.NarrowingLaws.{none_narrows}
-use Rattle.guarded_tell.proofs.QuietLaws.{sure_keeps, at_most_wide, at_least_wide}
+use Rattle.tell_laws.proofs.Lists.{All-one, All-when}
+use Rattle.sum_tells.proofs.EqualityLaws.{least_under_greatest}
+use Rattle.tell_laws.proofs.NarrowingLaws.{none_narrows}
+use Rattle.small_sums.proofs.QuietLaws.{sure_keeps, at_most_wide, at_least_wide}
 use Rattle.guarded_tell.proofs.ShapeQuiet.{difference_sums}
-use Rattle.guarded_tell.proofs.ShortSumLaws.{sure_not_out, none_told, at_most_by_room, equal_by_room}
+use Rattle.short_tells.proofs.ShortSumLaws.{sure_not_out, none_told, at_most_by_room, equal_by_room}
 
 -- a small term grows by little
 pub small_growth : (b : Bounds) (a : ℤ) (x : ℕ) (t : SmallTerm) → IsTermOf b a x t → IsShortGrowth b a x

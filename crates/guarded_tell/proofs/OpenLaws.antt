@@ -12,12 +12,12 @@ use mir.Syntax.{w64}
 use Rattle.interval.specs.Limits.{IsBound, bound_limit, largest_number, ClampOrder}
 use Rattle.interval.specs.Boxes.{Bounds, low_of, high_of}
 use Rattle.guarded_tell.specs.Words.{when, Keeps, is_sure, is_out, tell_true, tell_false}
-use Rattle.guarded_tell.specs.Linear.{Term, least_of, greatest_of, sum_over}
-use Rattle.guarded_tell.specs.Equality.{is_same, product_is_not, equation_tells, equal_tell, unequal_tell, equal_tells, unequal_tells, eq_tells}
-use Rattle.guarded_tell.specs.Short.{AreTwoOpen}
-use Rattle.guarded_tell.proofs.Lists.{All-one, All-flat_map, All-when}
-use Rattle.guarded_tell.proofs.TermLaws.{length-zip, get_or-zip}
-use Rattle.guarded_tell.proofs.QuietLaws.{out_keeps}
+use Rattle.sum_tells.specs.Linear.{Term, least_of, greatest_of, sum_over}
+use Rattle.sum_tells.specs.Equality.{is_same, product_is_not, equation_tells, equal_tell, unequal_tell, equal_tells, unequal_tells, eq_tells}
+use Rattle.guarded_tell.specs.Open.{AreTwoOpen}
+use Rattle.tell_laws.proofs.Lists.{All-one, All-flat_map, All-when}
+use Rattle.sum_tells.proofs.TermLaws.{length-zip, get_or-zip}
+use Rattle.small_sums.proofs.QuietLaws.{out_keeps}
 
 -- a term isn't fixed where its coefficient isn't 0 and its variable isn't fixed
 pub open_term : (b : Bounds) (a : ℤ) (x : ℕ) → (a ≡ pos 0 → ⊥) → low_of b x <ℤ high_of b x → least_of b (a, x) <ℤ greatest_of b (a, x)

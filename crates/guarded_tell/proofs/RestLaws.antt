@@ -10,19 +10,20 @@ use Rattle.interval.specs.Limits.{IsBound, bound_limit, largest_number, ClampOrd
 use Rattle.interval.specs.Quotients.{QuotientOrder}
 use Rattle.interval.specs.Boxes.{Bounds, low_of, high_of, IsInside}
 use Rattle.guarded_tell.specs.Words.{Keeps, is_sure, is_out, AreVariables, IsProperIn}
-use Rattle.guarded_tell.specs.Linear.{IsLinear, least_of, greatest_of}
-use Rattle.guarded_tell.specs.Clause.{clause_vars}
-use Rattle.guarded_tell.specs.declared.pairs.Pair.{Pair}
+use Rattle.sum_tells.specs.Linear.{IsLinear, least_of, greatest_of}
+use Rattle.clause_tells.specs.Clause.{clause_vars}
+use Rattle.small_sums.specs.declared.pairs.Pair.{Pair}
 use Rattle.guarded_tell.specs.declared.kernel.Kernel.{Kernel}
 use Rattle.guarded_tell.specs.declared.kernel.Kernel.TheVariants.{Eq, Clause}
 use Rattle.guarded_tell.specs.declared.shape.Shape.TheVariants.{AtMost, Same, Either}
-use Rattle.guarded_tell.specs.Short.{IsPairUnequalQuiet, AreTwoOpen}
+use Rattle.small_sums.specs.Short.{IsPairUnequalQuiet}
+use Rattle.guarded_tell.specs.Open.{AreTwoOpen}
 use Rattle.guarded_tell.specs.Kernels.{vars_of, tells, HasNumbers, IsKernel, IsClosedUnder}
 use Rattle.guarded_tell.specs.Shapes.{IsDifferenceIn, IsShapeOf}
 use Rattle.guarded_tell.specs.Rests.{IsFixedAt, IsEntailed, IsQuietUntilFixed, IsAtMostSettled, IsNeverSame, IsOpenUnequal, IsSureAt}
-use Rattle.guarded_tell.proofs.LiteralLaws.{by_bool, sure_inside, out_inside}
-use Rattle.guarded_tell.proofs.PairLaws.{plain_term, opposite_term}
-use Rattle.guarded_tell.proofs.QuietLaws.{not_sure}
+use Rattle.tell_laws.proofs.LiteralLaws.{by_bool, sure_inside, out_inside}
+use Rattle.small_sums.proofs.PairLaws.{plain_term, opposite_term}
+use Rattle.small_sums.proofs.QuietLaws.{not_sure}
 use Rattle.guarded_tell.proofs.ShapeQuiet.{HasPlaces, at_most_places, same_places, either_places, at_most_shape, same_shape}
 use Rattle.guarded_tell.proofs.ClauseQuiet.{sure_quiet}
 use Rattle.guarded_tell.proofs.OpenLaws.{open_term, open_quiet}

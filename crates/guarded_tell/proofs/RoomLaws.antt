@@ -8,9 +8,9 @@ use Rattle.interval.specs.Limits.{IsBound, bound_limit, largest_number, ClampOrd
 use Rattle.interval.specs.Quotients.{QuotientOrder}
 use Rattle.interval.specs.Boxes.{Bounds, low_of, high_of}
 use Rattle.guarded_tell.specs.Words.{Keeps}
-use Rattle.guarded_tell.specs.Linear.{product_at_most, product_at_least}
-use Rattle.guarded_tell.proofs.ProductLaws.{coded_product}
-use Rattle.guarded_tell.proofs.QuietLaws.{at_most_kept, at_least_kept}
+use Rattle.sum_tells.specs.Linear.{product_at_most, product_at_least}
+use Rattle.sum_tells.proofs.ProductLaws.{coded_product}
+use Rattle.small_sums.proofs.QuietLaws.{at_most_kept, at_least_kept}
 
 size_of : (a : ℤ) → FitsSigned w64 a → unsigned_abs a ≤ 9223372036854775808
 size_of (pos n) f = let h = f.sfits in omega arith

@@ -1,6 +1,7 @@
 -- What is seen of a kernel that narrows nothing says how long it rests.
-use Rattle.std.proofs.Common.{◌≡◌, ℕ, List, length, ℤ, Option, None, Some, to_z, of_z, refl, arith}
+use Rattle.std.proofs.Common.{◌≡◌, ℕ, List, length, ℤ, Option, None, Some, to_z, of_z, true, false, refl, sym, ◌∙◌, arith}
 use Rattle.std.specs.Prelude.{MatchOption}
+use Rattle.std.proofs.lemmas.Bool.{true≢false}
 use Rattle.std.proofs.lemmas.Int.{ints}
 use Rattle.std.specs.List.{All}
 use mir.Syntax.{w64}
@@ -8,8 +9,8 @@ use Rattle.tells.specs.declared.tell.Lit.{Lit}
 use Rattle.interval.specs.Limits.{ClampOrder}
 use Rattle.interval.specs.Quotients.{QuotientOrder}
 use Rattle.interval.specs.Boxes.{Bounds, IsInside}
-use Rattle.guarded_tell.specs.Words.{Keeps, IsProperIn}
-use Rattle.guarded_tell.specs.declared.pairs.Pair.{Pair}
+use Rattle.guarded_tell.specs.Words.{Keeps, IsProperIn, is_sure, is_out}
+use Rattle.small_sums.specs.declared.pairs.Pair.{Pair}
 use Rattle.guarded_tell.specs.declared.kernel.Kernel.{Kernel}
 use Rattle.guarded_tell.specs.declared.kernel.Kernel.TheVariants.{Eq, Clause}
 use Rattle.guarded_tell.specs.declared.shape.Shape.TheVariants.{AtMost, Same, Either}
@@ -17,9 +18,27 @@ use Rattle.guarded_tell.specs.declared.resting.Rest.{Rest}
 use Rattle.guarded_tell.specs.declared.resting.Rest.TheVariants.{Awake, UntilFixed, ForGood}
 use Rattle.guarded_tell.specs.Kernels.{vars_of, tells, IsKernel}
 use Rattle.guarded_tell.specs.Shapes.{IsDifferenceIn, IsShapeOf}
-use Rattle.guarded_tell.specs.Rests.{IsEntailed, IsQuietUntilFixed, IsRest, IsQuietFor, IsAtMostFor, IsSameFor, IsEitherFor, IsClauseFor, IsOpenSum}
+use Rattle.guarded_tell.specs.Rests.{IsEntailed, IsQuietUntilFixed, IsRest, IsQuietFor, IsAtMostFor, IsSameFor, IsUnequalFor, IsEitherFor, IsClauseFor, IsOpenSum}
 use Rattle.guarded_tell.proofs.ShapeQuiet.{at_most_shape, same_shape, either_shape}
 use Rattle.guarded_tell.proofs.RestLaws.{at_most_entailed, same_entailed, same_until_fixed, either_entailed, clause_entailed, sum_until_fixed}
+
+-- what is seen of a sum that must not be the limit is seen of an equation whose literal is out
+unequal_for : (b : Bounds) (l : Lit) (limit : ℤ) (p : Pair) → is_out l b ≡ true → is_sure l b ≡ false → (r : Rest) → IsUnequalFor limit p r → IsSameFor b l limit p r
+unequal_for b l limit p out unsure Awake q = record {
+  sure_first = λ e. absurd (true≢false (sym e ∙ unsure));
+  sure_second = λ e. absurd (true≢false (sym e ∙ unsure));
+  out = λ e f. q;
+  open_low = λ e f. absurd (true≢false (sym out ∙ f));
+  open_high = λ e f. absurd (true≢false (sym out ∙ f));
+  open_wide = λ e f. absurd (true≢false (sym out ∙ f));
+}
+unequal_for b l limit p out unsure UntilFixed q = (out, q.0, q.1)
+unequal_for b l limit p out unsure ForGood q = (out, q)
+
+pub unequal_seen : (b : Bounds) (l : Lit) (limit : ℤ) (p : Pair) → is_out l b ≡ true → is_sure l b ≡ false →
+    (o : Option Rest) → MatchOption o (Unit {0}) (IsUnequalFor limit p) → MatchOption o (Unit {0}) (IsSameFor b l limit p)
+unequal_seen b l limit p out unsure None q = tt
+unequal_seen b l limit p out unsure (Some r) q = unequal_for b l limit p out unsure r q
 
 module _ (quotients : QuotientOrder) (clamped : ClampOrder) (b : Bounds) (k : Kernel) (kernel : IsKernel (length b) k) where
   itself : IsInside b b

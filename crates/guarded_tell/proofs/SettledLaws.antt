@@ -6,21 +6,21 @@ use Rattle.tells.specs.declared.tell.Lit.{Lit}
 use Rattle.interval.specs.Limits.{ClampOrder}
 use Rattle.interval.specs.Quotients.{QuotientOrder}
 use Rattle.interval.specs.Boxes.{Bounds, IsInside}
-use Rattle.guarded_tell.specs.declared.short.Sums.{Sums}
+use Rattle.small_sums.specs.declared.short.Sums.{Sums}
 use Rattle.guarded_tell.specs.declared.resting.Rest.{Rest}
 use Rattle.guarded_tell.specs.declared.resting.Rest.TheVariants.{Awake, UntilFixed, ForGood}
 use Rattle.guarded_tell.specs.declared.kernel.Kernel.{Kernel}
 use Rattle.guarded_tell.specs.declared.kernel.Kernel.TheVariants.{Le, Eq}
 use Rattle.guarded_tell.specs.Words.{Keeps, is_out, AreVariables, IsProperIn, IsInsideIn}
-use Rattle.guarded_tell.specs.Linear.{Term, IsLinear, least_of, greatest_of, sum_over, at_most_tells}
-use Rattle.guarded_tell.specs.Equality.{eq_tells}
-use Rattle.guarded_tell.specs.Short.{AreSums, IsUnequalQuiet}
+use Rattle.sum_tells.specs.Linear.{Term, IsLinear, least_of, greatest_of, sum_over, at_most_tells}
+use Rattle.sum_tells.specs.Equality.{eq_tells}
+use Rattle.small_sums.specs.Short.{AreSums, IsUnequalQuiet}
 use Rattle.guarded_tell.specs.Kernels.{vars_of, tells, HasNumbers, IsKernel}
 use Rattle.guarded_tell.specs.Rests.{IsRest}
 use Rattle.guarded_tell.specs.Settled.{IsSumSettled, IsSumApart, IsSumFixed, IsAtMostSumFor, IsEquationSumFor}
-use Rattle.guarded_tell.proofs.TermLaws.{length-zip, get_or-zip}
-use Rattle.guarded_tell.proofs.SumLaws.{least_sums, greatest_sums}
-use Rattle.guarded_tell.proofs.QuietLaws.{not_sure, at_most_quiet, equation_quiet}
+use Rattle.sum_tells.proofs.TermLaws.{length-zip, get_or-zip}
+use Rattle.sum_tells.proofs.SumLaws.{least_sums, greatest_sums}
+use Rattle.small_sums.proofs.QuietLaws.{not_sure, at_most_quiet, equation_quiet}
 use Rattle.guarded_tell.proofs.RestLaws.{Lies, lies, sure_lies, out_lies, low_bound, high_bound}
 
 least_below : (b : Bounds) (t : Term) → least_of b t ≤ℤ greatest_of b t

@@ -5,15 +5,15 @@ use Rattle.std.proofs.lemmas.List.{get_or_default}
 use mir.Val.{to_z, of_z}
 use mir.Syntax.{w64}
 use Rattle.tells.specs.declared.tell.Lit.{Lit}
-use Rattle.guarded_tell.specs.Linear.{IsLinear}
+use Rattle.sum_tells.specs.Linear.{IsLinear}
 use Rattle.guarded_tell.specs.declared.kernel.Kernel.{Kernel}
 use Rattle.guarded_tell.specs.declared.kernel.Kernel.TheVariants.{Le, Eq, Times, Div, Mod, Abs, Max, Min, Clause, Element, InSet, AllDiff, Cumulative}
 use Rattle.guarded_tell.specs.declared.shape.Shape.{Shape}
 use Rattle.guarded_tell.specs.declared.shape.Shape.TheVariants.{AtMost, Same, Either, Slight, Other}
 use Rattle.guarded_tell.specs.Kernels.{HasNumbers}
 use Rattle.guarded_tell.specs.Shapes.{IsDifference, IsSlightSum, IsShapeOf}
-use Rattle.guarded_tell.specs.Slight.{AreSlight}
-use Rattle.guarded_tell.proofs.ShortLaws.{short_number}
+use Rattle.small_sums.specs.Slight.{AreSlight}
+use Rattle.small_sums.proofs.ShortLaws.{short_number}
 
 -- a list of two items
 pub two_items : {A : Type 0} (xs : List A) (x y : A) → length xs ≡ 2 → x ≡ get_or xs 0 x → y ≡ get_or xs 1 y → xs ≡ x ∷ y ∷ []

@@ -10,19 +10,19 @@ use Rattle.interval.specs.Limits.{ClampOrder}
 use Rattle.interval.specs.Quotients.{QuotientOrder}
 use Rattle.interval.specs.Boxes.{Bounds, low_of, high_of}
 use Rattle.guarded_tell.specs.Words.{Keeps, is_out, AreVariables, IsProperIn}
-use Rattle.guarded_tell.specs.Linear.{IsLinear}
-use Rattle.guarded_tell.specs.Clause.{clause_vars}
-use Rattle.guarded_tell.specs.declared.short.SmallTerm.{SmallTerm}
-use Rattle.guarded_tell.specs.declared.short.Sums.{Sums}
-use Rattle.guarded_tell.specs.declared.pairs.Pair.{Pair}
+use Rattle.sum_tells.specs.Linear.{IsLinear}
+use Rattle.clause_tells.specs.Clause.{clause_vars}
+use Rattle.small_sums.specs.declared.short.SmallTerm.{SmallTerm}
+use Rattle.small_sums.specs.declared.short.Sums.{Sums}
+use Rattle.small_sums.specs.declared.pairs.Pair.{Pair}
 use Rattle.guarded_tell.specs.declared.kernel.Kernel.{Kernel}
 use Rattle.guarded_tell.specs.declared.shape.Shape.TheVariants.{AtMost, Same, Either}
-use Rattle.guarded_tell.specs.Short.{AreSums, sums_of_two, IsPairAtMostQuiet, IsPairEquationQuiet}
+use Rattle.small_sums.specs.Short.{AreSums, sums_of_two, IsPairAtMostQuiet, IsPairEquationQuiet}
 use Rattle.guarded_tell.specs.Kernels.{vars_of, tells, HasNumbers, IsKernel}
 use Rattle.guarded_tell.specs.Shapes.{IsDifference, IsDifferenceIn, IsShapeOf}
-use Rattle.guarded_tell.proofs.ShortLaws.{short_number}
-use Rattle.guarded_tell.proofs.PairLaws.{two_sums, pair_at_most, pair_equation}
-use Rattle.guarded_tell.proofs.QuietLaws.{at_most_quiet, equation_quiet}
+use Rattle.small_sums.proofs.ShortLaws.{short_number}
+use Rattle.small_sums.proofs.PairLaws.{two_sums, pair_at_most, pair_equation}
+use Rattle.small_sums.proofs.QuietLaws.{at_most_quiet, equation_quiet}
 use Rattle.guarded_tell.proofs.ClauseQuiet.{two_quiet}
 
 -- ---- the variables of a short shape stand in the box

@@ -6,8 +6,8 @@ use Rattle.tells.specs.declared.tell.Tell.{Tell}
 use Rattle.guarded_tell.specs.declared.kernel.Kernel.{Kernel}
 use Rattle.guarded_tell.specs.declared.kernel.Kernel.TheVariants.{Le, Eq, Times, Div, Mod, Abs, Max, Min, Clause, Element, InSet, AllDiff, Cumulative}
 use Rattle.guarded_tell.specs.Words.{Keeps, IsProperIn, AreVariables}
-use Rattle.guarded_tell.specs.Linear.{at_most_tells, IsAtMost, IsLinear}
-use Rattle.guarded_tell.specs.Equality.{eq_tells, IsEquation}
+use Rattle.sum_tells.specs.Linear.{at_most_tells, IsAtMost, IsLinear}
+use Rattle.sum_tells.specs.Equality.{eq_tells, IsEquation}
 use Rattle.arithmetic_tells.specs.Times.{times_tells, IsProduct}
 use Rattle.arithmetic_tells.specs.Division.{div_tells, IsQuotient}
 use Rattle.arithmetic_tells.specs.Remainder.{mod_tells, IsRemainder}
@@ -15,7 +15,7 @@ use Rattle.arithmetic_tells.specs.Absolute.{abs_tells, IsAbsolute}
 use Rattle.extreme_tells.specs.Extremes.{member_limit}
 use Rattle.extreme_tells.specs.Maximum.{max_tells, IsGreatestOf}
 use Rattle.extreme_tells.specs.Minimum.{min_tells, IsLeastOf}
-use Rattle.guarded_tell.specs.Clause.{clause_vars, clause_tells, IsClause, IsShortClause}
+use Rattle.clause_tells.specs.Clause.{clause_vars, clause_tells, IsClause, IsShortClause}
 use Rattle.element_tells.specs.Element.{element_tells, IsElement}
 use Rattle.set_tells.specs.InSet.{in_set_tells, IsInSet, IsSet}
 use Rattle.global_tells.specs.Ranges.{place_limit}

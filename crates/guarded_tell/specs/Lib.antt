@@ -1,15 +1,8 @@
 pub mod Words
 pub mod Hearing
-pub mod Linear
-pub mod Equality
-pub mod Clause
-pub mod Literals
-pub mod Extended
 pub mod Kernels
 pub mod Narrowing
-pub mod Short
-pub mod ShortTells
-pub mod Slight
 pub mod Shapes
 pub mod Settled
 pub mod Rests
+pub mod Open

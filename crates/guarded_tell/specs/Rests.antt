@@ -6,9 +6,10 @@ use Rattle.guarded_tell.specs.declared.kernel.Kernel.{Kernel}
 use Rattle.guarded_tell.specs.declared.resting.Rest.{Rest}
 use Rattle.guarded_tell.specs.declared.resting.Rest.TheVariants.{Awake, UntilFixed, ForGood}
 use Rattle.tells.specs.declared.tell.Lit.{Lit}
-use Rattle.guarded_tell.specs.declared.pairs.Pair.{Pair}
+use Rattle.small_sums.specs.declared.pairs.Pair.{Pair}
 use Rattle.guarded_tell.specs.Words.{Keeps, IsProperIn, is_sure, is_out}
-use Rattle.guarded_tell.specs.Short.{AreTwoOpen, IsPairAtMostQuiet, IsPairEquationQuiet}
+use Rattle.guarded_tell.specs.Open.{AreTwoOpen}
+use Rattle.small_sums.specs.Short.{IsPairAtMostQuiet, IsPairUnequalQuiet, IsPairEquationQuiet}
 use Rattle.guarded_tell.specs.Kernels.{vars_of, tells, IsClosedUnder}
 
 -- the variable has one number left
@@ -72,6 +73,12 @@ abbrev pub IsSameFor : Bounds → Lit → ℤ → Pair → Rest → Type 0
 IsSameFor b l limit p Awake = IsPairEquationQuiet b l limit p
 IsSameFor b l limit p UntilFixed = IsOpenUnequal b l p
 IsSameFor b l limit p ForGood = IsNeverSame b l limit p
+
+-- a sum of two terms that must not be the limit
+abbrev pub IsUnequalFor : ℤ → Pair → Rest → Type 0
+IsUnequalFor limit p Awake = IsPairUnequalQuiet limit p
+IsUnequalFor limit p UntilFixed = (p.first.least <ℤ p.first.greatest) × (p.second.least <ℤ p.second.greatest)
+IsUnequalFor limit p ForGood = (limit <ℤ (p.first.least +ℤ p.second.least)) ⊎ ((p.first.greatest +ℤ p.second.greatest) <ℤ limit)
 
 -- a clause of two literals
 abbrev pub IsEitherFor : Lit → Lit → Bounds → Rest → Type 0

@@ -2,7 +2,7 @@
 use Rattle.std.specs.Prelude.{◌≡◌, ◌⊎◌, ℤ, true, ◌≤ℤ◌, ◌<ℤ◌}
 use Rattle.interval.specs.Boxes.{Bounds}
 use Rattle.tells.specs.declared.tell.Lit.{Lit}
-use Rattle.guarded_tell.specs.declared.short.Sums.{Sums}
+use Rattle.small_sums.specs.declared.short.Sums.{Sums}
 use Rattle.guarded_tell.specs.declared.resting.Rest.{Rest}
 use Rattle.guarded_tell.specs.declared.resting.Rest.TheVariants.{Awake, UntilFixed, ForGood}
 use Rattle.guarded_tell.specs.Words.{is_sure, is_out}

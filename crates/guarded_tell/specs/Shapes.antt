@@ -2,9 +2,9 @@
 use Rattle.std.specs.Prelude.{◌≡◌, ◌⊎◌, ℕ, ℤ, pos, negsuc, List, [], ◌∷◌, length, slice_index_or, ◌<◌}
 use Rattle.interval.specs.Boxes.{Bounds}
 use Rattle.guarded_tell.specs.Words.{Lit}
-use Rattle.guarded_tell.specs.Short.{IsTermOf}
-use Rattle.guarded_tell.specs.Slight.{AreSlight}
-use Rattle.guarded_tell.specs.declared.pairs.Pair.{Pair}
+use Rattle.small_sums.specs.Short.{IsTermOf}
+use Rattle.small_sums.specs.Slight.{AreSlight}
+use Rattle.small_sums.specs.declared.pairs.Pair.{Pair}
 use Rattle.guarded_tell.specs.declared.kernel.Kernel.{Kernel}
 use Rattle.guarded_tell.specs.declared.kernel.Kernel.TheVariants.{Le, Eq, Clause}
 use Rattle.guarded_tell.specs.declared.shape.Shape.{Shape}

@@ -6,17 +6,18 @@ ghost use Rattle.interval.specs.Limits.{IsBound};
 ghost use Rattle.interval.specs.Boxes.{low_of, high_of};
 ghost use Rattle.guarded_tell.specs.Words.{IsProperIn};
 ghost use Rattle.guarded_tell.specs.Hearing.{MayHearAll, HearsAll};
-ghost use Rattle.guarded_tell.specs.Equality.{low_is_not, high_is_not, product_is_not};
-ghost use Rattle.guarded_tell.specs.Equality as equality;
-ghost use Rattle.guarded_tell.specs.Clause.{clause_tells};
+ghost use Rattle.sum_tells.specs.Equality.{low_is_not, high_is_not, product_is_not};
+ghost use Rattle.sum_tells.specs.Equality as equality;
+ghost use Rattle.clause_tells.specs.Clause.{clause_tells};
 ghost use Rattle.guarded_tell.specs.Kernels.{vars_of, IsKernel};
 ghost use Rattle.guarded_tell.specs.Shapes.{IsShapeOf};
-ghost use Rattle.guarded_tell.specs.Narrowing.{narrowing, narrowing_tells};
+ghost use Rattle.tell_laws.specs.Narrowing.{narrowing};
+ghost use Rattle.guarded_tell.specs.Narrowing.{narrowing_tells};
 
 use crate::shape::Shape;
-use crate::short_sum::{is_same, tell_where};
 use crate::{Hear, Kernel, Lit};
 use interval::{BoxOf, law_clamp_order};
+use short_tells::{is_same, tell_where};
 use tells::{high_tell, low_tell, stands_false, tell_true};
 
 /// Gives the tells of `x - y` not being the limit that narrow the box to `h`, and answers yes, where that must be so and one

@@ -2,9 +2,10 @@
 
 ghost use Rattle.std.specs.Prelude.{◌≡◌, ◌<◌, length, slice_index};
 
-use crate::clause::{clause_var, clause_var_count};
-use crate::{Extended, Lit, Literals};
+use crate::Lit;
+use clause_tells::{Literals, clause_var, clause_var_count};
 use shared_list::SharedList;
+use sum_tells::Extended;
 
 /// A relation over a box's variables that is run as a propagator.
 #[derive(Drop)]
@@ -124,7 +125,7 @@ impl Kernel {
     ghost use Rattle.guarded_tell.specs.Kernels.{vars_of, HasNumbers};
 
     /// How many variables it names, with repeats.
-    #[tactic(auto, unfolding(crate::specs::Kernels::vars_of, crate::specs::Kernels::HasNumbers, crate::specs::Linear::term_limit, extreme_tells::specs::Extremes::member_limit))]
+    #[tactic(auto, unfolding(crate::specs::Kernels::vars_of, crate::specs::Kernels::HasNumbers, sum_tells::specs::Linear::term_limit, extreme_tells::specs::Extremes::member_limit))]
     pub fn var_count(&self) -> usize
         requires { HasNumbers self.now }
         ensures { result ≡ length (vars_of self.now) }

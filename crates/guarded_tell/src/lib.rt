@@ -5,44 +5,33 @@
 //! kernels by four laws alone: `law_monotone` (a smaller box gets no weaker tells), `law_point` (a point is closed exactly
 //! where the relation holds), `law_tell_place` and `law_local` (on the kernel's own variables).
 //!
-//! Begin with `specs/Kernels.antt`, which has a line of `tells` for each. It stands on `shared_list` and on
-//! the families (`arithmetic_tells`, `extreme_tells`, `element_tells`, `set_tells`, `global_tells`), whose tells it gives on and
-//! whose laws make its own; sums and clauses are its own. It runs nothing to a fixpoint. That a visit which narrows nothing forms
-//! no tell isn't claimed.
+//! Begin with `specs/Kernels.antt`, which has a line of `tells` for each. It stands on the families (`sum_tells`, with
+//! `small_sums` and `short_tells`, `clause_tells`, `arithmetic_tells`, `extreme_tells`, `element_tells`, `set_tells`,
+//! `global_tells`), whose tells it gives on and whose laws make its own. Its own are shapes, how long a kernel rests, and
+//! differences of two variables. It runs nothing to a fixpoint. That a visit which narrows nothing forms no tell isn't
+//! claimed.
 #![tactic(auto)]
 
-mod clause;
 mod differences;
-mod equality;
-mod extended;
 mod kernel;
 mod laws;
-mod linear;
-mod literal_list;
 mod narrowing;
-mod pairs;
-mod parted;
-mod parted_quiet;
 mod quiet;
 mod resting;
 mod rooms;
 mod settled;
 mod shape;
-mod short;
-mod short_sum;
-mod short_terms;
-mod slight;
 mod slight_sum;
-mod terms;
 mod visit;
 
-pub use extended::Extended;
+pub use clause_tells::Literals;
 pub use kernel::Kernel;
-pub use laws::{law_local, law_monotone, law_narrowing, law_point, law_tell_place};
-pub use literal_list::Literals;
+pub use laws::{law_local, law_monotone, law_point, law_tell_place};
 pub use narrowing::{visit_narrowing, visit_unseen};
 pub use quiet::Hint;
 pub use resting::{Rest, rest_of, seen_rest};
 pub use shape::{Shape, shape_of};
+pub use sum_tells::Extended;
+pub use tell_laws::law_narrowing;
 pub use tells::{Hear, Lit, Side, Tell};
 pub use visit::visit_tells;

@@ -5,11 +5,11 @@ ghost use Rattle.std.specs.Bool.{OnTrue, OnFalse};
 ghost use Rattle.std.specs.List.{All};
 ghost use Rattle.guarded_tell.specs.Words.{IsProperIn, Keeps};
 ghost use Rattle.guarded_tell.specs.Hearing.{MayHearAll, HearsAll};
-ghost use Rattle.guarded_tell.specs.Linear.{product_at_most, product_at_least};
+ghost use Rattle.sum_tells.specs.Linear.{product_at_most, product_at_least};
 ghost use Rattle.guarded_tell.specs.Kernels.{vars_of, tells, IsKernel};
 ghost use Rattle.guarded_tell.specs.Shapes.{IsShapeOf, IsSlightSum};
-ghost use Rattle.guarded_tell.specs.Narrowing.{narrowing, narrowing_tells};
-ghost use Rattle.guarded_tell.specs.Narrowing as words;
+ghost use Rattle.tell_laws.specs.Narrowing.{narrowing};
+ghost use Rattle.guarded_tell.specs.Narrowing.{narrowing_tells};
 ghost use Rattle.guarded_tell.specs.Rests.{IsRest};
 
 use crate::differences::{give_either, is_apart_given};
@@ -17,12 +17,13 @@ use crate::quiet::Hint;
 use crate::resting::{Rest, listed_rest, seen_rest};
 use crate::rooms::{is_open_given, is_sure_given};
 use crate::shape::Shape;
-use crate::short_sum::{narrow_at_most, narrow_equation};
 use crate::slight_sum::give_slight_sum;
-use crate::{Hear, Kernel, Side, Tell, law_tell_place, visit_tells};
+use crate::{Hear, Kernel, Tell, law_tell_place, visit_tells};
 use arithmetic_tells::is_product_quiet;
 use global_tells::{is_all_different_quiet, is_cumulative_quiet};
 use interval::{BoxOf, law_clamp_order, law_quotient_order};
+use short_tells::{narrow_at_most, narrow_equation};
+use tell_laws::tell_narrowing;
 
 /// Gives the tells of the kernel that narrow the box to `h`, each once and in order, and answers how long the kernel needs
 /// no visit where there are none. It takes no memory.
@@ -101,6 +102,7 @@ fn give_difference<H: Hear>(k: &Kernel, shape: &Shape, b: &BoxOf, h: &mut H)
 }
 
 /// The same of a kernel that is no difference and no clause of two literals.
+#[tactic(auto, unfolding(crate::specs::Shapes::IsShapeOf))]
 fn visit_listed<H: Hear>(k: &Kernel, shape: &Shape, b: &BoxOf, hint: &mut Hint, h: &mut H) -> Rest
     requires kernel { IsKernel (length b.now) k.now }
     requires shape { IsShapeOf k.now shape.now }
@@ -109,25 +111,23 @@ fn visit_listed<H: Hear>(k: &Kernel, shape: &Shape, b: &BoxOf, hint: &mut Hint, 
     ensures heard { HearsAll H.hears h.old (narrowing_tells k.now b.now) h.new }
     ensures rest { IsRest k.now b.now result }
 {
-    match listed_rest(k, b, hint) {
-        Some(rest) => rest,
-        None => give_listed(k, shape, b, h),
+    match shape {
+        Shape::Slight => visit_slight(k, b, hint, h),
+        _ => visit_other(k, b, hint, h),
     }
 }
 
-/// Gives the tells of a kernel that is no difference and no clause of two literals.
-#[tactic(auto, unfolding(crate::specs::Shapes::IsShapeOf))]
-fn give_listed<H: Hear>(k: &Kernel, shape: &Shape, b: &BoxOf, h: &mut H) -> Rest
+/// The same of any kernel.
+fn visit_other<H: Hear>(k: &Kernel, b: &BoxOf, hint: &mut Hint, h: &mut H) -> Rest
     requires kernel { IsKernel (length b.now) k.now }
-    requires shape { IsShapeOf k.now shape.now }
     requires proper { IsProperIn (vars_of k.now) b.now }
     requires hearer { MayHearAll H.can_hear H.hears h.old (narrowing_tells k.now b.now) }
     ensures heard { HearsAll H.hears h.old (narrowing_tells k.now b.now) h.new }
     ensures rest { IsRest k.now b.now result }
 {
-    match shape {
-        Shape::Slight => give_slight(k, b, h),
-        _ => {
+    match listed_rest(k, b, hint) {
+        Some(rest) => rest,
+        None => {
             give_tells(k, b, h);
             Rest::Awake
         }
@@ -135,7 +135,7 @@ fn give_listed<H: Hear>(k: &Kernel, shape: &Shape, b: &BoxOf, h: &mut H) -> Rest
 }
 
 /// The same of a sum with slight coefficients.
-fn give_slight<H: Hear>(k: &Kernel, b: &BoxOf, h: &mut H) -> Rest
+fn visit_slight<H: Hear>(k: &Kernel, b: &BoxOf, hint: &mut Hint, h: &mut H) -> Rest
     requires kernel { IsKernel (length b.now) k.now }
     requires slight { IsSlightSum k.now }
     requires proper { IsProperIn (vars_of k.now) b.now }
@@ -143,7 +143,7 @@ fn give_slight<H: Hear>(k: &Kernel, b: &BoxOf, h: &mut H) -> Rest
     ensures heard { HearsAll H.hears h.old (narrowing_tells k.now b.now) h.new }
     ensures rest { IsRest k.now b.now result }
 {
-    match give_slight_sum(k, b, h) {
+    match give_slight_sum(k, b, hint, h) {
         Some(rest) => rest,
         None => {
             pass_tells(k, b, h);
@@ -294,27 +294,5 @@ fn is_at_least_kept(var: u32, coeff: i64, room: i128, b: &BoxOf) -> bool
         room <= coeff as i128 * b.high(var) as i128
     } else {
         true
-    }
-}
-
-/// Gives the tell to `h` where it narrows the box.
-pub fn tell_narrowing<H: Hear>(t: Tell, b: &BoxOf, h: &mut H)
-    requires variable { t.var < length b.now }
-    requires hearer { MayHearAll H.can_hear H.hears h.old (narrowing b.now (t ∷ [])) }
-    ensures { HearsAll H.hears h.old (narrowing b.now (t ∷ [])) h.new }
-{
-    if narrows(t, b) {
-        h.hear(t);
-    }
-}
-
-/// Whether the tell's bound is tighter than the box's.
-fn narrows(t: Tell, b: &BoxOf) -> bool
-    requires { t.var < length b.now }
-    ensures { result ≡ words.narrows b.now t }
-{
-    match t.side {
-        Side::Low => b.low(t.var) < t.bound,
-        Side::High => t.bound < b.high(t.var),
     }
 }

@@ -1,71 +1,19 @@
 //! Tests that a kernel narrows nothing.
 
-ghost use Rattle.std.specs.Prelude.{◌≡◌, ◌<◌, ◌≤◌, ◌≤ℤ◌, ◌<ℤ◌, false, pos, unsigned_abs, ◌∷◌, length};
+ghost use Rattle.std.specs.Prelude.{◌≡◌, ◌<◌, ◌≤◌, ◌<ℤ◌, false, pos, length};
 ghost use Rattle.std.specs.Bool.{OnTrue};
 ghost use Rattle.std.specs.List.{All};
-ghost use Rattle.interval.specs.Limits.{IsNumber};
-ghost use Rattle.interval.specs.Boxes.{low_of, high_of};
-ghost use Rattle.guarded_tell.specs.Words.{AreVariables, IsProperIn, Keeps};
+ghost use Rattle.guarded_tell.specs.Words.{AreVariables, Keeps};
 ghost use Rattle.guarded_tell.specs.Words as words;
-ghost use Rattle.guarded_tell.specs.Clause.{clause_vars, clause_tells, IsShortClause, AreLiterals};
-ghost use Rattle.guarded_tell.specs.Linear.{at_most_tells, least_of, greatest_of, IsLinear};
-ghost use Rattle.guarded_tell.specs.Equality.{eq_tells};
-ghost use Rattle.guarded_tell.specs.Short.{short_sum_limit, AreTwoOpen, IsAtMostQuiet, IsUnequalQuiet, IsEquationQuiet};
+ghost use Rattle.clause_tells.specs.Clause.{clause_vars, clause_tells, IsShortClause, AreLiterals};
+ghost use Rattle.sum_tells.specs.Linear.{least_of, greatest_of, IsLinear};
+ghost use Rattle.guarded_tell.specs.Open.{AreTwoOpen};
 
-use crate::pairs::{is_apart, pair_leaves_room, pair_leaves_room_on_both_sides, pair_of};
-use crate::short::{Sums, short_sums};
-use crate::{Lit, Literals};
-use interval::{BoxOf, law_clamp_order, law_quotient_order};
-use tells::{is_out, is_sure, stands_false, stands_true};
-
-/// Whether the inequality of two terms is seen to narrow nothing. Where its numbers are large, it isn't seen.
-pub fn is_pair_at_most_quiet(lit: Lit, coeffs: &[i64], vars: &[u32], limit: i64, b: &BoxOf) -> bool
-    requires two { length coeffs.now ≡ 2 }
-    requires linear { IsLinear coeffs.now vars.now limit }
-    requires variables { AreVariables (length b.now) (lit.var ∷ vars.now) }
-    requires proper { IsProperIn (lit.var ∷ vars.now) b.now }
-    ensures { OnTrue result (All (Keeps b.now) (at_most_tells lit coeffs.now vars.now limit b.now)) }
-{
-    law_quotient_order();
-    law_clamp_order();
-    match pair_of(coeffs, vars, b) {
-        Some(pair) => pair_leaves_room(lit, limit, pair, b),
-        None => false,
-    }
-}
-
-/// Whether the sums leave more room to the limit than a term can grow by.
-#[tactic(auto, unfolding(crate::specs::Short::short_sum_limit, interval::specs::Limits::largest_number))]
-pub fn leaves_room(lit: Lit, limit: i64, sums: Sums, b: &BoxOf) -> bool
-    requires variable { lit.var < length b.now }
-    requires proper { low_of b.now lit.var ≤ℤ high_of b.now lit.var }
-    requires limit { IsNumber limit }
-    requires least { unsigned_abs sums.least ≤ short_sum_limit }
-    requires greatest { unsigned_abs sums.greatest ≤ short_sum_limit }
-    ensures { OnTrue result (IsAtMostQuiet b.now lit limit sums) }
-{
-    if stands_true(lit, b) {
-        sums.widest <= limit - sums.least
-    } else if stands_false(lit, b) {
-        sums.widest < sums.greatest - limit
-    } else {
-        sums.least <= limit && limit < sums.greatest
-    }
-}
-
-/// Whether the equation is seen to narrow nothing. Where its numbers are large, it isn't seen.
-pub fn is_equation_quiet(lit: Lit, coeffs: &[i64], vars: &[u32], limit: i64, b: &BoxOf) -> bool
-    requires linear { IsLinear coeffs.now vars.now limit }
-    requires variables { AreVariables (length b.now) (lit.var ∷ vars.now) }
-    requires proper { IsProperIn (lit.var ∷ vars.now) b.now }
-    ensures { OnTrue result (All (Keeps b.now) (eq_tells lit coeffs.now vars.now limit b.now)) }
-{
-    if coeffs.len() == 2 {
-        is_pair_equation_quiet(lit, coeffs, vars, limit, b)
-    } else {
-        is_sum_equation_quiet(lit, coeffs, vars, limit, b)
-    }
-}
+use crate::Lit;
+use clause_tells::Literals;
+use interval::{BoxOf, law_clamp_order};
+use small_sums::is_apart;
+use tells::{is_out, is_sure};
 
 /// Whether two terms aren't fixed. Those that the hint remembers are looked at first, and then what is found.
 pub fn are_two_open(coeffs: &[i64], vars: &[u32], b: &BoxOf, hint: &mut Hint) -> bool
@@ -76,7 +24,7 @@ pub fn are_two_open(coeffs: &[i64], vars: &[u32], b: &BoxOf, hint: &mut Hint) ->
     if are_open_at(coeffs, vars, *hint, b) {
         return true;
     }
-    let found = open_places(coeffs, vars, b);
+    let found = open_places(coeffs, vars, b, *hint);
     *hint = found;
     are_open_at(coeffs, vars, found, b)
 }
@@ -103,90 +51,43 @@ fn is_open(coeff: i64, var: u32, b: &BoxOf) -> bool
     is_apart(coeff, 0) && b.low(var) < b.high(var)
 }
 
-/// The first two places of terms that aren't fixed, if there are such.
-#[tactic(auto, unfolding(crate::specs::Linear::term_limit))]
-fn open_places(coeffs: &[i64], vars: &[u32], b: &BoxOf) -> Hint
+/// Two places of terms that aren't fixed, if there are such, looked for once around from where the last ones were found.
+fn open_places(coeffs: &[i64], vars: &[u32], b: &BoxOf, hint: Hint) -> Hint
     requires linear { IsLinear coeffs.now vars.now (pos 0) }
     requires variables { AreVariables (length b.now) vars.now }
 {
-    let mut found = None;
-    for i in 0..coeffs.len() {
+    let count = coeffs.len();
+    let start = hint.start(count);
+    match open_between(coeffs, vars, b, start, count, Left::None) {
+        Left::Two(first, second) => Hint::of_two(first, second),
+        left => open_between(coeffs, vars, b, 0, start, left).hint(),
+    }
+}
+
+/// What is found of terms that aren't fixed from one place up to another, beside what was found before.
+#[tactic(auto, unfolding(sum_tells::specs::Linear::term_limit))]
+fn open_between(
+    coeffs: &[i64],
+    vars: &[u32],
+    b: &BoxOf,
+    from: usize,
+    to: usize,
+    before: Left,
+) -> Left
+    requires linear { IsLinear coeffs.now vars.now (pos 0) }
+    requires variables { AreVariables (length b.now) vars.now }
+    requires to { to ≤ length coeffs.now }
+{
+    let mut found = before;
+    for i in from..to {
         if is_open(coeffs[i], vars[i], b) {
-            let place = i as u32;
-            match found {
-                Some(first) => {
-                    return Hint {
-                        first,
-                        second: place,
-                    };
-                }
-                None => found = Some(place),
+            found = found.and(i as u32);
+            if let Left::Two(_, _) = found {
+                return found;
             }
         }
     }
-    Hint::new()
-}
-
-/// The same for the equation of two terms.
-pub fn is_pair_equation_quiet(lit: Lit, coeffs: &[i64], vars: &[u32], limit: i64, b: &BoxOf) -> bool
-    requires two { length coeffs.now ≡ 2 }
-    requires linear { IsLinear coeffs.now vars.now limit }
-    requires variables { AreVariables (length b.now) (lit.var ∷ vars.now) }
-    requires proper { IsProperIn (lit.var ∷ vars.now) b.now }
-    ensures { OnTrue result (All (Keeps b.now) (eq_tells lit coeffs.now vars.now limit b.now)) }
-{
-    law_quotient_order();
-    law_clamp_order();
-    match pair_of(coeffs, vars, b) {
-        Some(pair) => pair_leaves_room_on_both_sides(lit, limit, pair, b),
-        None => false,
-    }
-}
-
-/// The same for the equation of any number of terms.
-fn is_sum_equation_quiet(lit: Lit, coeffs: &[i64], vars: &[u32], limit: i64, b: &BoxOf) -> bool
-    requires linear { IsLinear coeffs.now vars.now limit }
-    requires variables { AreVariables (length b.now) (lit.var ∷ vars.now) }
-    requires proper { IsProperIn (lit.var ∷ vars.now) b.now }
-    ensures { OnTrue result (All (Keeps b.now) (eq_tells lit coeffs.now vars.now limit b.now)) }
-{
-    law_quotient_order();
-    law_clamp_order();
-    match short_sums(coeffs, vars, b) {
-        Some(sums) => leaves_room_on_both_sides(lit, limit, sums, b),
-        None => false,
-    }
-}
-
-/// Whether the sums leave more room to the limit, on either side, than a term can grow by.
-#[tactic(auto, unfolding(crate::specs::Short::short_sum_limit, interval::specs::Limits::largest_number))]
-pub fn leaves_room_on_both_sides(lit: Lit, limit: i64, sums: Sums, b: &BoxOf) -> bool
-    requires variable { lit.var < length b.now }
-    requires proper { low_of b.now lit.var ≤ℤ high_of b.now lit.var }
-    requires limit { IsNumber limit }
-    requires least { unsigned_abs sums.least ≤ short_sum_limit }
-    requires greatest { unsigned_abs sums.greatest ≤ short_sum_limit }
-    ensures { OnTrue result (IsEquationQuiet b.now lit limit sums) }
-{
-    if stands_true(lit, b) {
-        let room = (limit - sums.least).min(sums.greatest - limit);
-        sums.widest <= room
-    } else if stands_false(lit, b) {
-        leaves_bounds_alone(limit, sums)
-    } else {
-        sums.least <= limit && limit <= sums.greatest && sums.least < sums.greatest
-    }
-}
-
-/// Whether no bound of a variable makes the sum the limit once all other terms are fixed: two terms or more aren't
-/// fixed, or the limit is neither of the sums.
-#[tactic(auto, unfolding(crate::specs::Short::short_sum_limit))]
-fn leaves_bounds_alone(limit: i64, sums: Sums) -> bool
-    requires least { unsigned_abs sums.least ≤ short_sum_limit }
-    requires greatest { unsigned_abs sums.greatest ≤ short_sum_limit }
-    ensures { OnTrue result (IsUnequalQuiet limit sums) }
-{
-    sums.widest < sums.greatest - sums.least || (limit != sums.least && limit != sums.greatest)
+    found
 }
 
 /// What a visit of a kernel may remember for the next: it makes a visit faster and changes nothing of what is told.
@@ -205,6 +106,21 @@ impl Hint {
             second: 0,
         }
     }
+
+    /// These two places, in whatever order they were found.
+    fn of_two(one: u32, other: u32) -> Hint {
+        Hint {
+            first: one.min(other),
+            second: one.max(other),
+        }
+    }
+
+    /// Where the next search begins among so many places.
+    fn start(self, count: usize) -> usize
+        ensures { result ≤ count }
+    {
+        (self.second as usize).min(count)
+    }
 }
 
 /// Whether the clause is seen to narrow nothing. What the hint remembers is looked at first, and then what is found.
@@ -219,7 +135,7 @@ pub fn is_clause_quiet(lits: &Literals, b: &BoxOf, hint: &mut Hint) -> bool
     if is_quiet_at(lits, *hint, b) {
         return true;
     }
-    let found = places_left(lits, b);
+    let found = places_left(lits, b, *hint);
     *hint = found;
     is_quiet_at(lits, found, b)
 }
@@ -253,32 +169,71 @@ fn are_left(first: Lit, second: Lit, b: &BoxOf) -> bool
     !is_out(first, b) && !is_out(second, b)
 }
 
-/// The place of a literal that is sure, twice, or the first two places of literals that aren't out, if there are such.
-#[tactic(auto, unfolding(crate::specs::Clause::literal_limit))]
-fn places_left(lits: &Literals, b: &BoxOf) -> Hint
+/// The place of a literal that is sure, twice, or two places of literals that aren't out, if there are such, looked for once
+/// around from where the last ones were found. Where one alone isn't out, its place twice: once it is told, it is sure.
+fn places_left(lits: &Literals, b: &BoxOf, hint: Hint) -> Hint
     requires variables { AreLiterals (length b.now) lits.now }
     requires short { IsShortClause lits.now }
 {
-    let mut found = None;
-    for i in 0..lits.len() {
+    let count = lits.len();
+    let start = hint.start(count);
+    match left_between(lits, b, start, count, Left::None) {
+        Left::Two(first, second) => Hint::of_two(first, second),
+        left => left_between(lits, b, 0, start, left).hint(),
+    }
+}
+
+/// What is found of literals that aren't out from one place up to another, beside what was found before; one that is sure is
+/// found twice.
+#[tactic(auto, unfolding(clause_tells::specs::Clause::literal_limit))]
+fn left_between(lits: &Literals, b: &BoxOf, from: usize, to: usize, before: Left) -> Left
+    requires variables { AreLiterals (length b.now) lits.now }
+    requires short { IsShortClause lits.now }
+    requires to { to ≤ length lits.now }
+{
+    let mut found = before;
+    for i in from..to {
         let place = i as u32;
         if is_sure(lits.at(i), b) {
-            return Hint {
-                first: place,
-                second: place,
-            };
+            return Left::Two(place, place);
         }
         if !is_out(lits.at(i), b) {
-            match found {
-                Some(first) => {
-                    return Hint {
-                        first,
-                        second: place,
-                    };
-                }
-                None => found = Some(place),
+            found = found.and(place);
+            if let Left::Two(_, _) = found {
+                return found;
             }
         }
     }
-    Hint::new()
+    found
+}
+
+/// What is found of places that matter to a kernel.
+#[derive(Clone, Copy)]
+enum Left {
+    /// None.
+    None,
+    /// One.
+    One(u32),
+    /// Two, or one twice.
+    Two(u32, u32),
+}
+
+impl Left {
+    /// One more place.
+    fn and(self, place: u32) -> Left {
+        match self {
+            Left::None => Left::One(place),
+            Left::One(first) => Left::Two(first, place),
+            Left::Two(_, _) => self,
+        }
+    }
+
+    /// What is remembered of it; one place alone twice.
+    fn hint(self) -> Hint {
+        match self {
+            Left::None => Hint::new(),
+            Left::One(place) => Hint::of_two(place, place),
+            Left::Two(first, second) => Hint::of_two(first, second),
+        }
+    }
 }

@@ -1,23 +1,25 @@
 //! How long a kernel needs no visit.
 
-ghost use Rattle.std.specs.Prelude.{◌≡◌, ◌<◌, ◌≤ℤ◌, pos, true, ◌∷◌, length, MatchOption};
+ghost use Rattle.std.specs.Prelude.{◌≡◌, ◌<◌, ◌≤ℤ◌, ◌<ℤ◌, ◌+ℤ◌, ◌⊎◌, pos, true, ◌∷◌, length, MatchOption};
 ghost use Rattle.std.specs.Bool.{OnTrue};
 ghost use Rattle.interval.specs.Limits.{IsNumber};
 ghost use Rattle.interval.specs.Boxes.{low_of, high_of};
 ghost use Rattle.guarded_tell.specs.Words.{AreVariables, IsProperIn};
 ghost use Rattle.guarded_tell.specs.Words as words;
-ghost use Rattle.guarded_tell.specs.Clause.{AreLiterals};
-ghost use Rattle.guarded_tell.specs.Linear.{IsLinear};
-ghost use Rattle.guarded_tell.specs.Short.{IsSmallTerm};
+ghost use Rattle.clause_tells.specs.Clause.{AreLiterals};
+ghost use Rattle.sum_tells.specs.Linear.{IsLinear};
+ghost use Rattle.small_sums.specs.Short.{IsSmallTerm};
 ghost use Rattle.guarded_tell.specs.Kernels.{vars_of, IsKernel};
 ghost use Rattle.guarded_tell.specs.Shapes.{IsShapeOf};
-ghost use Rattle.guarded_tell.specs.Rests.{IsAtMostFor, IsAtMostSettled, IsClauseFor, IsEitherFor, IsOpenSum, IsNeverSame, IsOpenUnequal, IsQuietFor, IsRest, IsSameFor};
+ghost use Rattle.guarded_tell.specs.Rests.{IsAtMostFor, IsAtMostSettled, IsClauseFor, IsEitherFor, IsOpenSum, IsQuietFor, IsRest, IsSameFor, IsUnequalFor};
 
-use crate::pairs::{Pair, pair_leaves_room, pair_leaves_room_on_both_sides, sum};
 use crate::quiet::{Hint, are_open_at, are_two_open, is_clause_quiet};
 use crate::shape::{Shape, difference};
-use crate::{Extended, Kernel, Lit, Literals};
+use crate::{Kernel, Lit};
+use clause_tells::Literals;
 use interval::{BoxOf, law_clamp_order, law_quotient_order};
+use small_sums::{Pair, pair_leaves_room, pair_leaves_room_on_both_sides, sum};
+use sum_tells::Extended;
 use tells::{is_sure, stands_false, stands_true};
 
 /// How long a kernel needs no visit.
@@ -86,12 +88,32 @@ fn same_rest(lit: Lit, limit: i64, pair: Pair, b: &BoxOf) -> Option<Rest>
     requires second { IsSmallTerm pair.second }
     ensures { MatchOption result (Unit {0}) (IsSameFor b.now lit limit pair) }
 {
-    if is_open_unequal(lit, pair, b) {
-        Some(Rest::UntilFixed)
-    } else if is_never_same(lit, limit, pair, b) {
-        Some(Rest::ForGood)
+    law_clamp_order();
+    if stands_false(lit, b) {
+        unequal_rest(limit, pair)
     } else if pair_leaves_room_on_both_sides(lit, limit, pair, b) {
         Some(Rest::Awake)
+    } else {
+        None
+    }
+}
+
+/// The same of a sum of two terms that must not be the limit. Most have a fixed term and a limit between their sums.
+fn unequal_rest(limit: i64, pair: Pair) -> Option<Rest>
+    requires first { IsSmallTerm pair.first }
+    requires second { IsSmallTerm pair.second }
+    ensures { MatchOption result (Unit {0}) (IsUnequalFor limit pair) }
+{
+    if lies_between(limit, pair) {
+        if are_open(pair) {
+            Some(Rest::UntilFixed)
+        } else {
+            Some(Rest::Awake)
+        }
+    } else if lies_outside(limit, pair) {
+        Some(Rest::ForGood)
+    } else if are_open(pair) {
+        Some(Rest::UntilFixed)
     } else {
         None
     }
@@ -239,30 +261,31 @@ fn is_at_most_settled(lit: Lit, limit: i64, pair: Pair, b: &BoxOf) -> bool
     }
 }
 
-/// Whether the sum of two terms must not be the limit, and can't be.
-fn is_never_same(lit: Lit, limit: i64, pair: Pair, b: &BoxOf) -> bool
-    requires variable { lit.var < length b.now }
-    requires proper { low_of b.now lit.var ≤ℤ high_of b.now lit.var }
+/// Whether the limit lies between the least and the greatest sum of two terms.
+fn lies_between(limit: i64, pair: Pair) -> bool
     requires first { IsSmallTerm pair.first }
     requires second { IsSmallTerm pair.second }
-    ensures { OnTrue result (IsNeverSame b.now lit limit pair) }
+    ensures least { OnTrue result ((pair.first.least +ℤ pair.second.least) <ℤ limit) }
+    ensures greatest { OnTrue result (limit <ℤ (pair.first.greatest +ℤ pair.second.greatest)) }
 {
-    if !stands_false(lit, b) {
-        return false;
-    }
+    sum(pair.first.least, pair.second.least) < limit
+        && limit < sum(pair.first.greatest, pair.second.greatest)
+}
+
+/// Whether the limit lies below the least sum of two terms, or above the greatest.
+fn lies_outside(limit: i64, pair: Pair) -> bool
+    requires first { IsSmallTerm pair.first }
+    requires second { IsSmallTerm pair.second }
+    ensures { OnTrue result ((limit <ℤ (pair.first.least +ℤ pair.second.least)) ⊎ ((pair.first.greatest +ℤ pair.second.greatest) <ℤ limit)) }
+{
     limit < sum(pair.first.least, pair.second.least)
         || sum(pair.first.greatest, pair.second.greatest) < limit
 }
 
-/// Whether the sum of two terms must not be the limit, and neither is fixed.
-fn is_open_unequal(lit: Lit, pair: Pair, b: &BoxOf) -> bool
-    requires variable { lit.var < length b.now }
-    requires proper { low_of b.now lit.var ≤ℤ high_of b.now lit.var }
-    requires first { IsSmallTerm pair.first }
-    requires second { IsSmallTerm pair.second }
-    ensures { OnTrue result (IsOpenUnequal b.now lit pair) }
+/// Whether neither term is fixed.
+fn are_open(pair: Pair) -> bool
+    ensures first { OnTrue result (pair.first.least <ℤ pair.first.greatest) }
+    ensures second { OnTrue result (pair.second.least <ℤ pair.second.greatest) }
 {
-    stands_false(lit, b)
-        && pair.first.least < pair.first.greatest
-        && pair.second.least < pair.second.greatest
+    pair.first.least < pair.first.greatest && pair.second.least < pair.second.greatest
 }

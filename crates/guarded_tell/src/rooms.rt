@@ -6,17 +6,15 @@ ghost use Rattle.std.specs.Bool.{OnTrue, OnFalse};
 ghost use Rattle.guarded_tell.specs.Words.{IsProperIn};
 ghost use Rattle.guarded_tell.specs.Hearing.{MayHearAll, HearsAll};
 ghost use Rattle.guarded_tell.specs.Kernels.{vars_of, IsKernel};
-ghost use Rattle.guarded_tell.specs.Short.{IsSmallTerm};
+ghost use Rattle.small_sums.specs.Short.{IsSmallTerm};
 ghost use Rattle.guarded_tell.specs.Shapes.{IsShapeOf};
 ghost use Rattle.guarded_tell.specs.Narrowing.{narrowing_tells};
 
-use crate::pairs::{Pair, sum};
 use crate::shape::{Shape, difference};
-use crate::short::Sums;
-use crate::short_sum::{narrow_equation_literal, narrow_literal, room_at_most, room_equal};
-use crate::short_terms::narrow_term;
 use crate::{Hear, Kernel};
 use interval::{BoxOf, law_clamp_order, law_quotient_order};
+use short_tells::{narrow_equation_literal, narrow_literal, narrow_term, room_at_most, room_equal};
+use small_sums::{Pair, Sums, sum};
 use tells::{stands_false, stands_true};
 
 /// Gives the tell of a literal that is neither sure nor out, where the difference decides it, and answers yes. Else it gives
@@ -162,7 +160,7 @@ fn pair_sums(pair: Pair) -> Sums
 }
 
 /// The most that one of the terms is above its least.
-#[tactic(auto, unfolding(crate::specs::Short::small_product_limit, crate::specs::Short::small_limit))]
+#[tactic(auto, unfolding(small_sums::specs::Short::small_product_limit, small_sums::specs::Short::small_limit))]
 fn wider(pair: Pair) -> i64
     requires first { IsSmallTerm pair.first }
     requires second { IsSmallTerm pair.second }

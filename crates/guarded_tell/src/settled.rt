@@ -4,9 +4,9 @@ ghost use Rattle.std.specs.Prelude.{◌≡◌, ◌<◌, ◌≤ℤ◌, cond, leng
 ghost use Rattle.interval.specs.Boxes.{low_of, high_of};
 ghost use Rattle.guarded_tell.specs.Settled.{IsAtMostSumFor, IsEquationSumFor};
 
-use crate::short::Sums;
 use crate::{Lit, Rest};
 use interval::BoxOf;
+use small_sums::Sums;
 use tells::{stands_false, stands_true};
 
 /// How long an inequality of these sums needs no visit.

@@ -2,14 +2,15 @@
 
 ghost use Rattle.std.specs.Prelude.{◌≡◌, ◌<◌, ◌≤ℤ◌, ℕ, pos, [], ◌∷◌, cond, length, MatchOption};
 ghost use Rattle.interval.specs.Boxes.{low_of, high_of};
-ghost use Rattle.guarded_tell.specs.Linear.{IsLinear};
+ghost use Rattle.sum_tells.specs.Linear.{IsLinear};
 ghost use Rattle.guarded_tell.specs.Kernels.{HasNumbers};
 ghost use Rattle.guarded_tell.specs.Shapes.{IsShapeOf, IsDifference, IsDifferenceIn};
 
-use crate::pairs::{Pair, opposite, plain};
-use crate::slight::{are_slight, are_slight_extended};
-use crate::{Extended, Kernel, Lit, Literals};
+use crate::{Kernel, Lit};
+use clause_tells::Literals;
 use interval::BoxOf;
+use small_sums::{Pair, are_slight, are_slight_extended, opposite, plain};
+use sum_tells::Extended;
 
 /// A kernel of two variables or of two literals, whole, or what kind of another kernel it is.
 #[derive(Clone, Copy, PartialEq, Eq, Debug)]

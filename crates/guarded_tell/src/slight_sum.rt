@@ -1,32 +1,34 @@
 //! The tells of sums with slight coefficients.
 
-ghost use Rattle.std.specs.Prelude.{◌≡◌, ◌≤◌, ◌∷◌, length, sum_by, unsigned_abs, MatchOption, IfSome};
+ghost use Rattle.std.specs.Prelude.{◌≡◌, ◌≤◌, ◌∷◌, true, length, sum_by, unsigned_abs, MatchOption, IfSome};
 ghost use Rattle.std.specs.List.{All};
 ghost use Rattle.guarded_tell.specs.Words.{AreVariables, IsProperIn, Keeps};
+ghost use Rattle.guarded_tell.specs.Words as words;
 ghost use Rattle.guarded_tell.specs.Hearing.{MayHearAll, HearsAll};
-ghost use Rattle.guarded_tell.specs.Linear.{at_most_tells, IsLinear};
-ghost use Rattle.guarded_tell.specs.Equality.{eq_tells};
-ghost use Rattle.guarded_tell.specs.Narrowing.{narrowing, narrowing_tells};
+ghost use Rattle.sum_tells.specs.Linear.{at_most_tells, IsLinear};
+ghost use Rattle.sum_tells.specs.Equality.{eq_tells};
+ghost use Rattle.tell_laws.specs.Narrowing.{narrowing};
+ghost use Rattle.guarded_tell.specs.Narrowing.{narrowing_tells};
 ghost use Rattle.guarded_tell.specs.Kernels.{vars_of, IsKernel};
-ghost use Rattle.guarded_tell.specs.Short.{slight_limit};
+ghost use Rattle.small_sums.specs.Short.{slight_limit};
 ghost use Rattle.guarded_tell.specs.declared.kernel.Kernel.{Kernel};
 ghost use Rattle.guarded_tell.specs.Shapes.{IsSlightSum};
 ghost use Rattle.guarded_tell.specs.Rests.{IsRest};
 
-use crate::parted::is_whole_equation_quiet;
-use crate::quiet::leaves_room_on_both_sides;
+use crate::quiet::{Hint, are_two_open};
 use crate::settled::{at_most_sum_rest, equation_sum_rest};
-use crate::short_sum::{narrow_short_at_most, narrow_short_equation};
-use crate::slight::slight_sums;
-use crate::{Extended, Hear, Kernel, Lit, Rest};
+use crate::{Hear, Kernel, Lit, Rest};
 use interval::{BoxOf, law_clamp_order, law_quotient_order};
+use short_tells::{narrow_short_at_most, narrow_short_equation};
+use small_sums::{is_whole_equation_quiet, leaves_room_on_both_sides, slight_sums};
+use sum_tells::Extended;
 use tells::stands_false;
 
 /// Gives the tells of a sum with slight coefficients that narrow the box to `h`, and says how long it needs no visit, or gives
 /// none and says nothing. The terms of an equation that must not hold, and of one whose last term stands apart, are left
 /// where they may be told something.
 #[tactic(auto, unfolding(crate::specs::Kernels::tells, crate::specs::Kernels::vars_of, crate::specs::Kernels::HasNumbers))]
-pub fn give_slight_sum<H: Hear>(k: &Kernel, b: &BoxOf, h: &mut H) -> Option<Rest>
+pub fn give_slight_sum<H: Hear>(k: &Kernel, b: &BoxOf, hint: &mut Hint, h: &mut H) -> Option<Rest>
     requires kernel { IsKernel (length b.now) k.now }
     requires slight { IsSlightSum k.now }
     requires proper { IsProperIn (vars_of k.now) b.now }
@@ -46,7 +48,7 @@ pub fn give_slight_sum<H: Hear>(k: &Kernel, b: &BoxOf, h: &mut H) -> Option<Rest
             coeffs,
             vars,
             limit,
-        } => give_slight_equation(*lit, coeffs, vars, *limit, b, h),
+        } => give_slight_equation(*lit, coeffs, vars, *limit, b, hint, h),
         _ => None,
     }
 }
@@ -82,6 +84,7 @@ fn give_slight_equation<H: Hear>(
     vars: &Extended<u32>,
     limit: i64,
     b: &BoxOf,
+    hint: &mut Hint,
     h: &mut H,
 ) -> Option<Rest>
     requires linear { IsLinear coeffs.now vars.now limit }
@@ -93,7 +96,7 @@ fn give_slight_equation<H: Hear>(
     ensures rest { IfSome result (λ rest. (k : Kernel) → IsKernel (length b.now) k → k ≡ Kernel.Eq lit coeffs.now vars.now limit → IsRest k b.now rest) }
 {
     if let (Some(coeffs), Some(vars)) = (coeffs.as_slice(), vars.as_slice()) {
-        give_whole_slight_equation(lit, coeffs, vars, limit, b, h)
+        give_whole_slight_equation(lit, coeffs, vars, limit, b, hint, h)
     } else if is_whole_equation_quiet(lit, coeffs, vars, limit, b) {
         Some(Rest::Awake)
     } else {
@@ -108,6 +111,7 @@ fn give_whole_slight_equation<H: Hear>(
     vars: &[u32],
     limit: i64,
     b: &BoxOf,
+    hint: &mut Hint,
     h: &mut H,
 ) -> Option<Rest>
     requires linear { IsLinear coeffs.now vars.now limit }
@@ -121,30 +125,36 @@ fn give_whole_slight_equation<H: Hear>(
     law_quotient_order();
     law_clamp_order();
     if stands_false(lit, b) {
-        return slight_inequation_rest(lit, coeffs, vars, limit, b);
+        return slight_inequation_rest(lit, coeffs, vars, limit, b, hint);
     }
     let sums = slight_sums(coeffs, vars, b);
     narrow_short_equation(lit, coeffs, vars, limit, sums, b, h);
     Some(equation_sum_rest(lit, limit, sums, b))
 }
 
-/// How long an equation that must not hold needs no visit, where its sums say that it narrows nothing.
+/// How long an equation that must not hold needs no visit, where two open terms or its sums say that it narrows nothing. What
+/// the hint remembers is looked at first.
 fn slight_inequation_rest(
     lit: Lit,
     coeffs: &[i64],
     vars: &[u32],
     limit: i64,
     b: &BoxOf,
+    hint: &mut Hint,
 ) -> Option<Rest>
     requires linear { IsLinear coeffs.now vars.now limit }
     requires variables { AreVariables (length b.now) (lit.var ∷ vars.now) }
     requires proper { IsProperIn (lit.var ∷ vars.now) b.now }
     requires slight { sum_by unsigned_abs coeffs.now ≤ slight_limit }
+    requires out { words.is_out lit b.now ≡ true }
     ensures quiet { IfSome result (λ rest. All (Keeps b.now) (eq_tells lit coeffs.now vars.now limit b.now)) }
     ensures rest { IfSome result (λ rest. (k : Kernel) → IsKernel (length b.now) k → k ≡ Kernel.Eq lit coeffs.now vars.now limit → IsRest k b.now rest) }
 {
     law_quotient_order();
     law_clamp_order();
+    if are_two_open(coeffs, vars, b, hint) {
+        return Some(Rest::UntilFixed);
+    }
     let sums = slight_sums(coeffs, vars, b);
     if leaves_room_on_both_sides(lit, limit, sums, b) {
         Some(equation_sum_rest(lit, limit, sums, b))

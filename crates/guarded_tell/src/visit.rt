@@ -5,16 +5,15 @@ ghost use Rattle.guarded_tell.specs.Words.{IsProperIn};
 ghost use Rattle.guarded_tell.specs.Hearing.{MayHearAll, HearsAll};
 ghost use Rattle.guarded_tell.specs.Kernels.{vars_of, tells, IsKernel};
 
-use crate::clause::visit_clause;
-use crate::linear::visit_le;
-use crate::parted::visit_equation;
 use crate::{Hear, Kernel};
 use arithmetic_tells::{visit_abs, visit_div, visit_mod, visit_times};
+use clause_tells::visit_clause;
 use element_tells::visit_element;
 use extreme_tells::{visit_max, visit_min};
 use global_tells::{visit_all_different, visit_cumulative};
 use interval::BoxOf;
 use set_tells::visit_in_set;
+use sum_tells::{visit_equation, visit_le};
 
 /// Gives the tells of the kernel on the box to `h`, each once and in order. It takes no memory.
 #[tactic(auto, unfolding(crate::specs::Kernels::tells, crate::specs::Kernels::vars_of, crate::specs::Kernels::HasNumbers))]

@@ -5,7 +5,7 @@ ghost use Rattle.interval.specs.Limits.{IsBound, bound_limit};
 ghost use Rattle.interval.specs.Quotients.{floor_of, ceiling_of};
 ghost use Rattle.interval.specs.Corners as corners;
 
-use crate::{ceil_div, floor_div};
+use crate::quotients::{Rounded, round_both_ways};
 
 /// The least and the greatest of the four products of a bound of `x` and a bound of `y`.
 pub fn corner_products(x: (i64, i64), y: (i64, i64)) -> (i128, i128)
@@ -35,18 +35,22 @@ pub fn corner_quotients(z: (i64, i64), y: (i64, i64)) -> (i128, i128)
     ensures least { result.0 ≡ corners.least_ceiling z y }
     ensures greatest { result.1 ≡ corners.greatest_floor z y }
 {
+    let at_lows = quotient(z.0, y.0);
+    let at_low_high = quotient(z.0, y.1);
+    let at_high_low = quotient(z.1, y.0);
+    let at_highs = quotient(z.1, y.1);
     (
         least_of_four(
-            ceiling(z.0, y.0),
-            ceiling(z.0, y.1),
-            ceiling(z.1, y.0),
-            ceiling(z.1, y.1),
+            at_lows.ceiling,
+            at_low_high.ceiling,
+            at_high_low.ceiling,
+            at_highs.ceiling,
         ),
         greatest_of_four(
-            floor(z.0, y.0),
-            floor(z.0, y.1),
-            floor(z.1, y.0),
-            floor(z.1, y.1),
+            at_lows.floor,
+            at_low_high.floor,
+            at_high_low.floor,
+            at_highs.floor,
         ),
     )
 }
@@ -65,22 +69,14 @@ fn product(a: i64, b: i64) -> i128
     a as i128 * b as i128
 }
 
-#[tactic(auto, unfolding(crate::specs::Limits::bound_limit, crate::specs::Limits::largest_number, crate::specs::Limits::dividend_limit))]
-fn ceiling(a: i64, b: i64) -> i128
+#[tactic(auto, unfolding(crate::specs::Limits::bound_limit, crate::specs::Limits::largest_number, crate::specs::Limits::short_limit))]
+fn quotient(a: i64, b: i64) -> Rounded
     requires dividend { IsBound a }
     requires divisor { b ≢ pos 0 }
-    ensures { result ≡ ceiling_of a b }
+    ensures floor { result.floor ≡ floor_of a b }
+    ensures ceiling { result.ceiling ≡ ceiling_of a b }
 {
-    ceil_div(a as i128, b as i128)
-}
-
-#[tactic(auto, unfolding(crate::specs::Limits::bound_limit, crate::specs::Limits::largest_number, crate::specs::Limits::dividend_limit))]
-fn floor(a: i64, b: i64) -> i128
-    requires dividend { IsBound a }
-    requires divisor { b ≢ pos 0 }
-    ensures { result ≡ floor_of a b }
-{
-    floor_div(a as i128, b as i128)
+    round_both_ways(a, b)
 }
 
 fn least_of_four(p: i128, q: i128, r: i128, s: i128) -> i128

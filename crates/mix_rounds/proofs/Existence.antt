@@ -15,7 +15,7 @@ use Rattle.interval.specs.Boxes.{Bounds, low_of, high_of, IsInRange, IsProper, I
 use Rattle.guarded_tell.specs.declared.kernel.Kernel.{Kernel}
 use Rattle.guarded_tell.specs.Words.{Tell, Side, Low, High, Keeps, KeepsSide, IsProperIn}
 use Rattle.guarded_tell.specs.Kernels.{vars_of, tells, IsKernel}
-use Rattle.guarded_tell.specs.Narrowing.{narrows, narrows_side, narrowing}
+use Rattle.tell_laws.specs.Narrowing.{narrows, narrows_side, narrowing}
 use Rattle.fixpoint_laws.specs.Greatest.{is_crossed_box}
 use Rattle.bit_domain.specs.Bits.{IsSubset}
 use Rattle.bit_domain.specs.declared.dom.Dom.{Dom}

@@ -5,7 +5,7 @@ use Rattle.std.specs.List.{flat_map}
 use Rattle.guarded_tell.specs.declared.kernel.Kernel.{Kernel}
 use Rattle.guarded_tell.specs.Words.{Tell, Side, Low, High}
 use Rattle.guarded_tell.specs.Kernels.{tells}
-use Rattle.guarded_tell.specs.Narrowing.{narrowing}
+use Rattle.tell_laws.specs.Narrowing.{narrowing}
 use Rattle.fixpoint_laws.specs.Greatest.{is_crossed_box}
 use Rattle.bit_domain.specs.declared.dom.Dom.{Dom}
 use Rattle.bit_domain.specs.declared.dom.Dom.TheVariants.{Bits, Pair}

@@ -11,7 +11,7 @@ use Rattle.guarded_tell.specs.Words.{Keeps}
 use Rattle.guarded_tell.specs.Hearing.{HearsAll}
 use Rattle.fixpoint_laws.specs.Changes.{TightensOne}
 use Rattle.fixpoint_laws.specs.Rounds.{Narrows}
-use Rattle.guarded_tell.specs.Narrowing.{narrows}
+use Rattle.tell_laws.specs.Narrowing.{narrows}
 use Rattle.moved_fixpoint.specs.declared.joiner.Progress.{Progress}
 use Rattle.moved_fixpoint.specs.declared.joiner.Progress.TheVariants.{Still, Moved, Crossed, Refused}
 use Rattle.moved_fixpoint.specs.Heard.{GoesOn, HasPut, told_low, told_high, IsHeard, Joined, Hears}

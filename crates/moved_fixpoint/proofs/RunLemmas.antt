@@ -2,6 +2,9 @@
 use Rattle.std.proofs.Common.{◌≡◌, ◌≢◌, ℕ, ℤ, ◌<◌, ◌≤ℤ◌, inl, inr, ⊎_elim, Bool, true, false, cond, refl, List, [], ◌∷◌, length, get_or, set, sym, subst, ◌∙◌, ap, arith}
 use Rattle.std.proofs.lemmas.List.{get_or_default, get_or-set_other, length-set}
 use Rattle.std.proofs.lemmas.List.Elements.{All-filter, All-head, All-tail, All-take}
+use Rattle.std.proofs.lemmas.Bool.{true≢false}
+use Rattle.std.specs.Prelude.{Result, Ok, Err, OnOk}
+use Rattle.std.specs.Result.{is_err, is_ok}
 use Rattle.std.specs.List.{All, Contains, filter}
 use Rattle.std.proofs.lemmas.Int.{ints}
 use Rattle.interval.specs.Limits.{IsBound}
@@ -13,7 +16,8 @@ use Rattle.guarded_tell.specs.declared.kernel.Kernel.{Kernel}
 use Rattle.guarded_tell.specs.Words.{Keeps, KeepsSide, IsProperIn, IsInsideIn, AgreeIn}
 use Rattle.guarded_tell.specs.Hearing.{HearsAll}
 use Rattle.guarded_tell.specs.Kernels.{vars_of, tells, IsKernel, IsClosedUnder}
-use Rattle.guarded_tell.specs.Narrowing.{narrows, narrowing_tells}
+use Rattle.tell_laws.specs.Narrowing.{narrows}
+use Rattle.guarded_tell.specs.Narrowing.{narrowing_tells}
 use Rattle.moved_set.specs.Sets.{IsIn, Naming, IsNaming, set_at}
 use Rattle.fixpoint_laws.specs.Changes.{TightensOne}
 use Rattle.fixpoint_laws.specs.Rounds.{HasRun}
@@ -300,3 +304,19 @@ any_default kernels i k before asked rests p after asked_after rests_after p_aft
 
 pub here_is : (kernels : List Kernel) (n i : ℕ) (k : Kernel) → All (IsKernel n) kernels → i < length kernels → k ≡ get_or kernels i k → IsKernel n k
 here_is kernels n i k all h is = subst (IsKernel n) (sym is) (all i k h)
+
+-- ---- what is so after a call
+
+-- what was gathered, as the slice of it and the box are read
+pub told_by : (k : Kernel) (now b : Bounds) (items told : List Tell) → b ≡ now → told ≡ items → AreGathered b (narrowing_tells k b) items → AreGathered now (narrowing_tells k now) told
+told_by k now b items told e f g =
+    let P : Bounds → Type 0 = λ c. AreGathered c (narrowing_tells k c) items in
+    subst (λ (ts : List Tell). AreGathered now (narrowing_tells k now) ts) (sym f) (subst P e g)
+
+pub ok_then : {V E : Type 0} (r : Result V E) (P : Type 0) → is_err r ≡ false → OnOk r P → P
+ok_then (Ok v) P e p = p
+ok_then (Err f) P e p = absurd (true≢false e)
+
+pub then_ok : {V E : Type 0} (r : Result V E) (P : Type 0) → is_ok r ≡ true → OnOk r P → P
+then_ok (Ok v) P e p = p
+then_ok (Err f) P e p = absurd (true≢false (sym e))

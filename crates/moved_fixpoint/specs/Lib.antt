@@ -7,3 +7,4 @@ pub mod Runs
 pub mod Round
 pub mod Ends
 pub mod Gathered
+pub mod Made

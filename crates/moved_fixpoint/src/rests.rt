@@ -32,6 +32,7 @@ impl Rests {
     }
 
     /// Keeps how long the kernel at a place rests.
+    #[inline(always)]
     pub(crate) fn note(&mut self, place: usize, rest: Rest) -> Result<(), NoMemory>
         requires open { place < count_of self.old.open.current }
         requires alert { place < count_of self.old.alert.current }

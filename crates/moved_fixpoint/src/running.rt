@@ -14,7 +14,9 @@ use crate::joiner::{Progress, join_all};
 use crate::rests::Rests;
 use crate::sets::AskedSets;
 use fixpoint_laws::law_tightens_one;
-use guarded_tell::{Kernel, Tell, law_local, law_monotone, law_narrowing, law_tell_place};
+use guarded_tell::{
+    Kernel, Tell, law_local, law_monotone, law_narrowing, law_tell_place, seen_rest,
+};
 use interval::{BoxOf, law_inside_order};
 use moved_set::{AskedSet, Masks};
 use trailed_box::TrailedBox;
@@ -33,9 +35,54 @@ fn ask_told(masks: &Masks, told: &[Tell], b: &BoxOf, rests: &Rests, asked: &mut 
 }
 
 /// Runs the kernel at a place on the box, and says how far the round has come then. It is forgotten before, and asked again
-/// if a variable of its own moves and it heeds that. It tells what it does on the box as it is before any of that is joined,
-/// and rests if it needs no visit on the box as it is then: where it tells nothing the visit itself says how long.
+/// if a variable of its own moves and it heeds that. Where its shape alone says that it narrows nothing, nothing else is
+/// looked at.
+#[inline(always)]
 pub(crate) fn run_kernel(
+    kernels: &[Kernel],
+    masks: &Masks,
+    place: usize,
+    b: &mut TrailedBox,
+    sets: &mut AskedSets,
+    progress: Progress,
+) -> Progress
+    requires place { place < length kernels.now }
+    requires kernels { All (IsKernel (length b.old.current)) kernels.now }
+    requires masks { AreMasksOf kernels.now (length b.old.current) masks.now }
+    requires set { count_of sets.old.asked ≡ length kernels.now }
+    requires rests { FitRests (length kernels.now) sets.old.rests }
+    requires proper { IsProper b.old.current }
+    ensures stack { b.new.stack ≡ b.old.stack }
+    ensures rests { FitRests (length kernels.now) sets.new.rests }
+    ensures stacks { KeepStacks sets.old.rests sets.new.rests }
+    ensures run { KernelRuns kernels.now place b.old.current sets.old.asked sets.old.rests progress b.new.current sets.new.asked sets.new.rests result }
+{
+    law_inside_order();
+    law_tightens_one();
+    law_local();
+    law_monotone();
+    law_tell_place();
+    law_narrowing();
+    // its contract says that the bounds are in range
+    let _length = b.len();
+    let kernel = &kernels[place];
+    match seen_rest(kernel, masks.shape(place), b.current()) {
+        Some(rest) => {
+            sets.asked.forget(place);
+            if sets.rest_for(place, rest).is_ok() {
+                progress
+            } else {
+                Progress::Refused
+            }
+        }
+        None => run_unseen(kernels, masks, place, b, sets, progress),
+    }
+}
+
+/// The same of a kernel of which its shape doesn't say so. It tells what it does on the box as it is before any of that is
+/// joined, and rests if it needs no visit on the box as it is then: where it tells nothing the visit itself says how long.
+#[inline(never)]
+fn run_unseen(
     kernels: &[Kernel],
     masks: &Masks,
     place: usize,

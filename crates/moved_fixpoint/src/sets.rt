@@ -15,7 +15,7 @@ ghost use Rattle.moved_fixpoint.specs.Rested.{HasRested};
 
 use crate::rests::Rests;
 use crate::told::Told;
-use guarded_tell::{Hint, Kernel, Rest, Shape, law_narrowing, rest_of, seen_rest};
+use guarded_tell::{Hint, Kernel, Rest, Shape, law_narrowing, rest_of};
 use interval::{BoxOf, NoMemory};
 use moved_set::{AskedSet, MovedSet};
 use std::alloc::Global;
@@ -137,9 +137,6 @@ impl AskedSets {
         ensures told { IfNone result (self.new.told.refused ≡ false → AreGathered b.now (narrowing_tells kernel.now b.now) self.new.told.tells.items) }
     {
         law_narrowing();
-        if let Some(rest) = seen_rest(kernel, shape, b) {
-            return Some(rest);
-        }
         let rest = self.gather(kernel, shape, place, b);
         if self.told.refused || !self.told.tells.is_empty() {
             None
@@ -204,6 +201,7 @@ impl AskedSets {
     }
 
     /// Lets the kernel at a place rest so long.
+    #[inline(always)]
     pub(crate) fn rest_for(&mut self, place: usize, rest: Rest) -> Result<(), NoMemory>
         requires open { place < count_of self.old.rests.open.current }
         requires alert { place < count_of self.old.rests.alert.current }

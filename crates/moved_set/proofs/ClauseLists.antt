@@ -3,8 +3,8 @@ use Rattle.std.proofs.Common.{◌≡◌, ℕ, ◌+◌, List, [], ◌∷◌, ◌+
 use Rattle.std.proofs.Math.Seq.{take-append_seam, drop-append_seam}
 use Rattle.std.proofs.lemmas.List.{length-append, append-nil, drop_all}
 use Rattle.guarded_tell.specs.Words.{Lit}
-use Rattle.guarded_tell.specs.Clause.{clause_vars}
-use Rattle.guarded_tell.specs.Literals.{literal, literals_by_sign}
+use Rattle.clause_tells.specs.Clause.{clause_vars}
+use Rattle.clause_tells.specs.Literals.{literal, literals_by_sign}
 use Rattle.moved_set.specs.Parts.{HasList}
 
 -- the variables of literals of one sign

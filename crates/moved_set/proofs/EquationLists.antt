@@ -2,7 +2,7 @@
 use Rattle.std.proofs.Common.{◌≡◌, ℕ, suc, ◌+◌, List, [], ◌∷◌, ◌++◌, Option, None, Some, length, drop, sym, ◌∙◌, ap, arith}
 use Rattle.std.proofs.Math.Seq.{drop-append_seam}
 use Rattle.std.proofs.lemmas.List.{length-append, append-nil}
-use Rattle.guarded_tell.specs.Extended.{extended}
+use Rattle.sum_tells.specs.Extended.{extended}
 use Rattle.moved_set.specs.Parts.{HasList}
 
 second : (v : ℕ) (vars list rest : List ℕ) → vars ≡ list ++ rest → HasList (v ∷ vars) 1 list

@@ -1,12 +1,14 @@
 -- Lists of the variables of a set.
-use Rattle.std.proofs.Common.{◌≡◌, ◌≢◌, ℕ, ◌+◌, ◌<◌, ◌≤◌, Bool, true, false, cond, List, [], ◌∷◌, ◌++◌, length, get_or, set, replicate, refl, sym, ◌∙◌, ap, subst, ⊎_elim, arith, inl, inr}
-use Rattle.std.specs.Prelude.{Contains}
+use Rattle.std.proofs.Common.{◌≡◌, ◌≢◌, ℕ, ◌+◌, ◌/◌, ◌<◌, ◌≤◌, Bool, true, false, cond, List, [], ◌∷◌, ◌++◌, length, get_or, set, replicate, refl, sym, ◌∙◌, ap, subst, ⊎_elim, arith, inl, inr}
+use Rattle.std.specs.Prelude.{All, Contains}
 use Rattle.std.proofs.lemmas.Bool.{cases_eq, cases_lt, cases_Bool}
 use Rattle.std.proofs.lemmas.List.{length-replicate, length-set, length_push, get_or-set_same, get_or-set_other, get_or-replicate, get_or_past, ext_get_or}
 use Rattle.std.proofs.lemmas.List.Sums.{sum_by-set}
-use Rattle.std.proofs.lemmas.List.Elements.{Contains-push, Contains-push_cases, Contains-append_left}
+use Rattle.std.proofs.lemmas.List.Elements.{All-contains_itself, Contains-push, Contains-push_cases, Contains-append_left}
 use Rattle.moved_set.specs.Sets.{IsIn}
+use Rattle.moved_set.specs.Words.{has, set_of}
 use Rattle.moved_set.specs.Listed.{Listed, IsListing, HasPut, IsWorthwhile, AreMany, size_of}
+use Rattle.moved_set.proofs.SetLaws.{length-set_of, set_of_at, set_of_is, word_there}
 
 -- the empty set
 pub none_in : (n v : ℕ) → IsIn (replicate n false) v → ⊥
@@ -20,6 +22,24 @@ listing_none l s n is empty = record {
   inside = λ v some. let len : length l.variables ≡ 0 = ap length is in let lt = some.1 in absurd (omega arith);
   all = λ _ v inside. absurd (none_in n v (subst (λ (t : List Bool). IsIn t v) empty inside));
 }
+
+-- the words of a listed set: each variable has its word, and where none of the listed ones is left in them the set is empty
+in_words : (words : List ℕ) (count v : ℕ) → IsIn (set_of words count) v → v < count
+in_words words count v inside =
+    ⊎_elim (λ h. h)
+    (λ (h : count ≤ v). let out : get_or (set_of words count) v false ≡ false = get_or_past (set_of words count) v false (omega (arith, length-set_of words count)) in absurd (cc))
+    (cases_lt v count)
+
+pub all_there : (l : Listed) (words : List ℕ) (count : ℕ) → IsListing l (set_of words count) → length words ≡ (count + 31) / 32 → All (λ v. v / 32 < length words) l.variables
+all_there l words count listing len k d h =
+    let v = get_or l.variables k d in
+    word_there count v (length words) (in_words words count v (listing.inside v (All-contains_itself l.variables k d h))) len
+
+pub emptied : (l : Listed) (words items : List ℕ) (count n : ℕ) → IsListing l (set_of words count) → n ≡ count
+    → ((v : ℕ) → (l.whole ≡ true → has words v ≡ true → Contains l.variables v) → has items v ≡ false) → set_of items count ≡ replicate n false
+emptied l words items count n listing same none =
+    set_of_is items count (replicate n false) (length-replicate n false ∙ same)
+    (λ v h. none v (λ whole t. listing.all whole v (set_of_at words count v h ∙ t)) ∙ sym (get_or-replicate n v false false (omega arith)))
 
 -- a list that was given up
 pub listing_given_up : (l : Listed) (s : List Bool) → l.variables ≡ [] → l.whole ≡ false → IsListing l s

@@ -2,7 +2,7 @@
 //! its own. What is kept for each variable of a list is then kept once, however many kernels have the list.
 
 ghost use Rattle.std.specs.Prelude.{ℕ, ◌≡◌, ◌≢◌, ◌<◌, ◌≤◌, ◌++◌, [], ◌∷◌, length, slice_index_or, slice_range, All, IsTrue, IfOk, OnOk, IfSome};
-ghost use Rattle.guarded_tell.specs.Clause.{clause_vars};
+ghost use Rattle.clause_tells.specs.Clause.{clause_vars};
 ghost use Rattle.guarded_tell.specs.Kernels.{vars_of, IsKernel, HasNumbers};
 ghost use Rattle.moved_set.specs.Parts.{HasList, IsPart, AreLists, AreParts, own_at, Grows, GrowsBy};
 

@@ -1,6 +1,6 @@
 //! Sets of variables.
 
-ghost use Rattle.std.specs.Prelude.{◌≡◌, ◌<◌, ◌+◌, ◌/◌, true, false, length, replicate, slice_set, slice_index_or, IfOk, IfSome, IfNone};
+ghost use Rattle.std.specs.Prelude.{◌≡◌, ◌<◌, ◌+◌, ◌/◌, ℕ, true, false, length, replicate, slice_set, slice_index_or, All, Contains, IfOk, IfSome, IfNone};
 ghost use Rattle.moved_set.specs.Listed.{AreAllOf, AreMany};
 ghost use Rattle.moved_set.specs.Words.{has};
 
@@ -70,7 +70,7 @@ impl MovedSet {
     pub fn clear(&mut self)
         ensures { self.new ≡ replicate (length self.old) false }
     {
-        self.words.as_mut_slice().fill(0);
+        empty(self.words.as_mut_slice(), &self.few);
         self.few.clear();
     }
 
@@ -92,6 +92,31 @@ impl MovedSet {
         } else {
             None
         }
+    }
+}
+
+/// Takes all numbers off the words. While they are few, and all are listed, no other words are looked at.
+fn empty(words: &mut [u32], few: &Few)
+    requires listed { few.now.whole ≡ true → All (λ v. v / 32 < length words.old) few.now.variables }
+    ensures len { length words.new ≡ length words.old }
+    ensures none { (v : ℕ) → (few.now.whole ≡ true → has words.old v ≡ true → Contains few.now.variables v) → has words.new v ≡ false }
+{
+    if few.is_whole() {
+        clear_words(words, few.variables());
+    } else {
+        words.fill(0);
+    }
+}
+
+/// Clears the words that hold the bits of these variables.
+fn clear_words(words: &mut [u32], variables: &[u32])
+    requires { All (λ v. v / 32 < length words.old) variables.now }
+    ensures len { length words.new ≡ length words.old }
+    ensures none { All (λ v. has words.new v ≡ false) variables.now }
+    ensures others { (v : ℕ) → has words.old v ≡ false → has words.new v ≡ false }
+{
+    for i in 0..variables.len() {
+        words[variables[i] as usize / 32] = 0;
     }
 }
 

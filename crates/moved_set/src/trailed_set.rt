@@ -76,6 +76,7 @@ impl TrailedSet {
     }
 
     /// Puts a kernel into the set.
+    #[inline(always)]
     pub fn put(&mut self, j: usize) -> Result<(), NoMemory>
         requires { j < length self.old.current }
         ensures current { OnOk result (self.new.current ≡ slice_set self.old.current j true) }
@@ -89,6 +90,7 @@ impl TrailedSet {
     }
 
     /// The same, whether it changes the set or not.
+    #[inline(never)]
     fn put_written(&mut self, j: usize) -> Result<(), NoMemory>
         requires { j < length self.old.current }
         ensures current { OnOk result (self.new.current ≡ slice_set self.old.current j true) }
@@ -100,6 +102,7 @@ impl TrailedSet {
     }
 
     /// Takes a kernel off.
+    #[inline(always)]
     pub fn remove(&mut self, j: usize) -> Result<(), NoMemory>
         requires { j < length self.old.current }
         ensures current { OnOk result (self.new.current ≡ slice_set self.old.current j false) }
@@ -113,6 +116,7 @@ impl TrailedSet {
     }
 
     /// The same, whether it changes the set or not.
+    #[inline(never)]
     fn remove_written(&mut self, j: usize) -> Result<(), NoMemory>
         requires { j < length self.old.current }
         ensures current { OnOk result (self.new.current ≡ slice_set self.old.current j false) }

@@ -1,11 +1,13 @@
 -- What a narrower that notes variables may narrow.
-use Rattle.std.proofs.Common.{◌≡◌, ℕ, ℤ, true, false, ◌<◌, List, length, sym, subst, arith}
+use Rattle.std.proofs.Common.{◌≡◌, ℕ, ℤ, true, false, ◌<◌, List, length, replicate, sym, subst, ap, ◌∙◌, arith}
+use Rattle.std.proofs.lemmas.List.{length-set, length-replicate}
 use Rattle.std.specs.Prelude.{slice_set}
 use Rattle.std.specs.List.{All}
 use Rattle.interval.specs.Boxes.{Bounds, put_of}
 use Rattle.guarded_tell.specs.declared.kernel.Kernel.{Kernel}
 use Rattle.guarded_tell.specs.Kernels.{IsKernel}
 use Rattle.fixpoint_laws.specs.Fixpoints.{IsClosed}
+use Rattle.moved_fixpoint.specs.Made.{IsMadeAt}
 use Rattle.moved_fixpoint.specs.Moved.{Set, count_of, AreMovedOrQuiet, QuietUnlessMoved}
 use Rattle.moved_fixpoint.specs.Resting.{HasEach}
 use Rattle.narrowing.specs.declared.alone.Alone.{Alone}
@@ -33,3 +35,14 @@ module _ (law : QuietUnlessMoved) where
         let same : length b ≡ count_of alone.sets.moved = subst (λ (m : Narrower). length b ≡ len_of m) is e in
         law.all b kernels moved are
         (λ v h. each v (omega arith))
+
+    -- one alone is noted, whose bounds were put in a closed box
+    pub alone_noted : (v : ℕ) → v < len_of n → moved ≡ slice_set (replicate (count_of alone.sets.moved) false) v true → (kernels : List Kernel) (b : Bounds) →
+        All (IsKernel (length b)) kernels → IsMadeAt kernels v b → AreMovedOrQuiet moved b kernels
+    alone_noted v h set kernels b are made =
+        let none : Set = replicate (count_of alone.sets.moved) false in
+        let below : v < count_of alone.sets.moved = subst (λ (m : Narrower). v < len_of m) is h in
+        let same : length b ≡ length made.closed = ap (λ (x : Bounds). length x) made.is_put ∙ length-set made.closed v (made.low, made.high) in
+        let put : AreMovedOrQuiet (slice_set none v true) (put_of made.closed v made.low made.high) kernels =
+        law.put made.closed kernels none v made.low made.high (subst (λ (k : ℕ). All (IsKernel k) kernels) same are) (omega (arith, length-replicate (count_of alone.sets.moved) false)) (law.closed made.closed kernels none made.is_closed) in
+        subst (λ (s : Set). AreMovedOrQuiet s b kernels) (sym set) (subst (λ (x : Bounds). AreMovedOrQuiet (slice_set none v true) x kernels) (sym made.is_put) put)

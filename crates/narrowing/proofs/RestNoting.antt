@@ -9,7 +9,7 @@ use Rattle.trailed_box.specs.Trailed.{Left, left_of}
 use Rattle.moved_set.specs.Sets.{IsIn}
 use Rattle.moved_fixpoint.specs.declared.rests.Rests.{Rests}
 use Rattle.moved_fixpoint.specs.Moved.{Set, count_of}
-use Rattle.moved_fixpoint.specs.Resting.{AreFresh, AreLeft, AreResting, FitRests, HasEach, IsBack, KeepCounts, KeepStacks, Knows as KnowsOn, KnownUnlessMoved}
+use Rattle.moved_fixpoint.specs.Resting.{AreAwake, AreFresh, AreLeft, AreResting, FitRests, HasEach, IsBack, KeepCounts, KeepStacks, Knows as KnowsOn, KnownUnlessMoved}
 use Rattle.narrowing.specs.declared.alone.Alone.{Alone}
 use Rattle.narrowing.specs.declared.narrower.Narrower.{Narrower}
 use Rattle.narrowing.specs.Narrowers.{len_of, Fits, IsAloneFor, Knows, LetsRest, AreLayers, LetRest}
@@ -99,6 +99,24 @@ module _ (n : Narrower) (alone : Alone) (is : n ≡ Narrower.Alone alone) where
     where
       fits_alone : (kernels : List Kernel) (count : ℕ) → Fits n kernels count → IsAloneFor alone kernels count
       fits_alone kernels count fits = (subst (λ (m : Narrower). Fits m kernels count) is fits).serves
+
+  -- all are open and alert
+  pub all_awake : KnownUnlessMoved → (asked moved : Set) (new : Rests) → KeepCounts rests new → AreAwake new
+      → (kernels : List Kernel) (count : ℕ) (b : Bounds) → Fits n kernels count → KnowsOn asked new.open.current new.alert.current moved b kernels
+  all_awake law asked moved new counts awake kernels count b fits =
+      let own : IsAloneFor alone kernels count = (subst (λ (m : Narrower). Fits m kernels count) is fits).serves in
+      let o = own.rests.open_count in
+      let a = own.rests.alert_count in
+      law.all_alert b kernels asked new.open.current new.alert.current moved
+      (λ j h. awake.open_each j (omega (arith, counts.open_count)))
+      (λ j h. awake.alert_each j (omega (arith, counts.alert_count)))
+
+  pub none_awake : (new : Rests) → AreAwake new → (kernels : List Kernel) → AreLayers kernels new.open.stack new.alert.stack []
+  none_awake new awake kernels = record {
+    open_count = ap length awake.open_stack;
+    alert_count = ap length awake.alert_stack;
+    each = λ i o a l h. absurd (omega arith);
+  }
 
   pub none_left : (new : Rests) → AreFresh new → (kernels : List Kernel) → AreLayers kernels new.open.stack new.alert.stack []
   none_left new fresh kernels = record {

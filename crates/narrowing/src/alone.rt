@@ -1,14 +1,14 @@
 //! What narrows alone, by propagation that asks what moved.
 
-ghost use Rattle.std.specs.Prelude.{◌≡◌, ◌≤◌, ℕ, List, length, All, IfOk, OnErr};
+ghost use Rattle.std.specs.Prelude.{◌≡◌, ◌<◌, ◌≤◌, ℕ, List, true, false, length, replicate, slice_set, All, IfOk, OnErr};
 ghost use Rattle.interval.specs.Limits.{box_limit};
 ghost use Rattle.interval.specs.Boxes.{IsProper};
 ghost use Rattle.guarded_tell.specs.declared.kernel.Kernel.{Kernel};
 ghost use Rattle.guarded_tell.specs.Kernels.{IsKernel};
 ghost use Rattle.fixpoint_laws.specs.Rounds.{HaveRun};
-ghost use Rattle.moved_fixpoint.specs.Moved.{AreMasksOf, IsEmpty, AreMovedOrQuiet};
+ghost use Rattle.moved_fixpoint.specs.Moved.{AreMasksOf, count_of, IsEmpty, AreMovedOrQuiet};
 ghost use Rattle.narrowing.specs.Narrowing.{IsNarrowed};
-ghost use Rattle.moved_fixpoint.specs.Resting.{KeepStacks};
+ghost use Rattle.moved_fixpoint.specs.Resting.{AreAwake, KeepCounts, KeepStacks};
 ghost use Rattle.narrowing.specs.declared.narrower.Narrower.{Narrower};
 ghost use Rattle.narrowing.specs.Narrowers.{IsAloneFor, Knows, LetsRestWhereFixed};
 
@@ -54,6 +54,20 @@ impl Alone {
         ensures stacks { KeepStacks self.old.sets.asking.rests self.new.sets.asking.rests }
     {
         self.sets.moved.clear();
+    }
+
+    /// Notes one variable alone, and lets no kernel rest.
+    pub(crate) fn note_alone(&mut self, v: u32)
+        requires { v < count_of self.old.sets.moved }
+        ensures moved { self.new.sets.moved ≡ slice_set (replicate (count_of self.old.sets.moved) false) v true }
+        ensures count { count_of self.new.sets.moved ≡ count_of self.old.sets.moved }
+        ensures asked { self.new.sets.asking.asked ≡ self.old.sets.asking.asked }
+        ensures rests_count { KeepCounts self.old.sets.asking.rests self.new.sets.asking.rests }
+        ensures awake { AreAwake self.new.sets.asking.rests }
+    {
+        self.sets.moved.clear();
+        self.sets.moved.mark(v);
+        self.sets.wake_all();
     }
 
     /// Narrows the proper box by the kernels that name a noted variable, and so on. No variable is noted then.

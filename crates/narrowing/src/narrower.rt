@@ -7,6 +7,7 @@ ghost use Rattle.trailed_box.specs.Trailed.{Left, left_of};
 ghost use Rattle.guarded_tell.specs.declared.kernel.Kernel.{Kernel};
 ghost use Rattle.guarded_tell.specs.Kernels.{IsKernel};
 ghost use Rattle.fixpoint_laws.specs.Rounds.{HaveRun};
+ghost use Rattle.moved_fixpoint.specs.Made.{IsMadeAt};
 ghost use Rattle.moved_fixpoint.specs.Moved.{AreMasksOf};
 ghost use Rattle.rounds.specs.Shares.{share_limit};
 ghost use Rattle.narrowing.specs.Narrowing.{IsNarrowed};
@@ -88,6 +89,23 @@ impl Narrower {
         law_known_unless_moved();
         if let Narrower::Alone(alone) = self {
             alone.sets.note_all();
+        }
+    }
+
+    /// Notes one variable alone, for a box that the bounds of this variable make of a closed one. No kernel rests, and none
+    /// that was let rest where a box was left is kept.
+    pub fn note_alone(&mut self, v: u32)
+        requires { v < len_of self.old }
+        ensures fits { (kernels : List Kernel) (count : ℕ) → Fits self.old kernels count → Fits self.new kernels count }
+        ensures lanes { lanes_of self.new ≡ lanes_of self.old }
+        ensures quiet { (kernels : List Kernel) (b : Bounds) → All (IsKernel (length b)) kernels → IsMadeAt kernels v b → AreQuietUnlessNoted self.new kernels b }
+        ensures knows { (kernels : List Kernel) (count : ℕ) (b : Bounds) → Fits self.old kernels count → Knows self.new kernels b }
+        ensures let_rest { (kernels : List Kernel) → LetRest self.new kernels [] }
+    {
+        law_quiet_unless_moved();
+        law_known_unless_moved();
+        if let Narrower::Alone(alone) = self {
+            alone.note_alone(v);
         }
     }
 

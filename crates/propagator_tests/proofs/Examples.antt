@@ -13,10 +13,10 @@ use Rattle.guarded_tell.specs.declared.kernel.Kernel.TheVariants.{Le, Eq, Times,
 use Rattle.interval.specs.Limits.{IsBound, IsNumber, largest_number, box_limit}
 use Rattle.interval.specs.Boxes.{Bounds, IsInRange, IsProper, low_of, high_of}
 use Rattle.guarded_tell.specs.Words.{IsProperIn, AreVariables}
-use Rattle.guarded_tell.specs.Linear.{IsLinear, term_limit}
+use Rattle.sum_tells.specs.Linear.{IsLinear, term_limit}
 use Rattle.extreme_tells.specs.Extremes.{member_limit}
-use Rattle.guarded_tell.specs.Clause.{clause_vars, literal_limit}
-use Rattle.guarded_tell.specs.Literals.{literals_by_sign}
+use Rattle.clause_tells.specs.Clause.{clause_vars, literal_limit}
+use Rattle.clause_tells.specs.Literals.{literals_by_sign}
 use Rattle.set_tells.specs.InSet.{IsSet, range_limit}
 use Rattle.global_tells.specs.Ranges.{place_limit}
 use Rattle.global_tells.specs.Cumulative.{AreTasks, IsAmount}

@@ -4,7 +4,7 @@ ghost use Rattle.std.specs.Prelude.{◌≡◌, ◌<◌, ◌≤◌, ◌∷◌, �
 ghost use Rattle.std.specs.Bool.{OnTrue};
 ghost use Rattle.interval.specs.Limits.{IsNumber, largest_number};
 ghost use Rattle.guarded_tell.specs.Words.{AreVariables};
-ghost use Rattle.guarded_tell.specs.Linear.{IsLinear};
+ghost use Rattle.sum_tells.specs.Linear.{IsLinear};
 ghost use Rattle.guarded_tell.specs.Kernels.{IsKernel};
 
 use crate::four_variables::{
@@ -79,7 +79,7 @@ fn ways(relation: Relation) -> &'static [Apart] {
 static VARIABLES: [u32; 3] = [1, 2, 3];
 
 /// The terms with these coefficients: the coefficients, and as many of variables 1, 2 and 3.
-#[tactic(auto, unfolding(guarded_tell::specs::Linear::term_limit, interval::specs::Limits::largest_number))]
+#[tactic(auto, unfolding(sum_tells::specs::Linear::term_limit, interval::specs::Limits::largest_number))]
 fn terms<'a>(rt: &impl Abort, coeffs: &'a [i64]) -> (&'a [i64], &'a [u32])
     ensures linear { IsLinear result.0.now result.1.now (pos 0) }
     ensures variables { AreVariables 4 (0 ∷ result.1.now) }

@@ -1,7 +1,7 @@
 -- What a search has found so far and what its stack still holds are together the solutions of its box.
-use Rattle.std.proofs.Common.{◌≡◌, ◌≢◌, ℕ, ℤ, ◌+◌, ◌<◌, ◌⊎◌, inl, inr, Bool, false, List, [], ◌∷◌, ◌++◌, length, Option, Some, None, refl, sym, ap, subst, ◌∙◌, arith, append-nil, length-append}
+use Rattle.std.proofs.Common.{◌≡◌, ◌≢◌, ℕ, ℤ, ◌+◌, ◌<◌, ◌⊎◌, inl, inr, Bool, true, false, List, [], ◌∷◌, ◌++◌, length, Option, Some, None, refl, sym, ap, subst, ◌∙◌, arith, append-nil, length-append}
 use Rattle.std.specs.List.{All}
-use Rattle.std.specs.Bool.{OnFalse}
+use Rattle.std.specs.Bool.{OnTrue, OnFalse}
 use Rattle.std.specs.Prelude.{MatchOption, option_to_list, ◌-◌, take}
 use Rattle.std.proofs.lemmas.List.{append_assoc}
 use Rattle.std.proofs.lemmas.List.Elements.{All-head, All-tail}
@@ -20,6 +20,9 @@ use Rattle.search.specs.Closings.{IsClosing}
 use Rattle.search.specs.Ends.{head_of, EndsDone, EndsSpent, IsFirstDone, IsAllDone}
 use Rattle.search.specs.Laws.{SolutionsOn, PrefixLaws}
 use Rattle.search.proofs.StackLaws.{Lies, reached_lies}
+
+pub of_true : (b : Bool) (P : Type 0) → b ≡ true → OnTrue b P → P
+of_true b P e h = subst (λ (t : Bool). OnTrue t P) e h
 
 pub of_false : (b : Bool) (P : Type 0) → b ≡ false → OnFalse b P → P
 of_false b P e h = subst (λ (t : Bool). OnFalse t P) e h

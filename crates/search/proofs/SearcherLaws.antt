@@ -1,5 +1,6 @@
 -- A searcher's boxes, and what it knows of them, at each move.
 use Rattle.std.proofs.Common.{◌≡◌, ◌≢◌, ◌⊎◌, inl, inr, ℕ, ℤ, pos, ◌-ℤ◌, ◌≤ℤ◌, ◌<ℤ◌, Option, Some, None, ◌<◌, Bool, true, false, cond, List, [], ◌∷◌, ◌++◌, length, refl, sym, ap, subst, ◌∙◌, arith, length-append}
+use Rattle.std.specs.Prelude.{IfSome}
 use Rattle.std.specs.List.{All}
 use Rattle.std.specs.Bool.{OnTrue, OnFalse}
 use Rattle.std.proofs.lemmas.Int.{ints}
@@ -16,7 +17,12 @@ use Rattle.search.specs.declared.kind.Kind.{Kind}
 use Rattle.search.specs.Machine.{cut_by}
 use Rattle.search.proofs.CutLaws.{at_most_inside}
 use Rattle.fixpoint_laws.specs.Changes.{TightensOne}
-use Rattle.search.specs.Stacks.{IsLeft, TellsCrossed, AreFronts, AreSound, IsFrontNear}
+use Rattle.moved_fixpoint.specs.Made.{IsMadeBy}
+use Rattle.narrowing.specs.declared.narrower.Narrower.{Narrower}
+use Rattle.narrowing.specs.Narrowers.{Fits, len_of}
+use Rattle.search.specs.declared.run.Run.{Run}
+use Rattle.search.specs.declared.searcher.Searcher.{Searcher}
+use Rattle.search.specs.Stacks.{count_of, IsLeft, TellsCrossed, AreFronts, AreSound, IsFrontNear, AreLeft, CanRestart}
 use Rattle.search.proofs.StackLaws.{all_last, all_front}
 
 -- ---- fronts of what is left
@@ -177,3 +183,20 @@ pair_proper b v low high h proper =
 -- it wasn't crossed, and the cut leaves some number
 pub not_crossed : (t : Bool) (P : Type 0) → t ≡ false → OnFalse t P → P
 not_crossed t P e h = subst (λ (u : Bool). OnFalse u P) e h
+
+-- ---- the searcher of a run that is over
+
+-- the pair by which a box was made is one of those that the narrower serves
+pub pair_within : (n : Narrower) (kernels : List Kernel) (b : Bounds) (changed : Option ℕ) → Fits n kernels (length b) → IsMadeBy changed kernels b → IfSome changed (λ pair. pair < len_of n)
+pair_within n kernels b None fits made = tt
+pair_within n kernels b (Some pair) fits made =
+    let same : length b ≡ length made.closed = ap (λ (x : Bounds). length x) made.is_put ∙ length-set made.closed pair (made.low, made.high) in
+    let len = fits.len in
+    let within = made.in_box in
+    omega arith
+
+pub from_left : {L : Type 0} (run : Run L) (s : Searcher) (count : ℕ) → AreLeft run s → count_of s ≡ count → CanRestart run.program.now.kernels count s
+from_left run s count left same = record {
+  same_count = same;
+  fits = subst (λ (n : ℕ). Fits s.narrower run.program.now.kernels n) same left.fits;
+}

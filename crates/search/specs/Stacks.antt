@@ -20,6 +20,11 @@ boxes_of s = cond s.is_open (left_boxes s.boxes.stack ++ s.boxes.current ∷ [])
 abbrev pub count_of : Searcher → ℕ
 count_of s = length s.boxes.current
 
+-- it may begin anew with a box of so many variables: its own has as many, and the narrower serves the kernels
+pub record CanRestart (kernels : List Kernel) (count : ℕ) (s : Searcher) : Type 0 where
+  pub same_count : count_of s ≡ count
+  pub fits : Fits s.narrower kernels count
+
 -- what is left is a part of a closed box, and some number is left there for each variable
 pub record IsLeft (kernels : List Kernel) (left : Left) : Type 0 where
   pub closed : IsClosed left.base kernels

@@ -1,6 +1,6 @@
 //! The run for the first solution.
 
-ghost use Rattle.std.specs.Prelude.{◌≡◌, ◌≢◌, ◌<◌, ◌≤◌, ℕ, ℤ, List, [], length, IfOk, OnErr, IfSome, Some, None};
+ghost use Rattle.std.specs.Prelude.{◌≡◌, ◌≢◌, ◌<◌, ◌≤◌, ℕ, ℤ, List, [], ◌∷◌, length, IfOk, OnErr, IfSome, Some, None};
 ghost use Rattle.std.specs.Bool.{OnTrue, OnFalse};
 ghost use Rattle.interval.specs.Boxes.{IsInside};
 ghost use Rattle.branching.specs.Tree.{SolutionsIn};
@@ -8,13 +8,17 @@ ghost use Rattle.best_bound.specs.Lists.{Among, IsLeastNumber};
 ghost use Rattle.best_bound.specs.Seats.{IsFoundSeatOf, found_parts, numbers_seen, numbers_posted};
 ghost use Rattle.search.specs.Premises.{IsRun, CanSearch};
 ghost use Rattle.search.specs.Ends.{search_of, IsFirstEnd, IsCut, posts_of};
+ghost use Rattle.moved_fixpoint.specs.Made.{IsMadeBy};
+ghost use Rattle.search.specs.Stacks.{boxes_of, count_of, IsReady, CanRestart};
+ghost use Rattle.search.specs.Keeping.{IsKeptFor};
 
 use crate::closing::{counted, is_full};
 use crate::ends::{FirstEnd, Why};
+use crate::kept::Kept;
 use crate::kind::Kind;
 use crate::laws::law_can_search;
 use crate::node::Visit;
-use crate::run::Run;
+use crate::run::{Run, Start};
 use crate::searcher::Searcher;
 use best_bound::{Found, FoundSeat, Numbers};
 use branching::{law_branches, law_every_list};
@@ -56,12 +60,17 @@ fn search_first<R: Threads + Sync, L: Gate + Sync, N: Numbers>(
     alloc: Global,
     run: &Run<'_, L>,
     sub: &BoxOf,
+    searcher: &mut Searcher,
     number: u32,
     found: &Found<N>,
     seat: &mut FoundSeat,
 ) -> Result<FirstEnd, NoMemory>
     requires run { CanSearch run.now (length sub.now) }
+    requires boxes { boxes_of searcher.old ≡ sub.now ∷ [] }
+    requires count { count_of searcher.old ≡ length sub.now }
+    requires ready { IsReady run.now searcher.old }
     requires seat { IsFoundSeatOf found.now seat.old }
+    ensures again { IfOk result (λ _. CanRestart run.now.program.now.kernels (length sub.now) searcher.new) }
     ensures seat { IsFoundSeatOf found.now seat.new }
     ensures parts { found_parts seat.new ≡ found_parts seat.old }
     ensures posted { numbers_posted seat.new ≡ numbers_posted seat.old }
@@ -75,7 +84,6 @@ fn search_first<R: Threads + Sync, L: Gate + Sync, N: Numbers>(
     law_inside_order();
     // its contract says that the bounds are in range
     let _length = sub.len();
-    let mut searcher = Searcher::new(alloc, run, sub)?;
     let mut solutions = ListOf::new(alloc);
     let mut nodes = 0u64;
     'boxes: while searcher.has_next() {
@@ -110,24 +118,39 @@ pub(crate) fn first_in<R: Threads + Sync, L: Gate + Sync, N: Numbers>(
     rt: &R,
     alloc: Global,
     run: &Run<'_, L>,
-    sub: &BoxOf,
+    start: &Start<'_>,
+    kept: &mut Kept,
     number: u32,
     found: &Found<N>,
     seat: &mut FoundSeat,
 ) -> Result<FirstEnd, NoMemory>
-    requires run { CanSearch run.now (length sub.now) }
+    requires run { CanSearch run.now (length start.now.sub.now) }
+    requires made { IsMadeBy start.now.changed run.now.program.now.kernels start.now.sub.now }
+    requires searcher { IsKeptFor run.now.program.now.kernels (length start.now.sub.now) kept.old }
     requires seat { IsFoundSeatOf found.now seat.old }
-    requires solution { (solutions : List (List ℤ)) → SolutionsIn run.now.model.now run.now.program.now.kernels sub.now solutions → solutions ≢ [] → N.has_solution number }
+    requires solution { (solutions : List (List ℤ)) → SolutionsIn run.now.model.now run.now.program.now.kernels start.now.sub.now solutions → solutions ≢ [] → N.has_solution number }
+    ensures searcher { IsKeptFor run.now.program.now.kernels (length start.now.sub.now) kept.new }
     ensures seat { IsFoundSeatOf found.now seat.new }
     ensures parts { found_parts seat.new ≡ found_parts seat.old }
     ensures seen { (n : ℕ) → Among (numbers_seen seat.old) n → Among (numbers_seen seat.new) n }
-    ensures end { IfOk result (IsFirstEnd (search_of run.now.model.now run.now.program.now run.now.node_limit run.now.round_limit Kind.First sub.now) number (numbers_seen seat.new)) }
+    ensures end { IfOk result (IsFirstEnd (search_of run.now.model.now run.now.program.now run.now.node_limit run.now.round_limit Kind.First start.now.sub.now) number (numbers_seen seat.new)) }
     ensures cut { IfOk result (λ end. (n : ℕ) → end ≡ FirstEnd.Cut n → N.has_solution n) }
     ensures at_once { (n : ℕ) → Among (numbers_seen seat.old) n → n < number → IfOk result IsCut }
     ensures posts { IfOk result (λ end. numbers_posted seat.new ≡ posts_of number (numbers_posted seat.old) end) }
     ensures err { OnErr result (numbers_posted seat.new ≡ numbers_posted seat.old) }
 {
-    let end = search_first(rt, alloc, run, sub, number, found, seat)?;
+    let mut searcher = kept.begin(alloc, run, start)?;
+    let end = search_first(
+        rt,
+        alloc,
+        run,
+        start.sub,
+        &mut searcher,
+        number,
+        found,
+        seat,
+    )?;
+    kept.keep(searcher);
     if let FirstEnd::Done(Some(_)) = &end {
         found.post(seat, number);
     }
@@ -160,5 +183,39 @@ pub fn run_first<R: Threads + Sync, L: Gate + Sync, N: Numbers>(
     ensures err { OnErr result (numbers_posted seat.new ≡ numbers_posted seat.old) }
 {
     law_can_search(run, sub);
-    first_in(rt, alloc, run, sub, number, found, seat)
+    let start = Start { sub, changed: None };
+    let mut kept = Kept::new();
+    let end = first_in(rt, alloc, run, &start, &mut kept, number, found, seat)?;
+    Ok(end)
+}
+
+/// The same, where it is known of what the box was made, and by a worker that has made other runs of as many variables.
+pub fn run_first_from<R: Threads + Sync, L: Gate + Sync, N: Numbers>(
+    rt: &R,
+    alloc: Global,
+    run: &Run<'_, L>,
+    start: &Start<'_>,
+    kept: &mut Kept,
+    number: u32,
+    found: &Found<N>,
+    seat: &mut FoundSeat,
+) -> Result<FirstEnd, NoMemory>
+    requires run { IsRun run.now }
+    requires inside { IsInside start.now.sub.now run.now.program.now.start }
+    requires made { IsMadeBy start.now.changed run.now.program.now.kernels start.now.sub.now }
+    requires searcher { IsKeptFor run.now.program.now.kernels (length start.now.sub.now) kept.old }
+    requires seat { IsFoundSeatOf found.now seat.old }
+    requires solution { (solutions : List (List ℤ)) → SolutionsIn run.now.model.now run.now.program.now.kernels start.now.sub.now solutions → solutions ≢ [] → N.has_solution number }
+    ensures searcher { IsKeptFor run.now.program.now.kernels (length start.now.sub.now) kept.new }
+    ensures seat { IsFoundSeatOf found.now seat.new }
+    ensures parts { found_parts seat.new ≡ found_parts seat.old }
+    ensures seen { (n : ℕ) → Among (numbers_seen seat.old) n → Among (numbers_seen seat.new) n }
+    ensures end { IfOk result (IsFirstEnd (search_of run.now.model.now run.now.program.now run.now.node_limit run.now.round_limit Kind.First start.now.sub.now) number (numbers_seen seat.new)) }
+    ensures cut { IfOk result (λ end. (n : ℕ) → end ≡ FirstEnd.Cut n → N.has_solution n) }
+    ensures at_once { (n : ℕ) → Among (numbers_seen seat.old) n → n < number → IfOk result IsCut }
+    ensures posts { IfOk result (λ end. numbers_posted seat.new ≡ posts_of number (numbers_posted seat.old) end) }
+    ensures err { OnErr result (numbers_posted seat.new ≡ numbers_posted seat.old) }
+{
+    law_can_search(run, start.sub);
+    first_in(rt, alloc, run, start, kept, number, found, seat)
 }

@@ -1,6 +1,6 @@
 //! The run for the least cost: branch and bound, with the best cost shared.
 
-ghost use Rattle.std.specs.Prelude.{◌≡◌, ◌≢◌, ◌≤◌, ◌++◌, ◌↔◌, ℤ, length, All, IfOk, OnOk, OnErr};
+ghost use Rattle.std.specs.Prelude.{◌≡◌, ◌≢◌, ◌≤◌, ◌++◌, ◌↔◌, ℤ, [], ◌∷◌, length, All, IfOk, OnOk, OnErr};
 ghost use Rattle.interval.specs.Limits.{IsNumber};
 ghost use Rattle.interval.specs.Boxes.{IsInside};
 ghost use Rattle.constraint_model.specs.declared.model.Goal.TheVariants.{Satisfy};
@@ -10,14 +10,20 @@ ghost use Rattle.best_bound.specs.Seats.{IsBestSeatOf, best_parts, costs_seen, c
 ghost use Rattle.search.specs.Costs.{IsObjectiveIn};
 ghost use Rattle.search.specs.Premises.{IsRun};
 ghost use Rattle.search.specs.Closings.{IsClosing};
+ghost use Rattle.moved_fixpoint.specs.Made.{IsMadeBy};
+ghost use Rattle.search.specs.Stacks.{boxes_of, count_of, IsReady, CanRestart};
+ghost use Rattle.search.specs.Keeping.{IsKeptFor};
 ghost use Rattle.search.specs.LeastEnds.{least_of, IsCost, PostsCosts, SeesCosts, IsLeastEnd, IsBrokenOff, CostsLess, CostsBelow, CostAtLeast, OnDone};
 
 use crate::closing::{Closing, counted, is_full};
 use crate::costs::cost;
 use crate::ends::{LeastEnd, Why};
-use crate::laws::{law_finds_least, law_more_posted, law_records_below, law_records_solutions};
+use crate::kept::Kept;
+use crate::laws::{
+    law_can_search, law_finds_least, law_more_posted, law_records_below, law_records_solutions,
+};
 use crate::node::Visit;
-use crate::run::Run;
+use crate::run::{Run, Start};
 use crate::searcher::Searcher;
 use best_bound::{Best, BestSeat, Costs};
 use branching::law_branches;
@@ -66,14 +72,19 @@ fn search_least<R: Threads + Sync, L: Gate + Sync, C: Costs>(
     alloc: Global,
     run: &Run<'_, L>,
     sub: &BoxOf,
+    searcher: &mut Searcher,
     best: &Best<C>,
     seat: &mut BestSeat,
 ) -> Result<Closing, NoMemory>
     requires run { IsRun run.now }
     requires objective { run.now.model.now.goal ≢ Satisfy }
     requires inside { IsInside sub.now run.now.program.now.start }
+    requires boxes { boxes_of searcher.old ≡ sub.now ∷ [] }
+    requires count { count_of searcher.old ≡ length sub.now }
+    requires ready { IsReady run.now searcher.old }
     requires seat { IsBestSeatOf best.now seat.old }
     requires costs { (cost : ℤ) → C.is_cost cost ↔ IsCost run.now.model.now cost }
+    ensures again { IfOk result (λ _. CanRestart run.now.program.now.kernels (length sub.now) searcher.new) }
     ensures seat { IsBestSeatOf best.now seat.new }
     ensures parts { best_parts seat.new ≡ best_parts seat.old }
     ensures kept { (cost : ℤ) → Among (costs_seen seat.old) cost → Among (costs_seen seat.new) cost }
@@ -91,7 +102,6 @@ fn search_least<R: Threads + Sync, L: Gate + Sync, C: Costs>(
     law_records_below();
     // its contract says that the bounds are in range
     let _length = sub.len();
-    let mut searcher = Searcher::new(alloc, run, sub)?;
     let mut found = ListOf::new(alloc);
     let mut nodes = 0u64;
     'boxes: while searcher.has_next() {
@@ -146,7 +156,42 @@ pub fn run_least<R: Threads + Sync, L: Gate + Sync, C: Costs>(
     ensures below { IfOk result (CostsBelow run.now.model.now.goal (costs_seen seat.old)) }
     ensures err { OnErr result (IsBrokenOff (least_of run.now.model.now run.now.program.now run.now.node_limit run.now.round_limit (costs_seen seat.new) sub.now) (costs_posted seat.old) (costs_posted seat.new)) }
 {
-    let closing = search_least(rt, alloc, run, sub, best, seat)?;
+    let start = Start { sub, changed: None };
+    let mut kept = Kept::new();
+    let end = run_least_from(rt, alloc, run, &start, &mut kept, best, seat)?;
+    Ok(end)
+}
+
+/// The same, where it is known of what the box was made, and by a worker that has made other runs of as many variables.
+pub fn run_least_from<R: Threads + Sync, L: Gate + Sync, C: Costs>(
+    rt: &R,
+    alloc: Global,
+    run: &Run<'_, L>,
+    start: &Start<'_>,
+    kept: &mut Kept,
+    best: &Best<C>,
+    seat: &mut BestSeat,
+) -> Result<LeastEnd, NoMemory>
+    requires run { IsRun run.now }
+    requires objective { run.now.model.now.goal ≢ Satisfy }
+    requires inside { IsInside start.now.sub.now run.now.program.now.start }
+    requires made { IsMadeBy start.now.changed run.now.program.now.kernels start.now.sub.now }
+    requires searcher { IsKeptFor run.now.program.now.kernels (length start.now.sub.now) kept.old }
+    requires seat { IsBestSeatOf best.now seat.old }
+    requires costs { (cost : ℤ) → C.is_cost cost ↔ IsCost run.now.model.now cost }
+    ensures searcher { IsKeptFor run.now.program.now.kernels (length start.now.sub.now) kept.new }
+    ensures seat { IsBestSeatOf best.now seat.new }
+    ensures parts { best_parts seat.new ≡ best_parts seat.old }
+    ensures kept { (cost : ℤ) → Among (costs_seen seat.old) cost → Among (costs_seen seat.new) cost }
+    ensures end { IfOk result (λ end. IsLeastEnd (least_of run.now.model.now run.now.program.now run.now.node_limit run.now.round_limit (costs_seen seat.new) start.now.sub.now) (costs_posted seat.old) (costs_posted seat.new) end) }
+    ensures least { IfOk result (λ end. OnDone end (CostAtLeast run.now.model.now start.now.sub.now (costs_seen seat.new))) }
+    ensures below { IfOk result (CostsBelow run.now.model.now.goal (costs_seen seat.old)) }
+    ensures err { OnErr result (IsBrokenOff (least_of run.now.model.now run.now.program.now run.now.node_limit run.now.round_limit (costs_seen seat.new) start.now.sub.now) (costs_posted seat.old) (costs_posted seat.new)) }
+{
+    law_can_search(run, start.sub);
+    let mut searcher = kept.begin(alloc, run, start)?;
+    let closing = search_least(rt, alloc, run, start.sub, &mut searcher, best, seat)?;
+    kept.keep(searcher);
     let Closing {
         found,
         nodes,

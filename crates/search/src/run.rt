@@ -2,6 +2,7 @@
 
 use constraint_model::FznModel;
 use decompose::Program;
+use interval::BoxOf;
 use moved_set::Masks;
 
 /// What a run searches, how far, and with how many lanes. Several runs may share it.
@@ -21,4 +22,13 @@ pub struct Run<'a, L> {
     pub round_limit: u64,
     /// Where the lanes may be held up.
     pub gate: &'a L,
+}
+
+/// Where a run begins.
+#[derive(Clone, Copy)]
+pub struct Start<'a> {
+    /// The box that is searched.
+    pub sub: &'a BoxOf,
+    /// The pair whose bounds were put in a closed box, which made it; none: nothing is known of it.
+    pub changed: Option<u32>,
 }

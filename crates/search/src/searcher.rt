@@ -3,10 +3,11 @@
 ghost use Rattle.std.specs.Prelude.{◌≡◌, ◌≢◌, ◌<◌, ◌-◌, ◌<ℤ◌, ◌≤ℤ◌, ◌⊎◌, ℕ, List, true, false, [], ◌∷◌, ◌++◌, length, All, IfOk, OnOk, IfSome};
 ghost use Rattle.std.specs.Bool.{OnTrue, OnFalse};
 ghost use Rattle.interval.specs.Limits.{IsNumber};
-ghost use Rattle.interval.specs.Boxes.{IsInside, put_of};
+ghost use Rattle.interval.specs.Boxes.{Bounds, IsInside, IsProper, IsCrossed, put_of};
 ghost use Rattle.guarded_tell.specs.declared.kernel.Kernel.{Kernel};
 ghost use Rattle.guarded_tell.specs.Kernels.{IsKernel};
 ghost use Rattle.fixpoint_laws.specs.Fixpoints.{IsClosed};
+ghost use Rattle.moved_fixpoint.specs.Made.{IsMadeBy};
 ghost use Rattle.trailed_box.specs.Trailed.{Left, IsPart, left_of, boxes_of as left_boxes};
 ghost use Rattle.branching.specs.Fronts.{IsFrontOf, FitsBox, left_by, right_by};
 ghost use Rattle.branching.specs.Parts.{AreParts};
@@ -17,11 +18,11 @@ ghost use Rattle.search.specs.Costs.{IsObjectiveIn};
 ghost use Rattle.search.specs.Machine.{cut_by};
 ghost use Rattle.search.specs.Premises.{CanSearch};
 ghost use Rattle.search.specs.Nodes.{IsSettled, IsTopVisit};
-ghost use Rattle.search.specs.Stacks.{boxes_of, count_of, IsReady, IsFrontNear, AreLeft};
+ghost use Rattle.search.specs.Stacks.{boxes_of, count_of, CanRestart, IsReady, IsFrontNear, AreLeft};
 
 use crate::costs::cut_below;
 use crate::node::{Visit, record};
-use crate::run::Run;
+use crate::run::{Run, Start};
 use branching::{Branching, Front, branch_from, law_fronts};
 use fixpoint_laws::law_tightens_one;
 use guarded_tell::Kernel;
@@ -95,19 +96,39 @@ fn first_part(parts: Branching) -> Part
     }
 }
 
-/// A narrower for a box of which nothing is known.
+/// A narrower for boxes of as many variables.
 #[tactic(auto, unfolding(rounds::specs::Shares::share_limit))]
 fn narrower_for<L>(alloc: Global, run: &Run<'_, L>, b: &BoxOf) -> Result<Narrower, NoMemory>
     requires { CanSearch run.now (length b.now) }
-    ensures fits { IfOk result (λ n. Fits n run.now.program.now.kernels (length b.now)) }
-    ensures quiet { IfOk result (λ n. AreQuietUnlessNoted n run.now.program.now.kernels b.now) }
-    ensures knows { IfOk result (λ n. Knows n run.now.program.now.kernels b.now) }
-    ensures let_rest { IfOk result (λ n. LetRest n run.now.program.now.kernels []) }
+    ensures { IfOk result (λ n. Fits n run.now.program.now.kernels (length b.now)) }
 {
     let kernels = run.program.kernels.as_slice();
-    let mut narrower = Narrower::new(alloc, kernels, b.len(), run.lanes)?;
-    narrower.note_all();
+    let narrower = Narrower::new(alloc, kernels, b.len(), run.lanes)?;
     Ok(narrower)
+}
+
+/// Notes of a box where a run begins what is known of it.
+fn note_start(narrower: &mut Narrower, changed: Option<u32>)
+    requires { IfSome changed (λ pair. pair < len_of narrower.old) }
+    ensures fits { (kernels : List Kernel) (count : ℕ) → Fits narrower.old kernels count → Fits narrower.new kernels count }
+    ensures quiet { (kernels : List Kernel) (b : Bounds) → length b ≡ len_of narrower.old → All (IsKernel (length b)) kernels →
+        IsMadeBy changed kernels b → AreQuietUnlessNoted narrower.new kernels b }
+    ensures knows { (kernels : List Kernel) (count : ℕ) (b : Bounds) → Fits narrower.old kernels count → Knows narrower.new kernels b }
+    ensures let_rest { (kernels : List Kernel) → LetRest narrower.new kernels [] }
+{
+    match changed {
+        Some(pair) => narrower.note_alone(pair),
+        None => narrower.note_all(),
+    }
+}
+
+/// Whether the box where a run begins is crossed. One that was made of a closed one isn't; only a box of which nothing is
+/// known is looked at.
+fn is_crossed_start(start: &Start<'_>) -> bool
+    ensures crossed { OnTrue result (IsCrossed start.now.sub.now) }
+    ensures proper { OnFalse result ((kernels : List Kernel) → IsMadeBy start.now.changed kernels start.now.sub.now → IsProper start.now.sub.now) }
+{
+    start.changed.is_none() && is_crossed(start.sub)
 }
 
 /// Keeps a front.
@@ -130,16 +151,13 @@ fn last(fronts: &mut Vec<Front>) -> Front
 }
 
 impl Searcher {
-    /// A searcher of one box.
-    pub(crate) fn new<L>(alloc: Global, run: &Run<'_, L>, sub: &BoxOf) -> Result<Searcher, NoMemory>
-        requires run { CanSearch run.now (length sub.now) }
-        ensures boxes { IfOk result (λ s. boxes_of s ≡ sub.now ∷ []) }
-        ensures count { IfOk result (λ s. count_of s ≡ length sub.now) }
-        ensures ready { IfOk result (IsReady run.now) }
+    /// A searcher for boxes of as many variables. No box is left.
+    pub(crate) fn new<L>(alloc: Global, run: &Run<'_, L>, b: &BoxOf) -> Result<Searcher, NoMemory>
+        requires { CanSearch run.now (length b.now) }
+        ensures { IfOk result (CanRestart run.now.program.now.kernels (length b.now)) }
     {
-        law_inside_order();
-        let boxes = TrailedBox::new(alloc, sub.copy(alloc)?)?;
-        let narrower = narrower_for(alloc, run, sub)?;
+        let boxes = TrailedBox::new(alloc, b.copy(alloc)?)?;
+        let narrower = narrower_for(alloc, run, b)?;
         let fronts = Vec::new(alloc);
         let front = Front::first();
         Ok(Searcher {
@@ -147,9 +165,27 @@ impl Searcher {
             fronts,
             front,
             narrower,
-            is_open: true,
-            is_crossed: is_crossed(sub),
+            is_open: false,
+            is_crossed: false,
         })
+    }
+
+    /// Begins anew with one box, whatever it searched before. That takes no memory.
+    pub(crate) fn restart<L>(&mut self, run: &Run<'_, L>, start: &Start<'_>)
+        requires run { CanSearch run.now (length start.now.sub.now) }
+        requires can { CanRestart run.now.program.now.kernels (length start.now.sub.now) self.old }
+        requires made { IsMadeBy start.now.changed run.now.program.now.kernels start.now.sub.now }
+        ensures boxes { boxes_of self.new ≡ start.now.sub.now ∷ [] }
+        ensures count { count_of self.new ≡ length start.now.sub.now }
+        ensures ready { IsReady run.now self.new }
+    {
+        law_inside_order();
+        self.boxes.restart(start.sub);
+        self.fronts.clear();
+        self.front = Front::first();
+        note_start(&mut self.narrower, start.changed);
+        self.is_open = true;
+        self.is_crossed = is_crossed_start(start);
     }
 
     /// Whether a box is left.
@@ -316,6 +352,7 @@ impl Searcher {
         requires best { IfSome best (λ cost. IsNumber cost × IsObjectiveIn (count_of self.old - 1) run.now.model.now.goal) }
         ensures ready { IfOk result (λ how. how ≡ Visit.Done → IsReady run.now self.new) }
         ensures count { IfOk result (λ how. how ≡ Visit.Done → count_of self.new ≡ count_of self.old) }
+        ensures again { IfOk result (λ _. CanRestart run.now.program.now.kernels (count_of self.old) self.new) }
         ensures visit { IfOk result (IsTopVisit run.now.model.now run.now.program.now.kernels run.now.round_limit best (boxes_of self.old) (boxes_of self.new) found.old found.new) }
     {
         law_inside_order();

@@ -9,7 +9,7 @@ use interval::{BoxOf, NoMemory};
 use std::alloc::{AllocError, Global};
 use std::process::Abort;
 use std::test::Fail;
-use subproblem_walk::{Tree, Walk};
+use subproblem_walk::{Found, Tree, Walk};
 use subproblems::{expand, path_box};
 
 const FOUR: &str = "var 0..3: x; solve satisfy;";
@@ -26,6 +26,14 @@ fn bounds(b: &BoxOf) -> Option<(i64, i64)> {
 fn bounds_in(found: &Option<BoxOf>) -> Option<(i64, i64)> {
     match found {
         Some(b) => bounds(b),
+        None => None,
+    }
+}
+
+/// The same where a walk has found one.
+fn bounds_found(found: &Option<Found>) -> Option<(i64, i64)> {
+    match found {
+        Some(found) => bounds(&found.sub),
         None => None,
     }
 }
@@ -95,7 +103,7 @@ fn asked(
     };
     let walked = walk.path_box(alloc, &tree, number)?;
     let alone = path_box(alloc, model, program, &program.start, depth, number)?;
-    Ok([bounds_in(&walked), bounds_in(&alone)])
+    Ok([bounds_found(&walked), bounds_in(&alone)])
 }
 
 /// How many numbers there are to a depth.

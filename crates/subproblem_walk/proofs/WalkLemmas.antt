@@ -1,16 +1,20 @@
 -- What a walk knows.
-use Rattle.std.proofs.Common.{◌≡◌, ℕ, suc, ◌^◌, Option, Bool, true, false, List, [], ◌∷◌, ◌++◌, sym, ap, subst, ◌∙◌, ◌⊎◌, inl, inr}
+use Rattle.std.proofs.Common.{◌≡◌, ℕ, suc, ◌^◌, ◌<◌, Option, Some, Bool, true, false, List, [], ◌∷◌, ◌++◌, length, refl, sym, ap, subst, ◌∙◌, ◌⊎◌, inl, inr}
 use Rattle.std.proofs.lemmas.List.{same_from_push}
-use Rattle.interval.specs.Boxes.{Bounds}
+use Rattle.interval.specs.Boxes.{Bounds, IsProper}
 use Rattle.guarded_tell.specs.declared.kernel.Kernel.{Kernel}
 use Rattle.constraint_model.specs.declared.model.FznModel.{FznModel}
+use Rattle.branching.specs.declared.branch.Branching.{Branching}
+use Rattle.branching.specs.Fronts.{left_by, right_by}
+use Rattle.trailed_box.specs.declared.trail.Part.{Part}
+use Rattle.moved_fixpoint.specs.Made.{IsMadeAt}
 use Rattle.subproblems.specs.declared.cutting.Cut.{Cut}
 use Rattle.subproblems.specs.declared.cutting.Cut.TheVariants.{Failed, Fixed, Parted}
 use Rattle.subproblem_walk.specs.declared.walk.Level.{Level}
 use Rattle.subproblems.specs.Cuts.{IsCutInto}
 use Rattle.subproblems.specs.Paths.{IsBelow, LeadsTo}
 use Rattle.subproblem_walk.specs.declared.cutter.Node.{Node}
-use Rattle.subproblem_walk.specs.Nodes.{cut_of, IsNodeOf}
+use Rattle.subproblem_walk.specs.Nodes.{put_in, cut_of, IsPartedBy, IsNodeOf}
 use Rattle.subproblem_walk.specs.Walks.{GoesOn, IsTurn, IsWayTo, side_of, AreLevelsBelow, nothing, level, IsTop}
 
 -- what a number leads to, by what the box is cut into
@@ -46,10 +50,12 @@ module _ (model : FznModel) (kernels : List Kernel) where
   node_is b top lower node h e = subst (IsNodeOf model kernels b) e h.is_node
 
   -- the levels below a side, where the way takes this turn
-  pub turned : (b left right : Bounds) (pair : ℕ) (top : Level) (lower after : List Level) (turn : Bool) → IsTop model kernels b top lower → top.node ≡ Node.Parted pair left right →
-      (after ≡ []) ⊎ ((top.goes_right ≡ turn) × (after ≡ lower)) → AreLevelsBelow model kernels (side_of turn left right) after
-  turned b left right pair top lower after turn h e (inl none) = nothing model kernels (side_of turn left right) after none
-  turned b left right pair top lower after turn h e (inr kept) =
+  pub turned : (b closed : Bounds) (branching : Branching) (top : Level) (lower after : List Level) (turn : Bool) → IsTop model kernels b top lower → top.node ≡ Node.Parted closed branching →
+      (after ≡ []) ⊎ ((top.goes_right ≡ turn) × (after ≡ lower)) → AreLevelsBelow model kernels (side_of turn (left_by closed branching) (right_by closed branching)) after
+  turned b closed branching top lower after turn h e (inl none) = nothing model kernels (side_of turn (left_by closed branching) (right_by closed branching)) after none
+  turned b closed branching top lower after turn h e (inr kept) =
+      let left : Bounds = left_by closed branching in
+      let right : Bounds = right_by closed branching in
       subst (λ (t : Bool). AreLevelsBelow model kernels (side_of t left right) after) kept.0
       (subst (λ (ls : List Level). AreLevelsBelow model kernels (side_of top.goes_right left right) ls) (sym kept.1) (h.below left right (ap cut_of e)))
 
@@ -64,9 +70,11 @@ module _ (model : FznModel) (kernels : List Kernel) where
     pub fixed_level : (closed : Bounds) → node ≡ Node.Fixed closed → AreLevelsBelow model kernels b after
     fixed_level closed f = level model kernels b after lower top is there (λ left right parted. let g : Fixed closed ≡ Parted left right = sym (ap cut_of (e ∙ f)) ∙ parted in absurd cc)
 
-    pub parted_level : (pair : ℕ) (left right : Bounds) → node ≡ Node.Parted pair left right → AreLevelsBelow model kernels (side_of top.goes_right left right) lower →
-        AreLevelsBelow model kernels b after
-    parted_level pair left right f below =
+    pub parted_level : (closed : Bounds) (branching : Branching) → node ≡ Node.Parted closed branching →
+        AreLevelsBelow model kernels (side_of top.goes_right (left_by closed branching) (right_by closed branching)) lower → AreLevelsBelow model kernels b after
+    parted_level closed branching f below =
+        let left : Bounds = left_by closed branching in
+        let right : Bounds = right_by closed branching in
         level model kernels b after lower top is there (λ l r parted.
         let g : Parted left right ≡ Parted l r = sym (ap cut_of (e ∙ f)) ∙ parted in
         let lefts : left ≡ l = cc in
@@ -97,3 +105,16 @@ goes_on_turn half number turn rest left right Way lower h k = (
   λ high. let t = h.upper high in
       (t.0, subst (λ (n : ℕ). Way right n lower) t.1 (subst (λ (x : Bool). Way (side_of x left right) rest lower) t.0 k)),
 )
+
+-- the part on the side of a turn is made of the closed box by its pair
+pub made_part : (kernels : List Kernel) (closed : Bounds) (branching : Branching) (turn : Bool) (part : Part) → IsPartedBy kernels closed branching → part.var ≡ branching.pair →
+    put_in closed (Some part) ≡ side_of turn (left_by closed branching) (right_by closed branching) → IsMadeAt kernels part.var (put_in closed (Some part))
+made_part kernels closed branching turn part h e is = record {
+  closed = closed;
+  is_closed = h.is_closed;
+  in_box = subst (λ (n : ℕ). n < length closed) (sym e) h.fits.pair;
+  low = part.low;
+  high = part.high;
+  is_put = refl;
+  proper = subst IsProper (sym is) (on_side IsProper turn (left_by closed branching) (right_by closed branching) h.left_proper h.right_proper);
+}

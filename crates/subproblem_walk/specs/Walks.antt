@@ -1,5 +1,5 @@
 -- What a walk knows of the way to the number that it was asked for last.
-use Rattle.std.specs.Prelude.{◌≡◌, ℕ, zero, suc, ◌-◌, ◌^◌, ◌<◌, ◌≤◌, Bool, true, false, List, [], ◌∷◌, ◌++◌}
+use Rattle.std.specs.Prelude.{◌≡◌, ℕ, zero, suc, ◌-◌, ◌^◌, ◌<◌, ◌≤◌, Bool, true, false, List, [], ◌∷◌, ◌++◌, length, Option, None, Some, IfSome}
 use Rattle.interval.specs.Boxes.{Bounds}
 use Rattle.guarded_tell.specs.declared.kernel.Kernel.{Kernel}
 use Rattle.constraint_model.specs.declared.model.FznModel.{FznModel}
@@ -7,8 +7,10 @@ use Rattle.subproblems.specs.declared.cutting.Cut.{Cut}
 use Rattle.subproblems.specs.declared.cutting.Cut.TheVariants.{Failed, Fixed, Parted}
 use Rattle.subproblem_walk.specs.declared.walk.Level.{Level}
 use Rattle.subproblem_walk.specs.declared.walk.Walk.{Walk}
+use Rattle.subproblem_walk.specs.declared.walk.Found.{Found}
+use Rattle.moved_fixpoint.specs.Made.{IsMadeBy}
 use Rattle.subproblems.specs.Cuts.{IsCutInto}
-use Rattle.subproblem_walk.specs.Nodes.{cut_of, IsNodeOf}
+use Rattle.subproblem_walk.specs.Nodes.{cut_of, IsNodeOf, MayServe}
 
 -- the part on the side of a turn
 abbrev pub side_of : Bool → Bounds → Bounds → Bounds
@@ -36,8 +38,18 @@ pub record IsTop (model : FznModel) (kernels : List Kernel) (b : Bounds) (top : 
   pub below : (left right : Bounds) → cut_of top.node ≡ Parted left right → AreLevelsBelow model kernels (side_of top.goes_right left right) lower
 
 -- the walk goes down from this box
-abbrev pub IsWalkFrom : FznModel → List Kernel → Bounds → Walk → Type 0
-IsWalkFrom model kernels start walk = AreLevelsBelow model kernels start walk.levels.items
+pub record IsWalkFrom (model : FznModel) (kernels : List Kernel) (start : Bounds) (walk : Walk) : Type 0 where
+  pub levels : AreLevelsBelow model kernels start walk.levels.items
+  pub bench : MayServe walk.bench kernels (length start)
+
+-- the box that was found, if one was
+abbrev pub box_of : Option Found → Option Bounds
+box_of None = None
+box_of (Some found) = Some found.sub
+
+-- it is rightly told by which pair that box differs from a closed one
+abbrev pub IsMadeFrom : List Kernel → Option Found → Type 0
+IsMadeFrom kernels found = IfSome found (λ f. IsMadeBy f.changed kernels f.sub)
 
 -- how a way goes on below what the box is cut into, where `Way` says it of a part and half is how many numbers a part has:
 -- where the box is parted, the lower half of the numbers turns to the left part and the upper half to the right one

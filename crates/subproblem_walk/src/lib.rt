@@ -1,8 +1,8 @@
 //! Numbered subproblems, asked for one after another.
 //!
-//! `Walk::path_box`: each number leads to the same box, or none, as it does alone, whatever was asked before; after want of
-//! memory the walk may be asked again. It keeps the way to the last number, which only saves time. It stands on `subproblems`
-//! and `moved_fixpoint`.
+//! `Walk::path_box`: each number leads to the same box, or none, as it does alone, whatever was asked before, and by which
+//! pair that box differs from a closed one; after want of memory the walk may be asked again. It keeps the way to the last
+//! number and what propagation works with, which only saves time. It stands on `subproblems` and `moved_fixpoint`.
 #![tactic(auto)]
 
 mod cutter;
@@ -10,4 +10,4 @@ mod tree;
 mod walk;
 
 pub use tree::Tree;
-pub use walk::Walk;
+pub use walk::{Found, Walk};

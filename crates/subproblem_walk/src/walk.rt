@@ -6,17 +6,22 @@ ghost use Rattle.guarded_tell.specs.declared.kernel.Kernel.{Kernel};
 ghost use Rattle.constraint_model.specs.declared.model.FznModel.{FznModel};
 ghost use Rattle.constraint_model.specs.Searches.{IsSearchOf};
 ghost use Rattle.decompose.specs.Program.{IsProgramOf};
+ghost use Rattle.branching.specs.Fronts.{FitsBox, left_by, right_by};
+ghost use Rattle.trailed_box.specs.Trailed.{IsPart};
+ghost use Rattle.moved_fixpoint.specs.Made.{IsMadeBy};
 ghost use Rattle.moved_fixpoint.specs.Moved.{AreMasksOf};
 ghost use Rattle.subproblems.specs.Cuts.{CanBeCut};
 ghost use Rattle.subproblems.specs.Paths.{LeadsTo};
-ghost use Rattle.subproblem_walk.specs.Nodes.{IsMadeBy, IsBenchFor};
-ghost use Rattle.subproblem_walk.specs.Walks.{side_of, IsTurn, AreLevelsBelow, IsTop, IsWalkFrom, IsWayTo};
+ghost use Rattle.subproblem_walk.specs.Nodes.{put_in, box_at, changed_at, HasPartIn, IsNodeOf, IsBenchFor, MayServe};
+ghost use Rattle.subproblem_walk.specs.Walks.{side_of, IsTurn, AreLevelsBelow, IsTop, IsWalkFrom, IsWayTo, box_of, IsMadeFrom};
 
-use crate::cutter::{Bench, Node, cut_changed};
+use crate::cutter::{Bench, Node, Spot, changed_by, cut, made};
 use crate::tree::Tree;
+use branching::Branching;
 use interval::{BoxOf, NoMemory};
 use std::alloc::{AllocError, Global};
 use subproblems::{law_cuts, law_paths};
+use trailed_box::Part;
 
 /// What a box on the way is cut into, and whether the way goes on to the right.
 #[derive(Drop)]
@@ -30,15 +35,17 @@ pub struct Level {
 pub struct Walk {
     // the start's level is the last one
     levels: Vec<Level>,
+    // made when the first box is cut
+    bench: Option<Bench>,
 }
 
-/// A box on the way.
-#[derive(Clone, Copy)]
-struct Spot<'a> {
+/// A box that a number leads to.
+#[derive(Drop)]
+pub struct Found {
     /// The box.
-    box_of: &'a BoxOf,
+    pub sub: BoxOf,
     /// The pair whose bounds were put in a closed box, which made it; none: nothing is known of it.
-    changed: Option<u32>,
+    pub changed: Option<u32>,
 }
 
 /// A number of a subproblem, to a depth.
@@ -50,27 +57,68 @@ struct Address {
     number: u32,
 }
 
+/// The bench, or a new one.
+fn take_bench(
+    alloc: Global,
+    tree: &Tree<'_>,
+    bench: &mut Option<Bench>,
+    b: &BoxOf,
+) -> Result<Bench, NoMemory>
+    requires { MayServe bench.old tree.now.program.now.kernels (length b.now) }
+    ensures taken { bench.new ≡ None }
+    ensures bench { IfOk result (λ bench. IsBenchFor bench tree.now.program.now.kernels (length b.now)) }
+{
+    match bench.take() {
+        Some(kept) => Ok(kept),
+        None => {
+            let made = Bench::new(alloc, b, tree.program.kernels.as_slice())?;
+            Ok(made)
+        }
+    }
+}
+
+/// Cuts a box at a bench, which is made where there is none and lost where memory is refused.
+fn cut_at(
+    alloc: Global,
+    tree: &Tree<'_>,
+    spot: &Spot<'_>,
+    bench: &mut Option<Bench>,
+) -> Result<Node, NoMemory>
+    requires cut { CanBeCut tree.now.model.now tree.now.program.now.kernels (box_at spot.now) }
+    requires part { HasPartIn spot.now }
+    requires masks { AreMasksOf tree.now.program.now.kernels (length (box_at spot.now)) tree.now.masks.now }
+    requires changed { IsMadeBy (changed_at spot.now) tree.now.program.now.kernels (box_at spot.now) }
+    requires bench { MayServe bench.old tree.now.program.now.kernels (length (box_at spot.now)) }
+    ensures node { IfOk result (IsNodeOf tree.now.model.now tree.now.program.now.kernels (box_at spot.now)) }
+    ensures bench { MayServe bench.new tree.now.program.now.kernels (length (box_at spot.now)) }
+{
+    let mut own = take_bench(alloc, tree, bench, spot.whole)?;
+    let node = cut(alloc, tree, spot, &mut own)?;
+    *bench = Some(own);
+    Ok(node)
+}
+
 /// The level of a box, as it is known or as the box is cut now. The levels below it are left.
 fn top_level(
     alloc: Global,
     tree: &Tree<'_>,
     spot: &Spot<'_>,
-    bench: &mut Bench,
+    bench: &mut Option<Bench>,
     levels: &mut Vec<Level>,
 ) -> Result<Level, NoMemory>
-    requires cut { CanBeCut tree.now.model.now tree.now.program.now.kernels spot.now.box_of.now }
-    requires masks { AreMasksOf tree.now.program.now.kernels (length spot.now.box_of.now) tree.now.masks.now }
-    requires changed { IsMadeBy spot.now.changed tree.now.program.now.kernels spot.now.box_of.now }
-    requires bench { IsBenchFor bench.old tree.now.program.now.kernels (length spot.now.box_of.now) }
-    requires levels { AreLevelsBelow tree.now.model.now tree.now.program.now.kernels spot.now.box_of.now levels.old.items }
-    ensures top { IfOk result (λ top. IsTop tree.now.model.now tree.now.program.now.kernels spot.now.box_of.now top levels.new.items) }
-    ensures bench { IsBenchFor bench.new tree.now.program.now.kernels (length spot.now.box_of.now) }
+    requires cut { CanBeCut tree.now.model.now tree.now.program.now.kernels (box_at spot.now) }
+    requires part { HasPartIn spot.now }
+    requires masks { AreMasksOf tree.now.program.now.kernels (length (box_at spot.now)) tree.now.masks.now }
+    requires changed { IsMadeBy (changed_at spot.now) tree.now.program.now.kernels (box_at spot.now) }
+    requires bench { MayServe bench.old tree.now.program.now.kernels (length (box_at spot.now)) }
+    requires levels { AreLevelsBelow tree.now.model.now tree.now.program.now.kernels (box_at spot.now) levels.old.items }
+    ensures top { IfOk result (λ top. IsTop tree.now.model.now tree.now.program.now.kernels (box_at spot.now) top levels.new.items) }
+    ensures bench { MayServe bench.new tree.now.program.now.kernels (length (box_at spot.now)) }
 {
     match levels.pop() {
         Some(level) => Ok(level),
         None => {
-            let whole = spot.box_of.copy(alloc)?;
-            let node = cut_changed(alloc, tree, whole, spot.changed, bench)?;
+            let node = cut_at(alloc, tree, spot, bench)?;
             Ok(Level {
                 node,
                 goes_right: false,
@@ -97,15 +145,27 @@ fn put(levels: &mut Vec<Level>, node: Node, goes_right: bool) -> Result<(), Allo
 }
 
 /// A closed box that is a solution, which number 0 alone leads to.
-fn solution(alloc: Global, closed: &BoxOf, number: u32) -> Result<Option<BoxOf>, NoMemory>
-    ensures first { number ≡ 0 → IfOk result (λ found. found ≡ Some closed.now) }
-    ensures others { number ≢ 0 → IfOk result (λ found. found ≡ None) }
+fn solution(alloc: Global, closed: &BoxOf, number: u32) -> Result<Option<Found>, NoMemory>
+    ensures first { number ≡ 0 → IfOk result (λ found. box_of found ≡ Some closed.now) }
+    ensures others { number ≢ 0 → IfOk result (λ found. box_of found ≡ None) }
+    ensures made { (kernels : List Kernel) → IfOk result (IsMadeFrom kernels) }
 {
     if number != 0 {
         return Ok(None);
     }
-    let found = closed.copy(alloc)?;
-    Ok(Some(found))
+    let sub = closed.copy(alloc)?;
+    Ok(Some(Found { sub, changed: None }))
+}
+
+/// The box of a spot.
+fn found_at(alloc: Global, spot: &Spot<'_>) -> Result<Option<Found>, NoMemory>
+    requires { HasPartIn spot.now }
+    ensures found { IfOk result (λ found. box_of found ≡ Some (box_at spot.now)) }
+    ensures made { (kernels : List Kernel) → IsMadeBy (changed_at spot.now) kernels (box_at spot.now) → IfOk result (IsMadeFrom kernels) }
+{
+    let sub = made(alloc, spot)?;
+    let changed = changed_by(spot);
+    Ok(Some(Found { sub, changed }))
 }
 
 /// How many numbers there are to a depth.
@@ -138,11 +198,26 @@ fn first_turn(address: Address) -> (bool, Address)
     (true, Address { depth, number })
 }
 
-/// The part on the side of a turn.
-fn part_on<'a>(goes_right: bool, left: &'a BoxOf, right: &'a BoxOf) -> &'a BoxOf
-    ensures { result.now ≡ side_of goes_right left.now right.now }
+/// The bounds that are put in the part on the side of a turn.
+fn part_on(goes_right: bool, branching: &Branching) -> Part
+    ensures part { (closed : Bounds) → put_in closed (Some result) ≡ side_of goes_right (left_by closed branching.now) (right_by closed branching.now) }
+    ensures pair { result.var ≡ branching.now.pair }
+    ensures fits { (closed : Bounds) → FitsBox closed branching.now → IsPart (length closed) result.var result.low result.high }
 {
-    if goes_right { right } else { left }
+    let var = branching.pair;
+    if goes_right {
+        Part {
+            var,
+            low: branching.right_low,
+            high: branching.right_high,
+        }
+    } else {
+        Part {
+            var,
+            low: branching.left_low,
+            high: branching.left_high,
+        }
+    }
 }
 
 /// What the address leads to from a box.
@@ -151,23 +226,26 @@ fn lead(
     tree: &Tree<'_>,
     spot: &Spot<'_>,
     address: Address,
-    bench: &mut Bench,
+    bench: &mut Option<Bench>,
     levels: &mut Vec<Level>,
-) -> Result<Option<BoxOf>, NoMemory>
-    requires cut { CanBeCut tree.now.model.now tree.now.program.now.kernels spot.now.box_of.now }
-    requires masks { AreMasksOf tree.now.program.now.kernels (length spot.now.box_of.now) tree.now.masks.now }
-    requires changed { IsMadeBy spot.now.changed tree.now.program.now.kernels spot.now.box_of.now }
+) -> Result<Option<Found>, NoMemory>
+    requires cut { CanBeCut tree.now.model.now tree.now.program.now.kernels (box_at spot.now) }
+    requires part { HasPartIn spot.now }
+    requires masks { AreMasksOf tree.now.program.now.kernels (length (box_at spot.now)) tree.now.masks.now }
+    requires changed { IsMadeBy (changed_at spot.now) tree.now.program.now.kernels (box_at spot.now) }
     requires depth { address.depth ≤ 16 }
-    requires bench { IsBenchFor bench.old tree.now.program.now.kernels (length spot.now.box_of.now) }
-    requires levels { AreLevelsBelow tree.now.model.now tree.now.program.now.kernels spot.now.box_of.now levels.old.items }
-    ensures path { IfOk result (LeadsTo tree.now.model.now tree.now.program.now.kernels address.depth spot.now.box_of.now address.number) }
-    ensures levels { OnOk result (AreLevelsBelow tree.now.model.now tree.now.program.now.kernels spot.now.box_of.now levels.new.items) }
-    ensures kept { OnOk result (IsWayTo tree.now.model.now tree.now.program.now.kernels address.depth spot.now.box_of.now address.number levels.new.items) }
+    requires bench { MayServe bench.old tree.now.program.now.kernels (length (box_at spot.now)) }
+    requires levels { AreLevelsBelow tree.now.model.now tree.now.program.now.kernels (box_at spot.now) levels.old.items }
+    ensures path { IfOk result (λ found. LeadsTo tree.now.model.now tree.now.program.now.kernels address.depth (box_at spot.now) address.number (box_of found)) }
+    ensures made { IfOk result (IsMadeFrom tree.now.program.now.kernels) }
+    ensures bench { MayServe bench.new tree.now.program.now.kernels (length (box_at spot.now)) }
+    ensures levels { OnOk result (AreLevelsBelow tree.now.model.now tree.now.program.now.kernels (box_at spot.now) levels.new.items) }
+    ensures kept { OnOk result (IsWayTo tree.now.model.now tree.now.program.now.kernels address.depth (box_at spot.now) address.number levels.new.items) }
 {
     law_cuts();
     if address.depth == 0 {
-        let whole = spot.box_of.copy(alloc)?;
-        return Ok(Some(whole));
+        let found = found_at(alloc, spot)?;
+        return Ok(found);
     }
     let Level { node, goes_right } = top_level(alloc, tree, spot, bench, levels)?;
     match node {
@@ -180,15 +258,15 @@ fn lead(
             put(levels, Node::Fixed(closed), goes_right)?;
             Ok(found)
         }
-        Node::Parted { pair, left, right } => {
+        Node::Parted { closed, branching } => {
             let (turn, rest) = first_turn(address);
             take_turn(levels, goes_right, turn);
             let part = Spot {
-                box_of: part_on(turn, &left, &right),
-                changed: Some(pair),
+                whole: &closed,
+                part: Some(part_on(turn, &branching)),
             };
             let found = lead(alloc, tree, &part, rest, bench, levels)?;
-            put(levels, Node::Parted { pair, left, right }, turn)?;
+            put(levels, Node::Parted { closed, branching }, turn)?;
             Ok(found)
         }
     }
@@ -201,17 +279,19 @@ impl Walk {
     {
         Walk {
             levels: Vec::new(alloc),
+            bench: None,
         }
     }
 
-    /// The box that the number leads to from the walk's start, if there is one. What each box on the way to it is cut into
-    /// stays known, so that the next number's boxes are cut only from where the two ways part.
+    /// The box that the number leads to from the walk's start, if there is one, and by which pair it differs from a closed
+    /// one. What each box on the way to it is cut into stays known, so that the next number's boxes are cut only from where
+    /// the two ways part.
     pub fn path_box(
         &mut self,
         alloc: Global,
         tree: &Tree<'_>,
         number: u32,
-    ) -> Result<Option<BoxOf>, NoMemory>
+    ) -> Result<Option<Found>, NoMemory>
         requires program { IsProgramOf tree.now.model.now tree.now.program.now }
         requires masks { AreMasksOf tree.now.program.now.kernels (length tree.now.program.now.start) tree.now.masks.now }
         requires phases { IsSearchOf tree.now.model.now }
@@ -219,24 +299,31 @@ impl Walk {
         requires depth { tree.now.depth ≤ 16 }
         requires number { number < 2 ^ tree.now.depth }
         requires walk { IsWalkFrom tree.now.model.now tree.now.program.now.kernels tree.now.start.now self.old }
-        ensures path { IfOk result (LeadsTo tree.now.model.now tree.now.program.now.kernels tree.now.depth tree.now.start.now number) }
-        ensures inside { IfOk result (λ found. IfSome found (λ b. IsInside b tree.now.start.now)) }
+        ensures path { IfOk result (λ found. LeadsTo tree.now.model.now tree.now.program.now.kernels tree.now.depth tree.now.start.now number (box_of found)) }
+        ensures inside { IfOk result (λ found. IfSome (box_of found) (λ b. IsInside b tree.now.start.now)) }
+        ensures made { IfOk result (IsMadeFrom tree.now.program.now.kernels) }
         ensures walk { IsWalkFrom tree.now.model.now tree.now.program.now.kernels tree.now.start.now self.new }
         ensures kept { OnOk result (IsWayTo tree.now.model.now tree.now.program.now.kernels tree.now.depth tree.now.start.now number self.new.levels.items) }
     {
         law_paths();
         // its contract says that the bounds are in range
         let _length = tree.start.len();
-        let mut bench = Bench::new(alloc, tree.start, tree.program.kernels.as_slice())?;
         let spot = Spot {
-            box_of: tree.start,
-            changed: None,
+            whole: tree.start,
+            part: None,
         };
         let address = Address {
             depth: tree.depth,
             number,
         };
-        match lead(alloc, tree, &spot, address, &mut bench, &mut self.levels) {
+        match lead(
+            alloc,
+            tree,
+            &spot,
+            address,
+            &mut self.bench,
+            &mut self.levels,
+        ) {
             Ok(found) => Ok(found),
             Err(NoMemory) => {
                 self.levels.clear();

@@ -12,71 +12,20 @@ use shared_list::SharedList;
 use std::alloc::{AllocError, Global};
 use std::test::Fail;
 
-/// Every name with its spelling, and words that are none.
-const NAMES: &[(Option<ConstraintName>, &str)] = &[
-    (Some(ConstraintName::IntEq), "int_eq"),
-    (Some(ConstraintName::IntNe), "int_ne"),
-    (Some(ConstraintName::IntLe), "int_le"),
-    (Some(ConstraintName::IntLt), "int_lt"),
-    (Some(ConstraintName::IntLinEq), "int_lin_eq"),
-    (Some(ConstraintName::IntLinNe), "int_lin_ne"),
-    (Some(ConstraintName::IntLinLe), "int_lin_le"),
-    (Some(ConstraintName::IntEqReif), "int_eq_reif"),
-    (Some(ConstraintName::IntNeReif), "int_ne_reif"),
-    (Some(ConstraintName::IntLeReif), "int_le_reif"),
-    (Some(ConstraintName::IntLtReif), "int_lt_reif"),
-    (Some(ConstraintName::IntLinEqReif), "int_lin_eq_reif"),
-    (Some(ConstraintName::IntLinNeReif), "int_lin_ne_reif"),
-    (Some(ConstraintName::IntLinLeReif), "int_lin_le_reif"),
-    (Some(ConstraintName::IntPlus), "int_plus"),
-    (Some(ConstraintName::IntTimes), "int_times"),
-    (Some(ConstraintName::IntDiv), "int_div"),
-    (Some(ConstraintName::IntMod), "int_mod"),
-    (Some(ConstraintName::IntAbs), "int_abs"),
-    (Some(ConstraintName::IntMax), "int_max"),
-    (Some(ConstraintName::IntMin), "int_min"),
-    (Some(ConstraintName::ArrayIntMaximum), "array_int_maximum"),
-    (Some(ConstraintName::ArrayIntMinimum), "array_int_minimum"),
-    (Some(ConstraintName::ArrayIntElement), "array_int_element"),
-    (
-        Some(ConstraintName::ArrayVarIntElement),
-        "array_var_int_element",
-    ),
-    (Some(ConstraintName::ArrayBoolElement), "array_bool_element"),
-    (
-        Some(ConstraintName::ArrayVarBoolElement),
-        "array_var_bool_element",
-    ),
-    (Some(ConstraintName::SetIn), "set_in"),
-    (Some(ConstraintName::SetInReif), "set_in_reif"),
-    (Some(ConstraintName::BoolToInt), "bool2int"),
-    (Some(ConstraintName::BoolEq), "bool_eq"),
-    (Some(ConstraintName::BoolLe), "bool_le"),
-    (Some(ConstraintName::BoolLt), "bool_lt"),
-    (Some(ConstraintName::BoolEqReif), "bool_eq_reif"),
-    (Some(ConstraintName::BoolLeReif), "bool_le_reif"),
-    (Some(ConstraintName::BoolLtReif), "bool_lt_reif"),
-    (Some(ConstraintName::BoolNot), "bool_not"),
-    (Some(ConstraintName::BoolXor), "bool_xor"),
-    (Some(ConstraintName::BoolAnd), "bool_and"),
-    (Some(ConstraintName::BoolOr), "bool_or"),
-    (Some(ConstraintName::ArrayBoolAnd), "array_bool_and"),
-    (Some(ConstraintName::ArrayBoolOr), "array_bool_or"),
-    (Some(ConstraintName::BoolClause), "bool_clause"),
-    (Some(ConstraintName::BoolClauseReif), "bool_clause_reif"),
-    (Some(ConstraintName::BoolLinLe), "bool_lin_le"),
-    (Some(ConstraintName::BoolLinEq), "bool_lin_eq"),
-    (Some(ConstraintName::PccpAllDifferent), "pccp_all_different"),
-    (Some(ConstraintName::PccpCumulative), "pccp_cumulative"),
-    (None, "int_negate"),
-    (None, "int_e"),
-    (None, ""),
+/// Words with the names that they are, if any.
+const WORDS: &[(&str, Option<ConstraintName>)] = &[
+    ("int_eq", Some(ConstraintName::IntEq)),
+    ("bool2int", Some(ConstraintName::BoolToInt)),
+    ("pccp_cumulative", Some(ConstraintName::PccpCumulative)),
+    ("int_e", None),
+    ("int_eqs", None),
+    ("", None),
 ];
 
 #[test]
-fn each_name_is_found_by_its_spelling(rt: HostRuntime) -> Result<(), Fail> {
-    for (name, spelling) in NAMES {
-        assert_eq!(rt; ConstraintName::named(spelling.as_bytes()), *name);
+fn a_name_is_found_by_its_whole_spelling(rt: HostRuntime) -> Result<(), Fail> {
+    for (word, name) in WORDS {
+        assert_eq!(rt; ConstraintName::named(word.as_bytes()), *name);
     }
     Ok(())
 }

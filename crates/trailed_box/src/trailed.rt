@@ -50,6 +50,17 @@ impl TrailedBox {
         })
     }
 
+    /// Goes over to the box `start`, which has as many variables, with nothing left for later. It takes no memory.
+    pub fn restart(&mut self, start: &BoxOf)
+        requires { length start.now ≡ length self.old.current }
+        ensures current { self.new.current ≡ start.now }
+        ensures stack { self.new.stack ≡ [] }
+    {
+        self.current.copy_from(start);
+        self.trail.clear();
+        self.marks.clear();
+    }
+
     /// The box.
     pub fn current(&self) -> &BoxOf
         ensures { result.now ≡ self.now.current }

@@ -1,8 +1,12 @@
-use Rattle.std.proofs.Common.{Option, IfSome, subst, ◌∙◌}
-use Rattle.interval.specs.Boxes.{Bounds, IsInside}
+use Rattle.std.proofs.Common.{Option, subst, ◌∙◌}
 use Rattle.best_bound.specs.Seats.{costs_seen, costs_posted}
+use Rattle.std.specs.Prelude.{IfSome}
+use Rattle.interval.specs.Boxes.{IsInside}
+use Rattle.subproblem_walk.specs.declared.walk.Found.{Found}
+use Rattle.subproblem_walk.specs.Walks.{box_of, IsMadeFrom}
 use Rattle.subproblems.specs.Paths.{LeadsTo}
 use Rattle.answer.specs.Plans.{model_of, kernels_in}
+use Rattle.answer.proofs.JobLaws.{kept_inside, kept_around}
 use Rattle.answer.proofs.LeastJobLaws.{least_run_none, least_run_some}
 use Rattle.answer.proofs.least_job.run_number.Goals as goal
 
@@ -12,20 +16,32 @@ returns-in-None g c =
     record {
       seat = c.requires.fits;
       parts = λ n h. h;
-      kept = c.subproblem.ensures.walk;
+      kept = record { walk = c.subproblem.ensures.walk; kept = c.requires.owns.kept };
       run = λ runs h. least_run_none c.law_more_posted.ensures c.law_costs_fall.ensures plan c.requires.fits.plan c.requires.fits.objective (costs_seen c.args.seat.now) (costs_posted c.args.seat.now) c.args.number runs
-          (subst (LeadsTo (model_of plan) (kernels_in plan) plan.options.depth plan.start.now c.args.number) c.in-None.is c.in_ok-subproblem.ensures.path) h;
+          (subst (λ (f : Option Found). LeadsTo (model_of plan) (kernels_in plan) plan.options.depth plan.start.now c.args.number (box_of f)) c.in-None.is c.in_ok-subproblem.ensures.path) h;
     }
+
+pub run_least_from-requires-clause-inside : goal.run_least_from-requires-clause-inside
+run_least_from-requires-clause-inside g c = λ ks o. subst (λ (f : Option Found). IfSome (box_of f) (λ b. IsInside b c.args.job.now.plan.now.run.now.program.now.start)) c.in-Some.is c.in_ok-subproblem.ensures.inside
+
+pub run_least_from-requires-clause-made : goal.run_least_from-requires-clause-made
+run_least_from-requires-clause-made g c = λ ks b. subst (IsMadeFrom (kernels_in c.args.job.now.plan.now)) c.in-Some.is c.in_ok-subproblem.ensures.made
+
+pub run_least_from-requires-clause-searcher : goal.run_least_from-requires-clause-searcher
+run_least_from-requires-clause-searcher g c = λ ks b. kept_inside (kernels_in c.args.job.now.plan.now) c.in-Some.found.sub c.args.job.now.plan.now.run.now.program.now.start c.args.own.now.kept (subst (λ (f : Option Found). IfSome (box_of f) (λ b. IsInside b c.args.job.now.plan.now.run.now.program.now.start)) c.in-Some.is c.in_ok-subproblem.ensures.inside) c.requires.owns.kept
 
 pub returns-in_ok-end-in-Some : goal.returns-in_ok-end-in-Some
 returns-in_ok-end-in-Some g c =
     let plan = c.args.job.now.plan.now in
     record {
-      seat = record { plan = c.requires.fits.plan; seat_of = c.run_least.ensures.seat; objective = c.requires.fits.objective };
-      parts = λ n h. c.run_least.ensures.parts ∙ h;
-      kept = c.subproblem.ensures.walk;
+      seat = record { plan = c.requires.fits.plan; seat_of = c.run_least_from.ensures.seat; objective = c.requires.fits.objective };
+      parts = λ n h. c.run_least_from.ensures.parts ∙ h;
+      kept = record {
+        walk = c.subproblem.ensures.walk;
+        kept = kept_around (kernels_in plan) c.in-Some.found.sub plan.run.now.program.now.start c.run_least_from.new.kept (subst (λ (f : Option Found). IfSome (box_of f) (λ b. IsInside b c.args.job.now.plan.now.run.now.program.now.start)) c.in-Some.is c.in_ok-subproblem.ensures.inside) c.run_least_from.ensures.searcher;
+      };
       run = λ runs h. least_run_some c.law_more_posted.ensures c.law_costs_fall.ensures plan c.requires.fits.plan c.requires.fits.objective
-          (costs_seen c.args.seat.now) (costs_seen c.run_least.new.seat) (costs_posted c.args.seat.now) (costs_posted c.run_least.new.seat) c.args.number c.in-Some.sub c.in_ok-end-in-Some.end runs
-          (subst (LeadsTo (model_of plan) (kernels_in plan) plan.options.depth plan.start.now c.args.number) c.in-Some.is c.in_ok-subproblem.ensures.path)
-          (subst (λ (o : Option Bounds). IfSome o (λ b. IsInside b plan.run.now.program.now.start)) c.in-Some.is c.in_ok-subproblem.ensures.inside) c.len-length.ensures.in_range c.run_least.ensures.kept c.in_ok-end-in-Some.ensures.end c.in_ok-end-in-Some.ensures.least h;
+          (costs_seen c.args.seat.now) (costs_seen c.run_least_from.new.seat) (costs_posted c.args.seat.now) (costs_posted c.run_least_from.new.seat) c.args.number c.in-Some.found.sub c.in_ok-end-in-Some.end runs
+          (subst (λ (f : Option Found). LeadsTo (model_of plan) (kernels_in plan) plan.options.depth plan.start.now c.args.number (box_of f)) c.in-Some.is c.in_ok-subproblem.ensures.path)
+          (subst (λ (f : Option Found). IfSome (box_of f) (λ b. IsInside b c.args.job.now.plan.now.run.now.program.now.start)) c.in-Some.is c.in_ok-subproblem.ensures.inside) c.len-length.ensures.in_range c.run_least_from.ensures.kept c.in_ok-end-in-Some.ensures.end c.in_ok-end-in-Some.ensures.least h;
     }

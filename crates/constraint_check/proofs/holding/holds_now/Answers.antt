@@ -1,5 +1,5 @@
-use Rattle.std.proofs.Common.{◌≡◌, ◌-◌, ◌<◌, ◌∙◌, Option, List, sym, ap, subst, arith, Decides, MatchOption, length, get_or, slice_get}
-use Rattle.std.specs.Prelude.{All, ⊤}
+use Rattle.std.proofs.Common.{◌≡◌, ◌-◌, ◌∙◌, Option, List, sym, ap, subst, arith, Decides, MatchOption, get_or}
+use Rattle.std.specs.Prelude.{⊤}
 use Rattle.constraint_model.specs.declared.model.Constraint.{Constraint}
 use Rattle.constraint_model.specs.Relations.{Holds}
 use Rattle.constraint_model.specs.WellFormed.{IsConstraintOf}

@@ -1,6 +1,5 @@
-use Rattle.std.proofs.Common.{◌≡◌, sym, subst, ℤ}
+use Rattle.std.proofs.Common.{sym, subst}
 use Rattle.constraint_model.specs.Numbers.{IsInProfile}
-use Rattle.constraint_model.specs.Relations.{value}
 use Rattle.constraint_check.proofs.SumLaws.{coded_product_small, value_small}
 use Rattle.constraint_check.proofs.values.product_of.Goals as goal
 

@@ -1,9 +1,8 @@
 -- One more product moves from what is left into the sum.
-use Rattle.std.proofs.Common.{◌≡◌, ◌<◌, ◌≤◌, ℤ, pos, length, arith, to_z}
+use Rattle.std.proofs.Common.{◌<◌, ◌≤◌, pos, length, arith, to_z}
 use mir.Syntax.{w128}
 use Rattle.std.proofs.lemmas.Int.{ints}
 use Rattle.constraint_model.specs.declared.model.Term.{Term}
-use Rattle.constraint_model.specs.Limits.{most_entries}
 use Rattle.constraint_model.specs.Relations.{value}
 use Rattle.constraint_check.proofs.SumLaws.{dot_end, dot_step, min_cases, sum_small}
 use Rattle.constraint_check.proofs.values.sum_of.Goals as goal

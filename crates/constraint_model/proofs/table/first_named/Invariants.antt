@@ -1,8 +1,7 @@
 use Rattle.std.proofs.Common.{◌≡◌, drop}
 use Rattle.std.specs.Prelude.{find, bytes_eq}
-use Rattle.constraint_model.specs.Table.{spelled}
 use Rattle.constraint_model.proofs.table.first_named.Given as goal
 
--- the first of all names that is spelled so is the first of the rest
-abbrev pub invariant-loop-name : goal.invariant-loop-name
-invariant-loop-name l = find (λ name. bytes_eq (spelled name) l.word) (drop l.name-index l.names) ≡ find (λ name. bytes_eq (spelled name) l.word) l.names
+-- the first row that is spelled so is the first of the rest
+abbrev pub invariant-loop-row : goal.invariant-loop-row
+invariant-loop-row l = find (λ row. bytes_eq row.spelling.now l.word) (drop l.row-index l.rows) ≡ find (λ row. bytes_eq row.spelling.now l.word) l.rows

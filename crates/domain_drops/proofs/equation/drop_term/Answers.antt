@@ -1,8 +1,8 @@
 -- Where the other terms are fixed the numbers of one product are dropped, else none.
 use Rattle.std.proofs.Common.{◌≡◌, List, ℤ, true, false, ◌-ℤ◌, ◌∙◌, map, sym, refl, ap, subst}
 use Rattle.std.specs.List.{filter}
-use Rattle.guarded_tell.specs.Linear.{Term, least_of, greatest_of}
-use Rattle.guarded_tell.specs.Equality.{is_same, is_product}
+use Rattle.sum_tells.specs.Linear.{Term, least_of, greatest_of}
+use Rattle.sum_tells.specs.Equality.{is_same, is_product}
 use Rattle.bit_domain.specs.Mixes.{hull, dom_of, values_of}
 use Rattle.domain_drops.specs.Hearing.{Drop, MayHearDrops, HearsDrops}
 use Rattle.domain_drops.proofs.ProductLaws.{coded_number, coded_room}

@@ -2,7 +2,7 @@
 use Rattle.std.proofs.Common.{◌<◌, ◌≤◌, ◌+◌, ◌∙◌, ℤ, sym, ap, subst, pos, List, drop, get_or, length, arith}
 use Rattle.std.specs.List.{zip, flat_map}
 use Rattle.interval.specs.Limits.{IsNumber}
-use Rattle.guarded_tell.specs.Linear.{Term}
+use Rattle.sum_tells.specs.Linear.{Term}
 use Rattle.domain_drops.specs.Hearing.{Drop, MayHearDrops, HearsDrops}
 use Rattle.domain_drops.specs.Drops.{term_drops}
 use Rattle.domain_drops.proofs.TermLaws.{length-zip, get_or-zip}

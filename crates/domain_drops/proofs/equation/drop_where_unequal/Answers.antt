@@ -3,7 +3,7 @@ use Rattle.std.proofs.Common.{◌≡◌, true, false, List, ◌∙◌, suc, sym,
 use Rattle.std.proofs.lemmas.Int.{to_z-of_z}
 use Rattle.std.specs.List.{zip, flat_map}
 use Rattle.guarded_tell.specs.Words.{is_out}
-use Rattle.guarded_tell.specs.Linear.{sum_over, least_of, greatest_of}
+use Rattle.sum_tells.specs.Linear.{sum_over, least_of, greatest_of}
 use Rattle.bit_domain.specs.Mixes.{hull}
 use Rattle.domain_drops.specs.Hearing.{Drop, MayHearDrops, HearsDrops}
 use Rattle.domain_drops.specs.Drops.{term_drops}

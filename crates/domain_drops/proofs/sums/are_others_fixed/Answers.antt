@@ -1,6 +1,6 @@
 -- The two differences are exact.
 use Rattle.std.proofs.Common.{◌∙◌}
-use Rattle.guarded_tell.specs.Equality.{is_same}
+use Rattle.sum_tells.specs.Equality.{is_same}
 use Rattle.domain_drops.proofs.ProductLaws.{coded_difference}
 use Rattle.domain_drops.proofs.sums.are_others_fixed.Goals as goal
 

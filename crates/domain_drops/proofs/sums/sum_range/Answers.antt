@@ -2,7 +2,7 @@
 use Rattle.std.proofs.Common.{◌∙◌, ◌<◌, ◌≤◌, length, arith}
 use Rattle.std.proofs.lemmas.Int.{ints}
 use Rattle.bit_domain.specs.Mixes.{hull}
-use Rattle.guarded_tell.specs.Linear.{least_of, greatest_of}
+use Rattle.sum_tells.specs.Linear.{least_of, greatest_of}
 use Rattle.domain_drops.proofs.TermLaws.{sum_over-drop, sum_over-drop_all}
 use Rattle.domain_drops.proofs.ProductLaws.{terms_small, one_more_small}
 use Rattle.domain_drops.proofs.sums.sum_range.Goals as goal

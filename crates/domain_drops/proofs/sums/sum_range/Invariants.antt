@@ -2,7 +2,7 @@
 use Rattle.std.proofs.Common.{◌≡◌, ◌+ℤ◌, ◌*◌, ◌≤◌, drop, unsigned_abs}
 use Rattle.std.specs.List.{zip}
 use Rattle.bit_domain.specs.Mixes.{hull}
-use Rattle.guarded_tell.specs.Linear.{sum_over, least_of, greatest_of, product_limit}
+use Rattle.sum_tells.specs.Linear.{sum_over, least_of, greatest_of, product_limit}
 use Rattle.domain_drops.proofs.sums.sum_range.Given as goal
 
 abbrev pub invariant-loop-i : goal.invariant-loop-i

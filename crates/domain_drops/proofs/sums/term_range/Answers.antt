@@ -3,7 +3,7 @@ use Rattle.std.proofs.Common.{◌≡◌, ◌∙◌, ◌≤◌, ap, ◌*ℤ◌, u
 use Rattle.std.specs.Int.{int_min, int_max}
 use Rattle.interval.specs.Boxes.{low_of, high_of}
 use Rattle.bit_domain.specs.Mixes.{hull}
-use Rattle.guarded_tell.specs.Linear.{least_of, greatest_of, product_limit}
+use Rattle.sum_tells.specs.Linear.{least_of, greatest_of, product_limit}
 use Rattle.domain_drops.proofs.ProductLaws.{coded_product, coded_product_is, product_small, least_small, greatest_small, product_fits}
 use Rattle.domain_drops.proofs.sums.term_range.Goals as goal
 

@@ -2,7 +2,7 @@ use Rattle.std.proofs.Common.{◌∙◌, List, Some, sym, subst, arith}
 use Rattle.fzn_lexer.specs.declared.Token.{Token}
 use Rattle.fzn_lexer.specs.Lexing.{IsNext}
 use Rattle.fzn_parser.specs.Stream.{IsStretch}
-use Rattle.fzn_parser.proofs.Gathered.{TurnLaws, gathered_none, gathered_more, stretch_here, stretch_end, stretch_out, stuck_behind}
+use Rattle.fzn_parser.proofs.Gathered.{TurnLaws, gathered_none, gathered_more, stretch_here, stretch_end, stretch_out, stuck_behind, stuck_next}
 use Rattle.fzn_parser.proofs.stream.gather.Goals as goal
 
 pub loop-at-init : goal.loop-at-init
@@ -38,3 +38,7 @@ returns-in-Err-clause-cause c =
 pub returns-clause-stretch : goal.returns-clause-stretch
 returns-clause-stretch c =
     stretch_out c.args.text.now c.args.from c.loop-at.at c.loop-at.tokens.items c.loop-at.lexemes.items c.loop-at.invariant (omega (arith, c.loop-at-test.false))
+
+pub returns-in-Err-clause-next : goal.returns-in-Err-clause-next
+returns-in-Err-clause-next c =
+    stuck_next c.args.text.now c.args.from c.loop-at.at c.in-Err.none.at c.loop-at.tokens.items c.loop-at.lexemes.items c.loop-at.invariant c.in-Err.ensures

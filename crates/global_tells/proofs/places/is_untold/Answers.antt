@@ -18,7 +18,7 @@ pub returns-then-not-is_full : goal.returns-then-not-is_full
 returns-then-not-is_full c = λ xs e f.
     let b = c.args.b.now in
     sets_none b xs (low_of b c.args.ends.first) (high_of b c.args.ends.last) c.args.from.now c.args.upto.now e f
-    c.size_of-count.result c.size_of-count.ensures.value
+    c.count_inside-count.result c.count_inside-count.ensures.value
     (sym c.is_overfull.ensures ∙ c.if-is_overfull.false)
     (λ t. absurd (both_ways _ (sym c.is_full.ensures ∙ c.if-not-is_full.true) t))
 
@@ -30,6 +30,6 @@ returns c =
     on_both c.has_no_others.result c.has_no_others.ensures.lows c.has_no_others.ensures.highs
     (λ (lows : IsWithin (bit_and from.lows upto.lows) (bit_and from.lows upto.highs)) (highs : IsWithin (bit_and from.highs upto.highs) (bit_and from.lows upto.highs)) xs e f.
     sets_none b xs (low_of b c.args.ends.first) (high_of b c.args.ends.last) from upto e f
-    c.size_of-count.result c.size_of-count.ensures.value
+    c.count_inside-count.result c.count_inside-count.ensures.value
     (sym c.is_overfull.ensures ∙ c.if-is_overfull.false)
     (λ t. (lows, highs)))

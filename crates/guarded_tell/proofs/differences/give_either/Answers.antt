@@ -3,9 +3,9 @@ use Rattle.std.proofs.Common.{◌<◌, ◌++◌, ◌∙◌, List, [], ◌∷◌,
 use Rattle.tells.specs.declared.tell.Tell.{Tell}
 use Rattle.guarded_tell.specs.Words.{when, is_out, tell_true}
 use Rattle.guarded_tell.specs.Hearing.{MayHearAll, HearsAll}
-use Rattle.guarded_tell.specs.Narrowing.{narrowing}
-use Rattle.guarded_tell.proofs.HearingLaws.{may_first, may_rest, hears_both}
-use Rattle.guarded_tell.proofs.ShortSumLaws.{true_var}
+use Rattle.tell_laws.specs.Narrowing.{narrowing}
+use Rattle.tell_laws.proofs.HearingLaws.{may_first, may_rest, hears_both}
+use Rattle.short_tells.proofs.ShortSumLaws.{true_var}
 use Rattle.guarded_tell.proofs.ApartLaws.{either_told}
 use Rattle.guarded_tell.proofs.differences.give_either.Goals as goal
 

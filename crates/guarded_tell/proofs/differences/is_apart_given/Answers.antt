@@ -8,7 +8,7 @@ use Rattle.interval.specs.Boxes.{low_of, high_of}
 use Rattle.guarded_tell.specs.Hearing.{MayHearAll, HearsAll}
 use Rattle.guarded_tell.specs.declared.shape.Shape.{Shape}
 use Rattle.guarded_tell.specs.Shapes.{IsShapeOf}
-use Rattle.guarded_tell.proofs.EqualityLaws.{same_is}
+use Rattle.sum_tells.proofs.EqualityLaws.{same_is}
 use Rattle.guarded_tell.proofs.ShapeQuiet.{same_places}
 use Rattle.guarded_tell.proofs.ApartLaws.{apart_first, apart_second, limit_number, coded_sum, coded_rest, open_of}
 use Rattle.guarded_tell.proofs.differences.is_apart_given.Goals as goal

@@ -2,8 +2,8 @@
 use Rattle.std.proofs.Common.{◌∙◌}
 use Rattle.std.proofs.lemmas.Int.{to_z-of_z}
 use mir.Syntax.{w64}
-use Rattle.guarded_tell.specs.Equality.{is_same}
-use Rattle.guarded_tell.proofs.EqualityCode.{is_product_at}
+use Rattle.sum_tells.specs.Equality.{is_same}
+use Rattle.sum_tells.proofs.EqualityCode.{is_product_at}
 use Rattle.guarded_tell.proofs.ApartLaws.{unit_product, not_zero}
 use Rattle.guarded_tell.proofs.differences.is_product.Goals as goal
 

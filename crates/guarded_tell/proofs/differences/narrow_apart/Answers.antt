@@ -4,9 +4,9 @@ use Rattle.std.proofs.lemmas.Int.{to_z-of_z}
 use mir.Syntax.{w64}
 use Rattle.tells.specs.declared.tell.Tell.{Tell}
 use Rattle.guarded_tell.specs.Hearing.{MayHearAll, HearsAll}
-use Rattle.guarded_tell.specs.Equality.{low_is_not, high_is_not}
-use Rattle.guarded_tell.specs.Narrowing.{narrowing}
-use Rattle.guarded_tell.proofs.HearingLaws.{may_first, may_rest, hears_both}
+use Rattle.sum_tells.specs.Equality.{low_is_not, high_is_not}
+use Rattle.tell_laws.specs.Narrowing.{narrowing}
+use Rattle.tell_laws.proofs.HearingLaws.{may_first, may_rest, hears_both}
 use Rattle.guarded_tell.proofs.ApartLaws.{apart_parts}
 use Rattle.guarded_tell.proofs.differences.narrow_apart.Goals as goal
 

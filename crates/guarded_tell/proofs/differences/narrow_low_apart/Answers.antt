@@ -6,9 +6,9 @@ use Rattle.tells.specs.declared.tell.Tell.{Tell}
 use Rattle.interval.specs.Boxes.{low_of}
 use Rattle.guarded_tell.specs.Words.{when, low_tell}
 use Rattle.guarded_tell.specs.Hearing.{MayHearAll, HearsAll}
-use Rattle.guarded_tell.specs.Equality.{is_product}
-use Rattle.guarded_tell.specs.Narrowing.{narrowing}
-use Rattle.guarded_tell.proofs.EqualityCode.{coded_next}
+use Rattle.sum_tells.specs.Equality.{is_product}
+use Rattle.tell_laws.specs.Narrowing.{narrowing}
+use Rattle.sum_tells.proofs.EqualityCode.{coded_next}
 use Rattle.guarded_tell.proofs.differences.narrow_low_apart.Goals as goal
 
 pub tell_where-requires-clause-variable : goal.tell_where-requires-clause-variable

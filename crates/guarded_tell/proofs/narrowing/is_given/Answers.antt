@@ -4,7 +4,7 @@ use Rattle.std.proofs.lemmas.Bool.{OnTrue_at, OnTrue_from, OnFalse_from}
 use Rattle.guarded_tell.specs.declared.kernel.Kernel.{Kernel}
 use Rattle.guarded_tell.specs.Words.{IsProperIn}
 use Rattle.guarded_tell.specs.Kernels.{vars_of, tells}
-use Rattle.guarded_tell.proofs.ShortSumLaws.{quiet_heard}
+use Rattle.short_tells.proofs.ShortSumLaws.{quiet_heard}
 use Rattle.guarded_tell.proofs.narrowing.is_given.Goals as goal
 
 pub narrow_at_most-requires-clause-proper : goal.narrow_at_most-requires-clause-proper

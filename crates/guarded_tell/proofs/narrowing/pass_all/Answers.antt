@@ -1,5 +1,5 @@
 -- What is passed on is what narrows the box.
-use Rattle.guarded_tell.proofs.NarrowingLaws.{may_pass, passes, passes_name}
+use Rattle.tell_laws.proofs.NarrowingLaws.{may_pass, passes, passes_name}
 use Rattle.guarded_tell.specs.declared.narrowing.Passing.{Passing}
 use Rattle.guarded_tell.proofs.narrowing.pass_all.Goals as goal
 

@@ -1,6 +1,6 @@
 -- What is seen to narrow nothing is heard.
 use Rattle.guarded_tell.specs.Kernels.{tells}
-use Rattle.guarded_tell.proofs.ShortSumLaws.{quiet_heard}
+use Rattle.short_tells.proofs.ShortSumLaws.{quiet_heard}
 use Rattle.guarded_tell.proofs.narrowing.visit_narrowing.Goals as goal
 
 pub returns-in-Some-clause-heard : goal.returns-in-Some-clause-heard

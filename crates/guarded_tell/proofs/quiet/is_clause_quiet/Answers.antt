@@ -1,6 +1,6 @@
 -- The literals of a clause that isn't empty are in the box.
-use Rattle.guarded_tell.proofs.ClauseTells.{literals_in}
-use Rattle.guarded_tell.proofs.CommonLaws.{some_there}
+use Rattle.clause_tells.proofs.ClauseTells.{literals_in}
+use Rattle.tell_laws.proofs.CommonLaws.{some_there}
 use Rattle.guarded_tell.proofs.quiet.is_clause_quiet.Goals as goal
 
 pub is_quiet_at-requires-clause-variables : goal.is_quiet_at-requires-clause-variables

@@ -5,7 +5,7 @@ use Rattle.std.proofs.lemmas.Int.{ints}
 use mir.Syntax.{w64}
 use Rattle.std.specs.Int.RustNames.{int_lt}
 use Rattle.interval.specs.Boxes.{low_of, high_of}
-use Rattle.guarded_tell.specs.Linear.{least_of, greatest_of}
+use Rattle.sum_tells.specs.Linear.{least_of, greatest_of}
 use Rattle.guarded_tell.proofs.OpenLaws.{open_term, below}
 use Rattle.guarded_tell.proofs.quiet.is_open.Goals as goal
 

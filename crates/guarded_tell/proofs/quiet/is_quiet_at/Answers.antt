@@ -4,7 +4,7 @@ use Rattle.std.proofs.lemmas.Bool.{OnTrue_at, OnTrue_from}
 use Rattle.std.proofs.lemmas.List.{get_or_read}
 use Rattle.std.specs.List.{All}
 use Rattle.guarded_tell.specs.Words.{Keeps, is_sure, is_out}
-use Rattle.guarded_tell.specs.Clause.{clause_tells}
+use Rattle.clause_tells.specs.Clause.{clause_tells}
 use Rattle.guarded_tell.proofs.ClauseQuiet.{sure_quiet, two_quiet}
 use Rattle.guarded_tell.proofs.quiet.is_quiet_at.Goals as goal
 

@@ -6,9 +6,9 @@ use Rattle.tells.specs.declared.tell.Tell.{Tell}
 use Rattle.interval.specs.Limits.{IsNumber, largest_number}
 use Rattle.guarded_tell.specs.Hearing.{MayHearAll, HearsAll}
 use Rattle.guarded_tell.specs.declared.shape.Shape.{Shape}
-use Rattle.guarded_tell.specs.ShortTells.{room_at_most}
+use Rattle.short_tells.specs.ShortTells.{room_at_most}
 use Rattle.guarded_tell.specs.Shapes.{IsShapeOf}
-use Rattle.guarded_tell.proofs.ShortLaws.{short_number}
+use Rattle.small_sums.proofs.ShortLaws.{short_number}
 use Rattle.guarded_tell.proofs.ShapeQuiet.{at_most_places}
 use Rattle.guarded_tell.proofs.DifferenceLaws.{at_most_number, sums_are, short_least, short_greatest, coded_of, small_growth, at_most_first, at_most_second}
 use Rattle.guarded_tell.proofs.rooms.is_at_most_given.Goals as goal

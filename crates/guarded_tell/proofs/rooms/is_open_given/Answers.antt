@@ -4,11 +4,11 @@ use mir.Syntax.{w64}
 use Rattle.tells.specs.declared.tell.Tell.{Tell}
 use Rattle.guarded_tell.specs.Hearing.{MayHearAll, HearsAll}
 use Rattle.guarded_tell.specs.declared.shape.Shape.{Shape}
-use Rattle.guarded_tell.specs.Linear.{literal_tells}
-use Rattle.guarded_tell.specs.Equality.{equation_tells}
-use Rattle.guarded_tell.specs.Narrowing.{narrowing}
+use Rattle.sum_tells.specs.Linear.{literal_tells}
+use Rattle.sum_tells.specs.Equality.{equation_tells}
+use Rattle.tell_laws.specs.Narrowing.{narrowing}
 use Rattle.guarded_tell.specs.Shapes.{IsShapeOf}
-use Rattle.guarded_tell.proofs.ShortLaws.{short_number}
+use Rattle.small_sums.proofs.ShortLaws.{short_number}
 use Rattle.guarded_tell.proofs.ShapeQuiet.{at_most_places, same_places}
 use Rattle.guarded_tell.proofs.ApartLaws.{limit_number}
 use Rattle.guarded_tell.proofs.DifferenceLaws.{at_most_number, same_open, at_most_open}

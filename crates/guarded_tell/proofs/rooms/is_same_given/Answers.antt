@@ -6,9 +6,9 @@ use Rattle.tells.specs.declared.tell.Tell.{Tell}
 use Rattle.interval.specs.Limits.{IsNumber, largest_number}
 use Rattle.guarded_tell.specs.Hearing.{MayHearAll, HearsAll}
 use Rattle.guarded_tell.specs.declared.shape.Shape.{Shape}
-use Rattle.guarded_tell.specs.ShortTells.{room_equal}
+use Rattle.short_tells.specs.ShortTells.{room_equal}
 use Rattle.guarded_tell.specs.Shapes.{IsShapeOf}
-use Rattle.guarded_tell.proofs.ShortLaws.{short_number}
+use Rattle.small_sums.proofs.ShortLaws.{short_number}
 use Rattle.guarded_tell.proofs.ShapeQuiet.{same_places}
 use Rattle.guarded_tell.proofs.ApartLaws.{limit_number}
 use Rattle.guarded_tell.proofs.DifferenceLaws.{sums_are, short_least, short_greatest, coded_of, small_growth, same_first, same_second}

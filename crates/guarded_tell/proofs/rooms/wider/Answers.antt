@@ -1,7 +1,7 @@
 -- The numbers as the code reads them.
 use Rattle.std.proofs.Common.{arith}
 use Rattle.std.proofs.lemmas.Int.{ints, clamps}
-use Rattle.guarded_tell.specs.Short.{small_product_limit, small_limit}
+use Rattle.small_sums.specs.Short.{small_product_limit, small_limit}
 use Rattle.guarded_tell.proofs.rooms.wider.Goals as goal
 
 pub returns-then-first-second : goal.returns-then-first-second

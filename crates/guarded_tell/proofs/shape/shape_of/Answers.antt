@@ -1,7 +1,7 @@
 -- A difference makes the short shape of the kernel; where there is none, no other shape is the kernel's.
 use Rattle.std.proofs.Common.{◌≡◌, refl, sym, subst, inl, inr}
 use Rattle.guarded_tell.proofs.ShapeLaws.{any_is_other, other_inequality, other_equation, other_kernel, at_most_made, same_made, none_read, sum_made, sum_rough}
-use Rattle.guarded_tell.specs.Slight.{AreSlight}
+use Rattle.small_sums.specs.Slight.{AreSlight}
 use Rattle.guarded_tell.proofs.shape.shape_of.Goals as goal
 
 pub returns-in-Some-clause-shape : goal.returns-in-Some-clause-shape

@@ -5,8 +5,8 @@ use Rattle.std.proofs.lemmas.Int.{to_z-of_z}
 use mir.Syntax.{w64}
 use Rattle.std.specs.List.{All}
 use Rattle.guarded_tell.specs.Words.{Keeps}
-use Rattle.guarded_tell.specs.Equality.{eq_tells}
-use Rattle.guarded_tell.proofs.ShortSumLaws.{quiet_heard}
+use Rattle.sum_tells.specs.Equality.{eq_tells}
+use Rattle.short_tells.proofs.ShortSumLaws.{quiet_heard}
 use Rattle.guarded_tell.proofs.slight_sum.give_slight_equation.Goals as goal
 
 pub returns-then-is_whole_equation_quiet-clause-given : goal.returns-then-is_whole_equation_quiet-clause-given

@@ -4,7 +4,7 @@ use Rattle.std.specs.List.{sum_by}
 use Rattle.guarded_tell.specs.declared.kernel.Kernel.{Kernel}
 use Rattle.guarded_tell.specs.Words.{IsProperIn}
 use Rattle.guarded_tell.specs.Kernels.{vars_of}
-use Rattle.guarded_tell.specs.Short.{slight_limit}
+use Rattle.small_sums.specs.Short.{slight_limit}
 use Rattle.guarded_tell.proofs.ShapeLaws.{slight_inequality, slight_equation}
 use Rattle.guarded_tell.proofs.slight_sum.give_slight_sum.Goals as goal
 

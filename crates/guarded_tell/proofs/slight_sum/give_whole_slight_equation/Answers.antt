@@ -5,9 +5,9 @@ use Rattle.std.specs.List.{All}
 use Rattle.std.proofs.lemmas.Int.{to_z-of_z}
 use mir.Syntax.{w64}
 use Rattle.guarded_tell.specs.Words.{Keeps}
-use Rattle.guarded_tell.specs.Equality.{eq_tells}
+use Rattle.sum_tells.specs.Equality.{eq_tells}
 use Rattle.guarded_tell.specs.Settled.{IsEquationSumFor}
-use Rattle.guarded_tell.proofs.ShortSumLaws.{quiet_heard}
+use Rattle.short_tells.proofs.ShortSumLaws.{quiet_heard}
 use Rattle.guarded_tell.proofs.SettledLaws.{equation_rests}
 use Rattle.guarded_tell.proofs.slight_sum.give_whole_slight_equation.Goals as goal
 

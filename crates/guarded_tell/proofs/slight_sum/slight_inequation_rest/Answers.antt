@@ -1,13 +1,27 @@
--- Sums that leave room say that nothing narrows, and how long the kernel rests.
-use Rattle.std.proofs.Common.{ℤ, suc, subst, arith}
+-- Two open terms, and sums that leave room, say that nothing narrows, and how long the kernel rests.
+use Rattle.std.proofs.Common.{ℤ, suc, sym, subst, arith}
 use Rattle.std.proofs.lemmas.Bool.{OnTrue_at}
 use Rattle.std.proofs.lemmas.Int.{to_z-of_z}
 use mir.Syntax.{w64}
-use Rattle.guarded_tell.specs.Short.{IsEquationQuiet}
+use Rattle.small_sums.specs.Short.{IsEquationQuiet}
 use Rattle.guarded_tell.specs.Settled.{IsEquationSumFor}
-use Rattle.guarded_tell.proofs.QuietLaws.{equation_quiet}
+use Rattle.guarded_tell.proofs.OpenLaws.{open_quiet}
+use Rattle.small_sums.proofs.QuietLaws.{equation_quiet, not_sure}
+use Rattle.guarded_tell.proofs.SeenLaws.{open_rests}
 use Rattle.guarded_tell.proofs.SettledLaws.{equation_rests}
 use Rattle.guarded_tell.proofs.slight_sum.slight_inequation_rest.Goals as goal
+
+pub are_two_open-requires-clause-variables : goal.are_two_open-requires-clause-variables
+are_two_open-requires-clause-variables c = record { each = λ i h. c.requires.variables.each (suc i) (omega arith) }
+
+pub returns-then-are_two_open-clause-quiet : goal.returns-then-are_two_open-clause-quiet
+returns-then-are_two_open-clause-quiet c =
+    open_quiet c.law_clamp_order.ensures c.args.b.now c.args.lit c.args.coeffs.now c.args.vars.now c.args.limit c.requires.linear.same_length
+    (not_sure c.law_clamp_order.ensures c.args.b.now c.args.lit c.requires.out) c.requires.out c.if-are_two_open.ensures
+
+pub returns-then-are_two_open-clause-rest : goal.returns-then-are_two_open-clause-rest
+returns-then-are_two_open-clause-rest c k kernel e =
+    open_rests c.law_quotient_order.ensures c.law_clamp_order.ensures c.args.b.now k kernel c.args.lit c.args.coeffs.now c.args.vars.now c.args.limit e (c.requires.out, c.if-are_two_open.ensures)
 
 pub slight_sums-sums-requires-clause-variables : goal.slight_sums-sums-requires-clause-variables
 slight_sums-sums-requires-clause-variables c = record { each = λ i h. c.requires.variables.each (suc i) (omega arith) }

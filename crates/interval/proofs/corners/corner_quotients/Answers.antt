@@ -13,11 +13,11 @@ returns-clause-least c =
     let z_high : FitsSigned w64 c.args.z.1 = search rules in
     let y_low : FitsSigned w64 c.args.y.0 = search rules in
     let y_high : FitsSigned w64 c.args.y.1 = search rules in
-    same_least c.least_of_four.result c.ceiling.result c.ceiling-2.result c.ceiling-3.result c.ceiling-4.result _ _ _ _ (search rules) (search rules) (search rules) (search rules) (search rules)
-    (same_pair ceiling_of c.ceiling.result c.args.z.0 c.args.y.0 z_low y_low c.ceiling.ensures)
-    (same_pair ceiling_of c.ceiling-2.result c.args.z.0 c.args.y.1 z_low y_high c.ceiling-2.ensures)
-    (same_pair ceiling_of c.ceiling-3.result c.args.z.1 c.args.y.0 z_high y_low c.ceiling-3.ensures)
-    (same_pair ceiling_of c.ceiling-4.result c.args.z.1 c.args.y.1 z_high y_high c.ceiling-4.ensures)
+    same_least c.least_of_four.result c.quotient-at_lows.result.ceiling c.quotient-at_low_high.result.ceiling c.quotient-at_high_low.result.ceiling c.quotient-at_highs.result.ceiling _ _ _ _ (search rules) (search rules) (search rules) (search rules) (search rules)
+    (same_pair ceiling_of c.quotient-at_lows.result.ceiling c.args.z.0 c.args.y.0 z_low y_low c.quotient-at_lows.ensures.ceiling)
+    (same_pair ceiling_of c.quotient-at_low_high.result.ceiling c.args.z.0 c.args.y.1 z_low y_high c.quotient-at_low_high.ensures.ceiling)
+    (same_pair ceiling_of c.quotient-at_high_low.result.ceiling c.args.z.1 c.args.y.0 z_high y_low c.quotient-at_high_low.ensures.ceiling)
+    (same_pair ceiling_of c.quotient-at_highs.result.ceiling c.args.z.1 c.args.y.1 z_high y_high c.quotient-at_highs.ensures.ceiling)
     c.least_of_four.ensures
 
 pub returns-clause-greatest : goal.returns-clause-greatest
@@ -27,9 +27,9 @@ returns-clause-greatest c =
     let z_high : FitsSigned w64 c.args.z.1 = search rules in
     let y_low : FitsSigned w64 c.args.y.0 = search rules in
     let y_high : FitsSigned w64 c.args.y.1 = search rules in
-    same_greatest c.greatest_of_four.result c.floor.result c.floor-2.result c.floor-3.result c.floor-4.result _ _ _ _ (search rules) (search rules) (search rules) (search rules) (search rules)
-    (same_pair floor_of c.floor.result c.args.z.0 c.args.y.0 z_low y_low c.floor.ensures)
-    (same_pair floor_of c.floor-2.result c.args.z.0 c.args.y.1 z_low y_high c.floor-2.ensures)
-    (same_pair floor_of c.floor-3.result c.args.z.1 c.args.y.0 z_high y_low c.floor-3.ensures)
-    (same_pair floor_of c.floor-4.result c.args.z.1 c.args.y.1 z_high y_high c.floor-4.ensures)
+    same_greatest c.greatest_of_four.result c.quotient-at_lows.result.floor c.quotient-at_low_high.result.floor c.quotient-at_high_low.result.floor c.quotient-at_highs.result.floor _ _ _ _ (search rules) (search rules) (search rules) (search rules) (search rules)
+    (same_pair floor_of c.quotient-at_lows.result.floor c.args.z.0 c.args.y.0 z_low y_low c.quotient-at_lows.ensures.floor)
+    (same_pair floor_of c.quotient-at_low_high.result.floor c.args.z.0 c.args.y.1 z_low y_high c.quotient-at_low_high.ensures.floor)
+    (same_pair floor_of c.quotient-at_high_low.result.floor c.args.z.1 c.args.y.0 z_high y_low c.quotient-at_high_low.ensures.floor)
+    (same_pair floor_of c.quotient-at_highs.result.floor c.args.z.1 c.args.y.1 z_high y_high c.quotient-at_highs.ensures.floor)
     c.greatest_of_four.ensures

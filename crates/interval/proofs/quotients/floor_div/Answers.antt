@@ -8,7 +8,7 @@ use mir.Syntax.{w128}
 
 pub returns-clause-value : goal.returns-clause-value
 returns-clause-value c =
-    to_z-of_z w128 c.lowered.result (search rules) ∙ c.lowered.ensures
+    to_z-of_z w128 c.lowered.result (search rules) ∙ c.lowered.ensures.value
     ∙ ap (λ (z : ℤ). floor_of z (to_z w128 (of_z w128 c.args.b))) c.divided.ensures.parts.whole
     ∙ (λ i. floor_of (to_z-of_z w128 c.args.a c.ranges.a i) (to_z-of_z w128 c.args.b c.ranges.b i))
 

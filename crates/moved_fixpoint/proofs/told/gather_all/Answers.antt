@@ -2,7 +2,7 @@ use Rattle.std.proofs.Common.{◌<◌, length}
 use Rattle.std.proofs.lemmas.List.Elements.{All-filter}
 use Rattle.guarded_tell.specs.Words.{Tell}
 use Rattle.guarded_tell.specs.Kernels.{tells}
-use Rattle.guarded_tell.specs.Narrowing.{narrows}
+use Rattle.tell_laws.specs.Narrowing.{narrows}
 use Rattle.moved_fixpoint.specs.declared.told.Gathering.{Gathering}
 use Rattle.moved_fixpoint.proofs.Gathering.{may_take, takes, takes_name}
 use Rattle.moved_fixpoint.proofs.told.gather_all.Goals as goal

@@ -1,6 +1,6 @@
 use Rattle.std.proofs.Common.{ℕ, List, length, sym, subst}
 use Rattle.guarded_tell.specs.Words.{Lit}
-use Rattle.guarded_tell.specs.Clause.{clause_vars}
+use Rattle.clause_tells.specs.Clause.{clause_vars}
 use Rattle.moved_set.specs.Parts.{HasList}
 use Rattle.moved_set.proofs.ClauseLists.{has_positives, has_negatives}
 use Rattle.moved_set.proofs.parts.long_list_of_clause.Goals as goal

@@ -10,11 +10,11 @@ use Rattle.search.proofs.all.search_all.Goals as goal
 pub boxes-init : goal.boxes-init
 boxes-init g c = record {
   count = 0;
-  reached = begun (search_of c.args.run.now.model.now c.args.run.now.program.now c.args.run.now.node_limit c.args.run.now.round_limit Kind.All c.args.sub.now) (record { stack = boxes_of c.in_ok-searcher.searcher; best = None; count = 0; found = c.new-found.result })
-      c.in_ok-searcher.ensures.boxes (inl refl) refl c.new-found.ensures;
+  reached = begun (search_of c.args.run.now.model.now c.args.run.now.program.now c.args.run.now.node_limit c.args.run.now.round_limit Kind.All c.args.sub.now) (record { stack = boxes_of c.args.searcher.now; best = None; count = 0; found = c.new-found.result })
+      c.requires.boxes (inl refl) refl c.new-found.ensures;
   counted = record { told = refl; within = inr (omega arith) };
-  ready = c.in_ok-searcher.ensures.ready;
-  same_count = c.in_ok-searcher.ensures.count;
+  ready = c.requires.ready;
+  same_count = c.requires.count;
 }
 
 pub node-requires-clause-run : goal.node-requires-clause-run
@@ -41,8 +41,8 @@ boxes-preserved g c =
       same_count = c.in_ok-node.ensures.count c.in-Done.is ∙ c.boxes.invariant.same_count;
     }
 
-pub returns-in-GivenUp : goal.returns-in-GivenUp
-returns-in-GivenUp g c =
+pub returns-in-GivenUp-clause-closing : goal.returns-in-GivenUp-clause-closing
+returns-in-GivenUp-clause-closing g c =
     let t = c.in_ok-node.ensures.visit in
     let up = (of_given_up c.args.run.now.model.now c.args.run.now.program.now.kernels c.args.run.now.round_limit t.top t.rest (boxes_of c.node.new.self) c.boxes.found c.node.new.found c.in_ok-node.field-0 c.in-GivenUp.is t.visit) in
     out_of_rounds (search_of c.args.run.now.model.now c.args.run.now.program.now c.args.run.now.node_limit c.args.run.now.round_limit Kind.All c.args.sub.now) (λ (e : Kind.All ≡ Kind.Least). absurd cc) (boxes_of c.boxes.searcher) c.boxes.invariant.count c.boxes.found c.boxes.invariant.reached

@@ -12,17 +12,17 @@ use Rattle.search.proofs.first.search_first.Goals as goal
 pub boxes-init : goal.boxes-init
 boxes-init g c = record {
   count = 0;
-  reached = begun (search_of c.args.run.now.model.now c.args.run.now.program.now c.args.run.now.node_limit c.args.run.now.round_limit Kind.First c.args.sub.now) (record { stack = boxes_of c.in_ok-searcher.searcher; best = None; count = 0; found = c.new-solutions.result })
-      c.in_ok-searcher.ensures.boxes (inl refl) refl c.new-solutions.ensures;
+  reached = begun (search_of c.args.run.now.model.now c.args.run.now.program.now c.args.run.now.node_limit c.args.run.now.round_limit Kind.First c.args.sub.now) (record { stack = boxes_of c.args.searcher.now; best = None; count = 0; found = c.new-solutions.result })
+      c.requires.boxes (inl refl) refl c.new-solutions.ensures;
   counted = record { told = refl; within = inr (omega arith) };
   sought = c.new-solutions.ensures;
-  ready = c.in_ok-searcher.ensures.ready;
-  same_count = c.in_ok-searcher.ensures.count;
+  ready = c.requires.ready;
+  same_count = c.requires.count;
   seat = c.requires.seat;
   parts = refl;
   posted = refl;
   seen = λ n h. h;
-  fresh = λ n h l e. absurd (let q : c.args.sub.now ∷ [] ≡ [] = sym c.in_ok-searcher.ensures.boxes ∙ e in cc);
+  fresh = λ n h l e. absurd (let q : c.args.sub.now ∷ [] ≡ [] = sym c.requires.boxes ∙ e in cc);
 }
 
 pub node-requires-clause-run : goal.node-requires-clause-run

@@ -21,12 +21,12 @@ pub boxes-init : goal.boxes-init
 boxes-init g c = record {
   lowest = None;
   count = 0;
-  reached = begun (least_of c.args.run.now.model.now c.args.run.now.program.now c.args.run.now.node_limit c.args.run.now.round_limit (costs_seen c.args.seat.now) c.args.sub.now) (record { stack = boxes_of c.in_ok-searcher.searcher; best = None; count = 0; found = c.new-found.result })
-      c.in_ok-searcher.ensures.boxes (inl refl) refl c.new-found.ensures;
+  reached = begun (least_of c.args.run.now.model.now c.args.run.now.program.now c.args.run.now.node_limit c.args.run.now.round_limit (costs_seen c.args.seat.now) c.args.sub.now) (record { stack = boxes_of c.args.searcher.now; best = None; count = 0; found = c.new-found.result })
+      c.requires.boxes (inl refl) refl c.new-found.ensures;
   low = λ cost e. absurd (let q : None ≡ Some cost = e in cc);
   counted = record { told = refl; within = inr (omega arith) };
-  ready = c.in_ok-searcher.ensures.ready;
-  same_count = c.in_ok-searcher.ensures.count;
+  ready = c.requires.ready;
+  same_count = c.requires.count;
   seat = c.requires.seat;
   parts = refl;
   kept = λ x h. h;
@@ -114,9 +114,6 @@ pub returns-clause-least : goal.returns-clause-least
 returns-clause-least g c =
     let empty = of_false c.has_next.result (boxes_of c.boxes.searcher ≡ []) c.boxes-test.false c.has_next.ensures.none in
     λ e. covered c.law_inside_order.ensures c.law_branches.ensures (least_of c.args.run.now.model.now c.args.run.now.program.now c.args.run.now.node_limit c.args.run.now.round_limit (costs_seen c.boxes.seat) c.args.sub.now) refl (premises c.args.run.now.model.now c.args.run.now.program.now c.args.run.now.node_limit c.args.run.now.round_limit c.args.sub.now c.requires.run.program c.requires.run.model c.requires.inside c.len-length.ensures.in_range (costs_seen c.boxes.seat)) c.requires.run.model (boxes_of c.boxes.searcher) c.boxes.invariant.lowest c.boxes.invariant.count c.boxes.found c.boxes.invariant.reached c.law_finds_least.ensures empty c.boxes.invariant.low
-
-pub returns-in_err-searcher-clause-err : goal.returns-in_err-searcher-clause-err
-returns-in_err-searcher-clause-err g c = on_any_err _ (broken_at_start (least_of c.args.run.now.model.now c.args.run.now.program.now c.args.run.now.node_limit c.args.run.now.round_limit (costs_seen c.args.seat.now) c.args.sub.now) (costs_posted c.args.seat.now))
 
 pub returns-in_err-node-clause-err : goal.returns-in_err-node-clause-err
 returns-in_err-node-clause-err g c = on_any_err _

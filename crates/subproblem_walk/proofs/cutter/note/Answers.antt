@@ -1,7 +1,7 @@
 use Rattle.std.proofs.Common.{ℕ, ◌<◌, Option, subst}
 use Rattle.std.specs.Prelude.{IfSome}
 use Rattle.moved_fixpoint.specs.Moved.{count_of}
-use Rattle.subproblem_walk.specs.Nodes.{IsMadeBy}
+use Rattle.moved_fixpoint.specs.Made.{IsMadeBy}
 use Rattle.subproblem_walk.proofs.CutterLemmas.{one_noted, all_noted}
 use Rattle.subproblem_walk.proofs.cutter.note.Goals as goal
 

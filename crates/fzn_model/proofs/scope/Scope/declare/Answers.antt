@@ -19,8 +19,8 @@ invariant_of-self-2 c =
     let name = c.args.name.items in
     let absent = ap (λ s. meaning_of s name) c.self.view_is ∙ c.requires in
     let more = ap declared_in c.in_ok-insert.ensures.entries ∙ declared_last c.self.inside.entries c.args.name c.args.meaning absent in
-    let slots = c.make.new.self.slots.items in
+    let hints = c.make.new.self.hints.items in
     let named = subst (λ n. IfSome c.of-hint.result (λ h. (name_in h ≡ n) × (meaning_in h ≡ c.args.meaning))) c.as_slice.ensures.value c.of-hint.ensures in
     c.put.ensures (declared_in c.insert.new.self.entries)
-    (subst (λ s. AreRight s slots) (sym more) (hints_stay scope (name, c.args.meaning) slots (c.make.ensures scope c.self.invariant)))
+    (subst (λ s. AreRight s hints) (sym more) (hints_stay scope (name, c.args.meaning) hints (subst (AreRight scope) (sym c.make.ensures) c.self.invariant)))
     (subst (λ s. IfSome c.of-hint.result (IsRight s)) (sym more) (hint_right scope name c.args.meaning c.of-hint.result absent named))

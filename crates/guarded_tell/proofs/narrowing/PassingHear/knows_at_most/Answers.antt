@@ -5,9 +5,9 @@ use Rattle.std.proofs.lemmas.Int.{to_z-of_z}
 use mir.Syntax.{w64, w128}
 use Rattle.std.specs.List.{All}
 use Rattle.guarded_tell.specs.Words.{Keeps}
-use Rattle.guarded_tell.specs.Linear.{product_at_most}
+use Rattle.sum_tells.specs.Linear.{product_at_most}
 use Rattle.guarded_tell.specs.declared.narrowing.Passing.{Passing}
-use Rattle.guarded_tell.proofs.NarrowingLaws.{kept_passes}
+use Rattle.tell_laws.proofs.NarrowingLaws.{kept_passes}
 use Rattle.guarded_tell.proofs.narrowing.PassingHear.knows_at_most.Goals as goal
 
 pub returns : goal.returns

@@ -5,7 +5,7 @@ use Rattle.narrowing.specs.Narrowing.{IsNarrowed}
 use Rattle.narrowing.specs.Narrowers.{LetsRestWhereFixed}
 use Rattle.search.specs.Nodes.{IsSettled}
 use Rattle.search.specs.Stacks.{boxes_of, IsFrontNear}
-use Rattle.search.proofs.SearcherLaws.{opened, when_open, near_inside}
+use Rattle.search.proofs.SearcherLaws.{opened, when_open, near_inside, from_left}
 use Rattle.search.proofs.NodeLaws.{top_dropped, top_settled, top_given_up, within_rounds}
 use Rattle.search.proofs.searcher.Searcher.node.Goals as goal
 
@@ -42,3 +42,12 @@ returns-in_ok-settle-in-Fixed-clause-visit g c =
     (subst (IsNarrowed c.args.run.now.program.now.kernels c.args.run.now.round_limit c.cut.new.self.boxes.current c.narrow.new.self.boxes.current) c.in-Fixed.is c.in_ok-narrow.ensures.narrowed))
     (subst (λ (ls : List Left). IsSettled c.args.run.now.model.now c.narrow.new.self.boxes.current (left_boxes ls) (boxes_of c.settle.new.self) c.args.found.now c.settle.new.found) (c.in_ok-narrow.ensures.stack ∙ c.in_ok-cut.ensures.stack)
     c.in_ok-settle-in-Fixed.ensures.settled)
+
+pub returns-in-GivenUp-clause-again : goal.returns-in-GivenUp-clause-again
+returns-in-GivenUp-clause-again g c = from_left c.args.run.now c.narrow.new.self _ c.in_ok-narrow.ensures.left (c.in_ok-narrow.ensures.count ∙ c.in_ok-cut.ensures.count)
+
+pub returns-in_ok-back-in-Failed-clause-again : goal.returns-in_ok-back-in-Failed-clause-again
+returns-in_ok-back-in-Failed-clause-again g c = from_left c.args.run.now c.back.new.self _ c.in_ok-back-in-Failed.ensures.ready.left (c.in_ok-back-in-Failed.ensures.count ∙ c.in_ok-narrow.ensures.count ∙ c.in_ok-cut.ensures.count)
+
+pub returns-in_ok-settle-in-Fixed-clause-again : goal.returns-in_ok-settle-in-Fixed-clause-again
+returns-in_ok-settle-in-Fixed-clause-again g c = from_left c.args.run.now c.settle.new.self _ c.in_ok-settle-in-Fixed.ensures.ready.left (c.in_ok-settle-in-Fixed.ensures.count ∙ c.in_ok-narrow.ensures.count ∙ c.in_ok-cut.ensures.count)

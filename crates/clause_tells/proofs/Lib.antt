@@ -1,0 +1,2 @@
+pub mod ClauseTells
+pub mod ClauseLaws

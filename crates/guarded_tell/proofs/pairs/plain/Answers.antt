@@ -1,6 +1,0 @@
--- Its bounds.
-use Rattle.guarded_tell.proofs.PairLaws.{plain_term}
-use Rattle.guarded_tell.proofs.pairs.plain.Goals as goal
-
-pub returns : goal.returns
-returns c = plain_term c.args.b.now c.args.var c.low.result c.high.result c.low.ensures.in_range c.high.ensures.in_range c.low.ensures.value c.high.ensures.value c.requires.proper

@@ -1,0 +1,12 @@
+-- Two terms of a sum that aren't fixed, by their places.
+use Rattle.std.specs.Prelude.{ℕ, ℤ, pos, ◌<ℤ◌, ◌<◌, List, length, slice_index, slice_index_or}
+use Rattle.interval.specs.Boxes.{Bounds}
+use Rattle.sum_tells.specs.Linear.{least_of, greatest_of}
+
+pub record AreTwoOpen (b : Bounds) (coeffs : List ℤ) (vars : List ℕ) : Type 0 where
+  pub first : ℕ
+  pub second : ℕ
+  pub rising : first < second
+  pub inside : second < length coeffs
+  pub first_open : least_of b (slice_index_or coeffs first (pos 0), slice_index vars first) <ℤ greatest_of b (slice_index_or coeffs first (pos 0), slice_index vars first)
+  pub second_open : least_of b (slice_index_or coeffs second (pos 0), slice_index vars second) <ℤ greatest_of b (slice_index_or coeffs second (pos 0), slice_index vars second)

@@ -1,0 +1,3 @@
+pub mod ShortTellLaws
+pub mod GrowthLaws
+pub mod ShortSumLaws

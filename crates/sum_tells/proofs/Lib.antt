@@ -1,0 +1,16 @@
+pub mod TermLaws
+pub mod ProductLaws
+pub mod BoundLaws
+pub mod SumLaws
+pub mod TermTellLaws
+pub mod LeLaws
+pub mod LePoint
+pub mod LePlace
+pub mod EqualityCode
+pub mod EqualityLaws
+pub mod EqualityPoint
+pub mod EqualityPlace
+pub mod PartedLaws
+pub mod QuotientLaws
+pub mod SumLists
+pub mod TermPlaces

@@ -1,0 +1,11 @@
+-- The two differences are exact.
+use Rattle.std.proofs.Common.{◌∙◌}
+use Rattle.sum_tells.specs.Equality.{is_same}
+use Rattle.sum_tells.proofs.EqualityCode.{coded_difference}
+use Rattle.sum_tells.proofs.equality.are_others_fixed.Goals as goal
+
+pub returns : goal.returns
+returns c =
+    let least = coded_difference c.args.sum.least c.args.term.least c.requires.least_sum c.requires.least_term in
+    let greatest = coded_difference c.args.sum.greatest c.args.term.greatest c.requires.greatest_sum c.requires.greatest_term in
+    c.is_same.ensures ∙ (λ i. is_same (least i) (greatest i))

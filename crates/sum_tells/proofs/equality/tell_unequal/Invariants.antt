@@ -1,0 +1,9 @@
+-- The tells of the terms that are left may be heard, and lead to where all the terms' tells lead.
+use Rattle.std.specs.List.{zip}
+use Rattle.sum_tells.specs.Equality.{unequal_tell}
+use Rattle.tell_laws.proofs.HearingLaws.{LeadsOn}
+use Rattle.sum_tells.proofs.equality.tell_unequal.Given as goal
+
+abbrev pub invariant-loop-i : goal.invariant-loop-i
+invariant-loop-i g l =
+    LeadsOn g.H.Hear.can_hear g.H.Hear.hears (unequal_tell l.b l.fn.equation.limit l.fn.equation.sum.least l.fn.equation.sum.greatest) (zip l.coeffs l.vars) l.initial.h l.i l.h

@@ -52,7 +52,7 @@ module _ (model : FznModel) (options : Options) (n : options.node_limit ≡ 0) (
   pub first_unlimited : (results : List FirstEnd) (number : ℕ) (path : Option Bounds) (end : FirstEnd) → IsFirstResult model options results number path end → IsFirstSpent end → ⊥
   first_unlimited results number path (FirstEnd.Done answer) h s = s
   first_unlimited results number path (FirstEnd.Cut lesser) h s = s
-  first_unlimited results number None (FirstEnd.Spent nodes why) h s = let e : FirstEnd.Spent nodes why ≡ FirstEnd.Done None = h in absurd cc
+  first_unlimited results number None (FirstEnd.Spent nodes why) h s = h
   first_unlimited results number (Some sub) (FirstEnd.Spent nodes why) h s = limited _ why nodes [] n r h
 
   pub all_unlimited : (number : ℕ) (path : Option Bounds) (end : AllEnd) → IsAllResult model options number path end → IsAllSpent end → ⊥

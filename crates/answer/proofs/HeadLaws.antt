@@ -34,10 +34,7 @@ module _ (one : OneList) (model : FznModel) (rule : IsSearchOf model) (options :
   -- an end that is one of what the number leads to gives the head of its list
   done_head : (number : ℕ) (path : Option Bounds) (answer : Option Assignment) (own : List Assignment) → Is number path (FirstEnd.Done answer) →
       SolutionsOf model (kernels_of model) path own → answer ≡ head_of own
-  done_head number None answer own h s = same answer h ∙ ap head_of (sym s)
-    where
-      same : (answer : Option Assignment) → FirstEnd.Done answer ≡ FirstEnd.Done None → answer ≡ None
-      same answer e = cc
+  done_head number None answer own h s = h ∙ ap head_of (sym s)
   done_head number (Some sub) answer own h s = h.is_head ∙ ap head_of (one model (kernels_of model) sub h.solutions own rule h.listed s)
 
   -- no lesser number has a solution
@@ -48,8 +45,7 @@ module _ (one : OneList) (model : FznModel) (rule : IsSearchOf model) (options :
   AreRest number rs = (j : ℕ) (r : FirstEnd) → StandsAt rs j r → StandsAt results (number + j) r
 
   not_cut : (number : ℕ) (path : Option Bounds) (lesser : ℕ) → NoneBefore number → Is number path (FirstEnd.Cut lesser) → ⊥
-  not_cut number None lesser none h = let e : FirstEnd.Cut lesser ≡ FirstEnd.Done None = h in absurd cc
-  not_cut number (Some sub) lesser none h = none lesser h.0 h.1 h.2
+  not_cut number path lesser none h = none lesser h.0 h.1 h.2
 
   rest_after : (number : ℕ) (r : FirstEnd) (rs : List FirstEnd) → AreRest number (r ∷ rs) → AreRest (suc number) rs
   rest_after number r rs rest j s h =

@@ -1,11 +1,13 @@
 -- One run of a job.
-use Rattle.std.proofs.Common.{◌≡◌, ℕ, ℤ, List, [], ◌∷◌, ◌++◌, length, Option, None, Some, refl, sym, subst, inr}
-use Rattle.interval.specs.Boxes.{Bounds, IsInside}
+use Rattle.std.proofs.Common.{◌≡◌, ℕ, ◌<◌, ◌^◌, ℤ, List, [], ◌∷◌, ◌++◌, length, Option, None, Some, refl, sym, subst, inr}
+use Rattle.std.specs.Prelude.{slice_index_or}
+use Rattle.interval.specs.Boxes.{Bounds, IsInside, IsInRange, InsideOrder}
 use Rattle.guarded_tell.specs.declared.kernel.Kernel.{Kernel}
 use Rattle.constraint_model.specs.declared.model.FznModel.{FznModel}
 use Rattle.decompose.specs.Kernels.{kernels_of}
 use Rattle.best_bound.specs.Lists.{Among, with_seen}
-use Rattle.subproblems.specs.Paths.{LeadsTo}
+use Rattle.subproblems.specs.Cuts.{CanBeCut}
+use Rattle.subproblems.specs.Paths.{LeadsTo, PathLaws}
 use Rattle.search.specs.declared.kind.Kind.{Kind}
 use Rattle.search.specs.declared.ends.FirstEnd.{FirstEnd}
 use Rattle.search.specs.declared.ends.AllEnd.{AllEnd}
@@ -19,6 +21,7 @@ use Rattle.answer.specs.Places.{HasResult}
 use Rattle.answer.specs.Results.{first_of}
 use Rattle.answer.specs.Runs.{IsFirstRun, AreFirstRuns, AreAllRuns}
 use Rattle.answer.proofs.RunLists.{AllAmong, first_run_more, all_run_more}
+use Rattle.answer.proofs.ListedLaws.{is_program, can_be_cut}
 
 module _ {L : Type 0} (plan : Plan L) (is : IsPlan plan) where
   abbrev model : FznModel
@@ -67,6 +70,19 @@ module _ {L : Type 0} (plan : Plan L) (is : IsPlan plan) where
       AreFirstRuns model plan.options plan.start.now after posts (runs ++ (number, end) ∷ [])
   first_run_some seen after posted posts number sub end runs h all is_end e k =
       first_run_more model plan.options plan.start.now seen after posted posts runs number end k all (first_some number after sub end h is_end) e
+
+  -- a number above one that has a solution, wherever it leads
+  pub first_run_cut : (order : InsideOrder) (laws : PathLaws) → IsInRange plan.start.now → (seen after posted posts : List ℕ) (number lesser : ℕ) (runs : List (ℕ × FirstEnd)) →
+      number < 2 ^ plan.options.depth → lesser < number → Among after lesser → AllAmong seen after → posts ≡ posted → AreFirstRuns model plan.options plan.start.now seen posted runs →
+      AreFirstRuns model plan.options plan.start.now after posts (runs ++ (number, FirstEnd.Cut lesser) ∷ [])
+  first_run_cut order laws range seen after posted posts number lesser runs below less there all e k =
+      let paths = laws.every model (kernels_of model) plan.options.depth plan.start.now can in
+      first_run_more model plan.options plan.start.now seen after posted posts runs number (FirstEnd.Cut lesser) k all
+      (record { path = slice_index_or paths.0 number None; leads = paths.1.each number below; is_result = (less, there) }) e
+    where
+      can : CanBeCut model (kernels_of model) plan.start.now
+      can = can_be_cut order model is.run.model.search (is_program model plan.run.now.program.now is.run.program) plan.start.now
+          (subst (λ (b : Bounds). IsInside plan.start.now b) is.run.program.start is.inside) range
 
   -- ---- for all solutions
 

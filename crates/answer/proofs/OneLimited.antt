@@ -102,10 +102,12 @@ agree_with (FirstEnd.Cut lesser) xs ys rest = let own = rest refl in (own.0, λ 
 module _ (ends : EndLaws) (laws : PathLaws) (model : FznModel) (rule : IsSearchOf model) (options : Options) (no_rounds : options.round_limit ≡ 0) where
   first_end : (number : ℕ) (results others : List FirstEnd) (path : Option Bounds) (end other : FirstEnd) → IsFirstResult model options results number path end → IsFirstResult model options others number path other →
       IsUncut end → IsUncut other → end ≡ other
-  first_end number results others None end other h k c d = h ∙ sym k
-  first_end number results others (Some sub) (FirstEnd.Cut lesser) other h k c d = absurd c
-  first_end number results others (Some sub) (FirstEnd.Done answer) (FirstEnd.Cut lesser) h k c d = absurd d
-  first_end number results others (Some sub) (FirstEnd.Spent nodes why) (FirstEnd.Cut lesser) h k c d = absurd d
+  first_end number results others path (FirstEnd.Cut lesser) other h k c d = absurd c
+  first_end number results others path (FirstEnd.Done answer) (FirstEnd.Cut lesser) h k c d = absurd d
+  first_end number results others path (FirstEnd.Spent nodes why) (FirstEnd.Cut lesser) h k c d = absurd d
+  first_end number results others None (FirstEnd.Spent nodes why) other h k c d = absurd h
+  first_end number results others None (FirstEnd.Done answer) (FirstEnd.Spent nodes why) h k c d = absurd k
+  first_end number results others None (FirstEnd.Done answer) (FirstEnd.Done given) h k c d = ap FirstEnd.Done (h ∙ sym k)
   first_end number results others (Some sub) (FirstEnd.Done answer) (FirstEnd.Done given) h k c d =
       let same = one_done ends (first_of model options sub) rule refl no_rounds h.found k.found h.ends k.ends in
       ap FirstEnd.Done (h.recorded ∙ ap head_of same ∙ sym k.recorded)
@@ -135,8 +137,7 @@ module _ (ends : EndLaws) (laws : PathLaws) (model : FznModel) (rule : IsSearchO
     uncut : (list : List FirstEnd) (number : ℕ) (path : Option Bounds) (end : FirstEnd) → NoneBefore list number → IsFirstResult model options list number path end → IsUncut end
     uncut list number path (FirstEnd.Done answer) none own = tt
     uncut list number path (FirstEnd.Spent nodes why) none own = tt
-    uncut list number None (FirstEnd.Cut lesser) none own = let e : FirstEnd.Cut lesser ≡ FirstEnd.Done None = own in absurd cc
-    uncut list number (Some sub) (FirstEnd.Cut lesser) none own = none lesser own.0 own.1 own.2
+    uncut list number path (FirstEnd.Cut lesser) none own = none lesser own.0 own.1 own.2
 
     same_here : (number : ℕ) (end other : FirstEnd) → StandsAt results number end → StandsAt others number other → NoneBefore results number → NoneBefore others number → end ≡ other
     same_here number end other there here none nowhere =

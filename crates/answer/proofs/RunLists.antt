@@ -63,10 +63,11 @@ results_of model depth b Is runs ends order each = record {
 
 module _ (model : FznModel) (options : Options) (b : Bounds) where
   first_kept : (seen more : List ℕ) → AllAmong seen more → (number : ℕ) (path : Option Bounds) (end : FirstEnd) → IsFirstRun model options seen number path end → IsFirstRun model options more number path end
-  first_kept seen more all number None end h = h
+  first_kept seen more all number path (FirstEnd.Cut lesser) h = (h.0, all lesser h.1)
+  first_kept seen more all number None (FirstEnd.Done answer) h = h
+  first_kept seen more all number None (FirstEnd.Spent nodes why) h = h
   first_kept seen more all number (Some sub) (FirstEnd.Done answer) h = h
   first_kept seen more all number (Some sub) (FirstEnd.Spent nodes why) h = h
-  first_kept seen more all number (Some sub) (FirstEnd.Cut lesser) h = (h.0, all lesser h.1)
 
   first_result_kept : (seen more : List ℕ) → AllAmong seen more → (number : ℕ) (end : FirstEnd) →
       HasResult model options.depth b (IsFirstRun model options seen) number end → HasResult model options.depth b (IsFirstRun model options more) number end
@@ -89,6 +90,14 @@ module _ (model : FznModel) (options : Options) (b : Bounds) where
       | inl l ↦ let s = h.solved number l in (s.0, Contains-append_left runs runs2 (number, FirstEnd.Done (Some s.0)) s.1)
       | inr r ↦ let s = k.solved number r in (s.0, Contains-append_right runs runs2 (number, FirstEnd.Done (Some s.0)) s.1)
     ];
+  }
+
+  -- what is known of runs stays as the seat sees more
+  pub first_runs_kept : (seen after posted posts : List ℕ) (runs : List (ℕ × FirstEnd)) → AllAmong seen after → posts ≡ posted → AreFirstRuns model options b seen posted runs →
+      AreFirstRuns model options b after posts runs
+  first_runs_kept seen after posted posts runs all e h = record {
+    each = λ number end there. first_result_kept seen after all number end (h.each number end there);
+    solved = λ number there. h.solved number (subst (λ (xs : List ℕ). Among xs number) e there);
   }
 
   abbrev Solved : List (ℕ × FirstEnd) → ℕ → FirstEnd → ℕ → Type 0
@@ -124,10 +133,11 @@ module _ (model : FznModel) (options : Options) (b : Bounds) where
       (λ number end there. result_kept model options.depth b (IsFirstRun model options seen) (IsFirstResult model options ends) is_result number end (h.each number end there))
     where
       is_result : (number : ℕ) (path : Option Bounds) (end : FirstEnd) → IsFirstRun model options seen number path end → IsFirstResult model options ends number path end
-      is_result number None end k = k
+      is_result number None (FirstEnd.Done answer) k = k
+      is_result number None (FirstEnd.Spent nodes why) k = k
       is_result number (Some sub) (FirstEnd.Done answer) k = k
       is_result number (Some sub) (FirstEnd.Spent nodes why) k = k
-      is_result number (Some sub) (FirstEnd.Cut lesser) k =
+      is_result number path (FirstEnd.Cut lesser) k =
           let s = h.solved lesser (all lesser k.1) in (s.0, k.0, (order.places lesser (FirstEnd.Done (Some s.0))).0 s.1)
 
   -- ---- for all solutions

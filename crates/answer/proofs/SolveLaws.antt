@@ -86,11 +86,7 @@ module _ (order : InsideOrder) (laws : PathLaws) (cuts : CutLaws) (records : Rec
         IsFirstResult model options results number path r → Solve (first_collected r)
     first_solves results number path (FirstEnd.Spent nodes why) leads h = All-nil (IsSolution model)
     first_solves results number path (FirstEnd.Cut lesser) leads h = All-nil (IsSolution model)
-    first_solves results number None (FirstEnd.Done answer) leads h = nothing answer h
-      where
-        nothing : (answer : Option Assignment) → FirstEnd.Done answer ≡ FirstEnd.Done None → Solve (listed answer)
-        nothing None e = All-nil (IsSolution model)
-        nothing (Some a) e = absurd cc
+    first_solves results number None (FirstEnd.Done answer) leads h = subst (λ (o : Option Assignment). Solve (listed o)) (sym h) (All-nil (IsSolution model))
     first_solves results number (Some sub) (FirstEnd.Done answer) leads h =
         head_solves h.found answer h.recorded
         (done_solve (first_of model options sub) h.found refl (inside_start Kind.First options.node_limit options.round_limit [] sub (in_box number sub leads) (ranged number sub leads)) h.ends)

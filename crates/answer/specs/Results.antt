@@ -32,14 +32,15 @@ listed (Some a) = a ∷ []
 abbrev pub first_of : FznModel → Options → Bounds → Search
 first_of model options sub = search_of model (program_of model) options.node_limit options.round_limit Kind.First sub
 
--- The result of a number: none where there is no subproblem, else an end of its limited search; or the search was
--- cancelled, since a lesser number's result is a solution.
+-- The result of a number: none where there is no subproblem, else an end of its limited search; or the number was cancelled,
+-- whatever it leads to, since a lesser number's result is a solution.
 abbrev pub IsFirstResult : FznModel → Options → List FirstEnd → ℕ → Option Bounds → FirstEnd → Type 0
-IsFirstResult model options results number None end = end ≡ FirstEnd.Done None
+IsFirstResult model options results number path (FirstEnd.Cut lesser) =
+    (a : Assignment) × (lesser < number) × StandsAt results lesser (FirstEnd.Done (Some a))
+IsFirstResult model options results number None (FirstEnd.Done answer) = answer ≡ None
+IsFirstResult model options results number None (FirstEnd.Spent nodes why) = ⊥
 IsFirstResult model options results number (Some sub) (FirstEnd.Done answer) = IsFirstDone (first_of model options sub) answer
 IsFirstResult model options results number (Some sub) (FirstEnd.Spent nodes why) = EndsSpent (first_of model options sub) why nodes []
-IsFirstResult model options results number (Some sub) (FirstEnd.Cut lesser) =
-    (a : Assignment) × (lesser < number) × StandsAt results lesser (FirstEnd.Done (Some a))
 
 abbrev pub AreFirstResults : FznModel → Options → Bounds → List FirstEnd → Type 0
 AreFirstResults model options b results = AreResults model options.depth b (IsFirstResult model options results) results

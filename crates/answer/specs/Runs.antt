@@ -31,10 +31,11 @@ pub record HasSolution (model : FznModel) (depth : ℕ) (b : Bounds) (number : �
 -- The end of the run of a number by a seat that has seen these numbers. A seat sees more and more: what one run saw least is
 -- still among them.
 abbrev pub IsFirstRun : FznModel → Options → List ℕ → ℕ → Option Bounds → FirstEnd → Type 0
-IsFirstRun model options seen number None end = end ≡ FirstEnd.Done None
+IsFirstRun model options seen number path (FirstEnd.Cut lesser) = (lesser < number) × Among seen lesser
+IsFirstRun model options seen number None (FirstEnd.Done answer) = answer ≡ None
+IsFirstRun model options seen number None (FirstEnd.Spent nodes why) = ⊥
 IsFirstRun model options seen number (Some sub) (FirstEnd.Done answer) = IsFirstDone (first_of model options sub) answer
 IsFirstRun model options seen number (Some sub) (FirstEnd.Spent nodes why) = EndsSpent (first_of model options sub) why nodes []
-IsFirstRun model options seen number (Some sub) (FirstEnd.Cut lesser) = (lesser < number) × Among seen lesser
 
 -- each number was run, and those that were posted have a solution
 pub record AreFirstRuns (model : FznModel) (options : Options) (b : Bounds) (seen posted : List ℕ) (runs : List (ℕ × FirstEnd)) : Type 0 where

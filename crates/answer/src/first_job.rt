@@ -1,8 +1,11 @@
 //! The search of all subproblems for the first solution.
 
-ghost use Rattle.std.specs.Prelude.{◌≡◌, ◌<◌, ◌↔◌, ℕ, [], IfOk};
+ghost use Rattle.std.specs.Prelude.{◌≡◌, ◌<◌, ◌≤◌, ◌↔◌, ℕ, [], Some, None, IfOk, IfSome};
 ghost use Rattle.crew.specs.AtWork.{IsRun};
 ghost use Rattle.crew.specs.Ends.{AreEndsOf};
+ghost use Rattle.best_bound.specs.Lists.{Among, IsLeastNumber};
+ghost use Rattle.best_bound.specs.Seats.{IsFoundSeatOf, found_parts, numbers_seen, numbers_posted};
+ghost use Rattle.search.specs.Ends.{IsCut};
 ghost use Rattle.answer.specs.Plans.{IsPlan, IsCrewFor, model_of};
 ghost use Rattle.answer.specs.Results.{AreFirstResults};
 ghost use Rattle.answer.specs.Runs.{HasSolution};
@@ -11,13 +14,14 @@ ghost use Rattle.answer.specs.Jobs.{numbers_of, Owns, FirstFits, FirstParts, Fir
 use crate::plan::{Own, Plan, numbers_to, subproblem};
 use best_bound::{Found, FoundSeat, Numbers};
 use crew::{Gate as CrewGate, Job, Workers, run_numbers};
-use interval::NoMemory;
+use interval::{NoMemory, law_inside_order};
 use list_of::ListOf;
 use rounds::Gate;
 use search::{FirstEnd, Start, run_first_from};
 use std::alloc::Global;
 use std::marker::{Brand, PhantomData};
 use std::thread::Threads;
+use subproblems::law_paths;
 
 /// Which numbers lead to a solution, for contracts alone.
 pub(crate) trait OfParts {
@@ -75,8 +79,25 @@ impl<L, M: OfParts> Job<FoundSeat, Own, FirstEnd> for FirstJob<'_, L, M> {
     }
 }
 
-/// Searches the subproblem of a number for its first solution, unless a lesser number has one.
-fn run_number<R: Threads + Sync, L: Gate + Sync, M: OfParts>(
+/// The least number that has a solution of those that the seat then sees, if it is below `number`.
+fn lesser_seen<N: Numbers>(found: &Found<N>, seat: &mut FoundSeat, number: u32) -> Option<u32>
+    requires seat { IsFoundSeatOf found.now seat.old }
+    ensures seat { IsFoundSeatOf found.now seat.new }
+    ensures parts { found_parts seat.new ≡ found_parts seat.old }
+    ensures posted { numbers_posted seat.new ≡ numbers_posted seat.old }
+    ensures seen { (n : ℕ) → Among (numbers_seen seat.old) n → Among (numbers_seen seat.new) n }
+    ensures below { IfSome result (λ n. n < number) }
+    ensures least { IfSome result (λ n. IsLeastNumber (numbers_seen seat.new) (Some n)) }
+    ensures none { result ≡ None → (n : ℕ) → Among (numbers_seen seat.new) n → number ≤ n }
+{
+    match found.seen(seat) {
+        Some(n) if n < number => Some(n),
+        _ => None,
+    }
+}
+
+/// Goes to the subproblem of a number, and searches it for its first solution.
+fn run_there<R: Threads + Sync, L: Gate + Sync, M: OfParts>(
     rt: &R,
     alloc: Global,
     job: &FirstJob<'_, L, M>,
@@ -110,6 +131,32 @@ fn run_number<R: Threads + Sync, L: Gate + Sync, M: OfParts>(
             Ok(end)
         }
     }
+}
+
+/// Searches the subproblem of a number for its first solution, unless a lesser number has one: then it isn't gone to.
+fn run_number<R: Threads + Sync, L: Gate + Sync, M: OfParts>(
+    rt: &R,
+    alloc: Global,
+    job: &FirstJob<'_, L, M>,
+    own: &mut Own,
+    seat: &mut FoundSeat,
+    number: u32,
+) -> Result<FirstEnd, NoMemory>
+    requires number { number < numbers_of job.now.plan.now }
+    requires owns { Owns job.now.plan.now own.old }
+    requires fits { FirstFits job.now seat.old }
+    requires numbers { (number : ℕ) → M.has_solution number ↔ HasSolution (model_of job.now.plan.now) job.now.plan.now.options.depth job.now.plan.now.start.now number }
+    ensures run { IsRun (FirstFits job.now) FirstParts (Owns job.now.plan.now) (FirstStands job.now) own.new seat.old seat.new number result }
+    ensures at_once { (n : ℕ) → Among (numbers_seen seat.old) n → n < number → IfOk result IsCut × (own.new ≡ own.old) }
+{
+    law_inside_order();
+    law_paths();
+    // its contract says that the bounds are in range
+    let _length = job.plan.start.len();
+    if let Some(lesser) = lesser_seen(job.found, seat, number) {
+        return Ok(FirstEnd::Cut(lesser));
+    }
+    run_there(rt, alloc, job, own, seat, number)
 }
 
 /// Runs all numbers, each once.

@@ -68,14 +68,15 @@ fn is_factor_quiet(x: (i64, i64), y: (i64, i64), z: (i64, i64)) -> bool
     }
 }
 
-/// Whether `z` is at most one of the products of the factor with the two bounds.
+/// Whether `z` is at most one of the products of the factor with the two bounds. Where none is below zero, the second is the
+/// greater.
 fn is_under_one(z: i64, factor: i64, y: (i64, i64)) -> bool
     requires factor { IsBound factor }
     requires low { IsBound y.0 }
     requires high { IsBound y.1 }
     ensures { OnTrue result (IsUnderOne z factor y) }
 {
-    z as i128 <= product(factor, y.0) || z as i128 <= product(factor, y.1)
+    z as i128 <= product(factor, y.1) || z as i128 <= product(factor, y.0)
 }
 
 /// Whether `z` is at least one of the products of the factor with the two bounds.

@@ -30,7 +30,7 @@ pub(crate) fn look<L: Law>(table: &Table<L>, place: &mut Place) -> u64
     table.shared.load::<Looks<L>>(place, 0)
 }
 
-/// Posts a word: the least of it and what stands there stands there then.
+/// Posts a word: the shared word becomes the least of the two.
 pub(crate) fn tell<L: Law>(table: &Table<L>, place: &mut Place, word: u64) -> u64
     requires table { place.old.table_id ≡ table.now.shared.table_id }
     requires words { 0 < table.now.shared.table_id.words }

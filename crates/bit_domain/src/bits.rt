@@ -4,7 +4,7 @@ ghost use Rattle.std.specs.Prelude.{◌≡◌, ◌≢◌, ◌<◌, ◌∷◌};
 ghost use Rattle.bit_domain.specs.Bits.{members, IsSubset, IsLeast, IsGreatest};
 
 /// The least member of a set.
-pub fn least(set: u64) -> u32
+pub(crate) fn least(set: u64) -> u32
     requires { set ≢ 0 }
     ensures { IsLeast set result }
 {
@@ -12,7 +12,7 @@ pub fn least(set: u64) -> u32
 }
 
 /// The greatest member of a set.
-pub fn greatest(set: u64) -> u32
+pub(crate) fn greatest(set: u64) -> u32
     requires { set ≢ 0 }
     ensures { IsGreatest set result }
 {

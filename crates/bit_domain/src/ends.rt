@@ -9,7 +9,7 @@ use crate::Dom;
 use crate::bits::{greatest, least};
 
 /// The least number; 1 where there are bits and none is set.
-pub fn least_of(dom: Dom) -> i64
+pub(crate) fn least_of(dom: Dom) -> i64
     requires { IsDomInRange dom }
     ensures value { result ≡ (hull_of dom).0 }
     ensures in_range { IsBound result }
@@ -21,7 +21,7 @@ pub fn least_of(dom: Dom) -> i64
 }
 
 /// The greatest number; 0 where there are bits and none is set.
-pub fn greatest_of(dom: Dom) -> i64
+pub(crate) fn greatest_of(dom: Dom) -> i64
     requires { IsDomInRange dom }
     ensures value { result ≡ (hull_of dom).1 }
     ensures in_range { IsBound result }

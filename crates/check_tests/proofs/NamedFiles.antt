@@ -7,7 +7,7 @@ use Rattle.clap.specs.Simple.{matches_of}
 use Rattle.clap.specs.Faults.{fault_of}
 use Rattle.clap.proofs.OnLiterals.{clap_on_literals}
 use Rattle.fzn_check.specs.Words.{command, names_in, names_of, texts_of}
-use Rattle.fzn_check.specs.Outcome.{CanOpen}
+use Rattle.fzn_check.specs.Outcome.{CanOpenFiles}
 
 abbrev pub words : List Text
 words = codes "fzncheck" ∷ codes "m.fzn" ∷ codes "s.txt" ∷ []
@@ -20,7 +20,7 @@ unfolding clap_on_literals
 asks_for_files = refl
 
 -- a source that tells those files alone may be opened
-pub can_open_files : (ws : List (String Global)) (names : List (List ℕ)) → texts_of ws ≡ words → names ≡ codes "m.fzn" ∷ codes "s.txt" ∷ [] → CanOpen (Some names) (names_of ws)
+pub can_open_files : (ws : List (String Global)) (names : List (List ℕ)) → texts_of ws ≡ words → names ≡ codes "m.fzn" ∷ codes "s.txt" ∷ [] → CanOpenFiles (Some names) (names_of ws)
 can_open_files ws names texts alone =
-    let at_words : CanOpen (Some names) (names_at words) = subst (λ a. CanOpen (Some names) a) (sym asks_for_files) alone in
-    subst (λ ts. CanOpen (Some names) (names_at ts)) (sym texts) at_words
+    let at_words : CanOpenFiles (Some names) (names_at words) = subst (λ a. CanOpenFiles (Some names) a) (sym asks_for_files) alone in
+    subst (λ ts. CanOpenFiles (Some names) (names_at ts)) (sym texts) at_words

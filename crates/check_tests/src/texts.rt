@@ -88,7 +88,7 @@ const WRONG: &[(&str, &str, &str)] = &[
         "x = 3;\ny = 4;\n----------\n",
         "solution 1 outside y\n",
     ),
-    // The greatest number of the profile.
+    // The greatest number that a text may have.
     (
         FACTORS,
         "x = 140737488355327;\ny = 1;\n----------\n",
@@ -154,7 +154,7 @@ const BAD: &[(&str, &str)] = &[
     (FACTORS, "x = 02;\ny = -3;\n----------\n"),
     (FACTORS, "x = 2 ;\ny = -3;\n----------\n"),
     (FACTORS, "x = ;\ny = -3;\n----------\n"),
-    // One past the profile.
+    // One more than a text may have.
     (FACTORS, "x = 140737488355328;\ny = 1;\n----------\n"),
     (
         FACTORS,

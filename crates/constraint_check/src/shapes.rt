@@ -15,7 +15,7 @@ use crate::tasks::{Tasks, is_cumulative};
 use crate::values::{sum_of, value_of};
 use constraint_model::{Operand, Term};
 
-/// What numbers have to be, by the shape of the arguments that they stand for.
+/// What is asked of the values of arguments, by the arguments' shape.
 #[derive(Debug, Clone, Copy, PartialEq, Eq)]
 pub(crate) enum Test {
     /// Two numbers compare so.

@@ -12,7 +12,7 @@ use shared_list::SharedList;
 use std::alloc::{AllocError, Global};
 use std::marker::Model;
 
-/// The entries of an array, seen by contracts as the list of what they stand for. Beside them stand their terms alone,
+/// The entries of an array, seen by contracts as the list of their meanings. Beside them stand their terms alone,
 /// which the constraints that name the array share, their variables, which search annotations share, and what each of them
 /// is, so that a constraint that names the array needn't go through them.
 #[derive(Drop)]
@@ -69,7 +69,7 @@ impl Entries {
         })
     }
 
-    /// What they stand for.
+    /// Their meanings.
     pub fn as_slice(&self) -> &[Scalar]
         ensures { result.now ≡ self.now }
     {

@@ -1,4 +1,4 @@
-//! What a name or an argument stands for.
+//! The meaning of a name or of an argument.
 
 use crate::entries::Entries;
 use crate::model::Term;
@@ -13,7 +13,7 @@ pub struct Scalar {
     pub term: Term,
 }
 
-/// What an array stands for.
+/// The meaning of an array.
 #[derive(Drop)]
 pub struct Array {
     /// Its entries.
@@ -22,7 +22,7 @@ pub struct Array {
     pub number: Option<usize>,
 }
 
-/// What a name or an expression stands for.
+/// The meaning of a name or of an expression.
 #[derive(Drop)]
 pub enum Meaning {
     /// A boolean or an integer.

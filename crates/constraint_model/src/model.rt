@@ -9,7 +9,7 @@ use shared_list::SharedList;
 /// What stands where a variable may stand.
 #[derive(Debug, Clone, Copy)]
 pub enum Term {
-    /// A number of the profile; a boolean constant is 0 or 1.
+    /// A number from the opposite of `LARGEST` to `LARGEST`; a boolean constant is 0 or 1.
     Number(i64),
     /// A variable, by its place among the declared variables from 0.
     Var(u32),

@@ -1,4 +1,4 @@
-//! What stands in a program for the long declared arrays that are named twice or more.
+//! The lists of a program that represent the long declared arrays which are named twice or more.
 
 ghost use Rattle.std.specs.Prelude.{◌≡◌, ◌++◌, [], ◌∷◌, IfSome, OnOk, OnErr, Some, Contains};
 
@@ -10,7 +10,7 @@ use std::collections::{BTreeMap, BTreeSet};
 /// The mark of a list that one propagator alone has.
 pub(crate) const NO_MARK: usize = 0;
 
-/// What stands for an array: the variables where it stands as terms, the numbers where it stands as coefficients.
+/// The lists of an array: its variables where it is named as terms, its numbers where it is named as coefficients.
 #[derive(Drop)]
 pub(crate) struct MappedList {
     /// The place of the array among the declared ones.
@@ -21,10 +21,10 @@ pub(crate) struct MappedList {
     pub numbers: SharedList<i64>,
 }
 
-/// What stands for several arrays. It is found by the number of an array.
+/// The lists of several arrays, found by the number of an array.
 #[derive(Drop)]
 pub(crate) struct MappedLists {
-    /// What stands for the arrays.
+    /// The lists of each array.
     pub entries: Vec<MappedList>,
     /// The place of each array's number among them.
     places: BTreeMap<usize, usize>,
@@ -62,7 +62,7 @@ impl MappedLists {
         self.entries.len() + 1
     }
 
-    /// What stands for an array, where it is a declared one and was added.
+    /// The lists of an array, where it is a declared one and they were added.
     pub(crate) fn find(&self, row: &ArrayTerms) -> Option<&MappedList>
         ensures { IfSome result (λ list. Contains self.now.entries.items list.now × (row.now.number ≡ Some list.now.number)) }
     {
@@ -76,7 +76,7 @@ impl MappedLists {
         }
     }
 
-    /// Adds what stands for an array. Where memory is refused, the entries are as before.
+    /// Adds the lists of an array. Where memory is refused, the entries are as before.
     pub(crate) fn add(&mut self, list: MappedList) -> Result<(), AllocError>
         ensures added { OnOk result (self.new.entries.items ≡ self.old.entries.items ++ list ∷ []) }
         ensures unchanged { OnErr result (self.new.entries.items ≡ self.old.entries.items) }

@@ -176,7 +176,7 @@ impl Places {
         }
     }
 
-    /// What stands for the declared array of this number, which has these terms.
+    /// The lists of the declared array of this number, which has these terms.
     fn mapped(&self, alloc: Global, number: usize, terms: &[Term]) -> Result<MappedList, AllocError>
         requires declared { All (IsDeclared self.now.numbering.count) terms.now }
         requires numbered { slice_get self.now.arrays number ≡ Some terms.now }
@@ -190,7 +190,7 @@ impl Places {
         })
     }
 
-    /// Adds what stands for such an array, where it is named the second time and has nothing yet. Contracts see the same
+    /// Adds the lists of such an array, where it is named the second time and has none yet. Contracts see the same
     /// places.
     fn add_row(&mut self, alloc: Global, number: usize, terms: &[Term]) -> Result<(), AllocError>
         requires declared { All (IsDeclared self.old.numbering.count) terms.now }
@@ -204,7 +204,7 @@ impl Places {
         self.lists.add(list)
     }
 
-    /// Adds what stands for an argument that is a long declared array, of whose terms the model is an owner too, and was named
+    /// Adds the lists of an argument that is a long declared array, of whose terms the model is an owner too, and was named
     /// before.
     fn add_operand(&mut self, alloc: Global, operand: &Operand) -> Result<(), AllocError>
         requires declared { HasDeclared self.old.numbering.count operand.now }
@@ -222,7 +222,7 @@ impl Places {
         }
     }
 
-    /// Adds what stands for such arguments.
+    /// Adds the lists of such arguments.
     fn add_operands(&mut self, alloc: Global, operands: &[Operand]) -> Result<(), AllocError>
         requires declared { All (HasDeclared self.old.numbering.count) operands.now }
         requires numbered { All (HasNumber self.old.arrays) operands.now }
@@ -234,7 +234,7 @@ impl Places {
         Ok(())
     }
 
-    /// The same places, with what stands for the long declared arrays that are named more than once, so
+    /// The same places, with the lists of the long declared arrays that are named more than once, so
     /// that the propagators which name one have its lists together.
     pub(crate) fn with_lists(
         self,

@@ -27,13 +27,13 @@ abbrev pub declared_dom : Mix → ℕ → Dom
 declared_dom m v = dom_of m (v + 1)
 
 -- the line of a variable of this name
-abbrev pub variable_line : Mix → List ℕ → Term → List ℕ
-variable_line m name (Term.Var v) = name ++ codes ": " ++ dom_text (declared_dom m v) ++ codes ";" ++ line_end
-variable_line m name (Term.Number z) = []
+abbrev pub named_line : Mix → List ℕ → Term → List ℕ
+named_line m name (Term.Var v) = name ++ codes ": " ++ dom_text (declared_dom m v) ++ codes ";" ++ line_end
+named_line m name (Term.Number z) = []
 
 -- the line of an output; one that is no variable, as a parameter or an array, has none
 abbrev pub domain_line : Mix → Output → List ℕ
-domain_line m (Output.Scalar name is_bool t) = variable_line m name t
+domain_line m (Output.Scalar name is_bool t) = named_line m name t
 domain_line m (Output.Array name is_bool ranges entries) = []
 
 -- the lines of a model's outputs, in the order of the declarations

@@ -8,4 +8,3 @@ mod sets;
 
 pub use laws::law_one_domain_text;
 pub use left::domains_of;
-pub use lines::print_domains;

@@ -2,7 +2,7 @@
 
 ghost use Rattle.std.specs.Prelude.{◌≡◌, ◌++◌, IfOk, OnOk, flat_map};
 ghost use Rattle.bit_domain.specs.Mixes.{IsDomInRange};
-ghost use Rattle.domain_text.specs.Domains.{declared_dom, dom_text, domain_line, domain_text, variable_line};
+ghost use Rattle.domain_text.specs.Domains.{declared_dom, dom_text, domain_line, domain_text, named_line};
 
 use crate::sets::push_dom;
 use bit_domain::{Dom, MixOf};
@@ -11,7 +11,11 @@ use interval::NoMemory;
 use std::alloc::{AllocError, Global};
 
 /// The text of domains: a line for each output of the model that is a variable by itself.
-pub fn print_domains(alloc: Global, model: &FznModel, mix: &MixOf) -> Result<Vec<u8>, NoMemory>
+pub(crate) fn print_domains(
+    alloc: Global,
+    model: &FznModel,
+    mix: &MixOf,
+) -> Result<Vec<u8>, NoMemory>
     ensures { IfOk result (λ text. text.items ≡ domain_text model.now mix.now) }
 {
     let mut text = Vec::new(alloc);
@@ -41,7 +45,7 @@ fn push_line(text: &mut Vec<u8>, output: &Output, mix: &MixOf) -> Result<(), All
 
 /// Adds the line of a variable of this name; nothing for a number.
 fn push_variable(text: &mut Vec<u8>, name: &[u8], term: Term, mix: &MixOf) -> Result<(), AllocError>
-    ensures { OnOk result (text.new.items ≡ text.old.items ++ variable_line mix.now name.now term) }
+    ensures { OnOk result (text.new.items ≡ text.old.items ++ named_line mix.now name.now term) }
 {
     match term {
         Term::Var(v) => {

@@ -6,3 +6,4 @@ pub mod CommonLaws
 pub mod ExtremeLaws
 pub mod MaximumLaws
 pub mod MinimumLaws
+pub mod QuietLaws

@@ -13,5 +13,5 @@ pub use laws::{
     law_maximum_local, law_maximum_monotone, law_maximum_place, law_maximum_point,
     law_minimum_local, law_minimum_monotone, law_minimum_place, law_minimum_point,
 };
-pub use maximum::visit_max;
-pub use minimum::visit_min;
+pub use maximum::{is_max_quiet, visit_max};
+pub use minimum::{is_min_quiet, visit_min};

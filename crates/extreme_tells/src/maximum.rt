@@ -1,16 +1,17 @@
 //! The greatest of a list of variables.
 
-ghost use Rattle.std.specs.Prelude.{◌≡◌, ◌<◌, [], ◌∷◌, length};
+ghost use Rattle.std.specs.Prelude.{◌≡◌, ◌<◌, ◌≤ℤ◌, [], ◌∷◌, length, IfSome};
+ghost use Rattle.std.specs.Bool.{OnTrue};
 ghost use Rattle.std.specs.Int.{int_max};
-ghost use Rattle.std.specs.List.{filter};
+ghost use Rattle.std.specs.List.{All, filter};
 ghost use Rattle.interval.specs.Boxes.{low_of, high_of};
-ghost use Rattle.tells.specs.Words.{AreVariables};
+ghost use Rattle.tells.specs.Words.{AreVariables, Keeps};
 ghost use Rattle.tells.specs.Words as words;
 ghost use Rattle.tells.specs.Hearing.{MayHearAll, HearsAll};
 ghost use Rattle.extreme_tells.specs.Extremes.{greatest_over, sole, told_each, told_of};
 ghost use Rattle.extreme_tells.specs.Maximum.{max_reaches, max_member_tells, max_some_tells, max_tells};
 
-use interval::BoxOf;
+use interval::{BoxOf, law_clamp_order};
 use tells::{Hear, high_tell, low_tell, no_number};
 
 /// The greatest low and the greatest high of a list of variables.
@@ -161,4 +162,42 @@ fn reaches(m: u32, x: u32, b: &BoxOf) -> bool
     ensures { result ≡ max_reaches m b.now x }
 {
     b.low(m) <= b.high(x)
+}
+
+/// Whether the greatest of the list is seen to tell nothing: m lies in the reach of the list and can be as great, and where one
+/// variable alone can be as great as m, it is no less.
+pub fn is_max_quiet(m: u32, xs: &[u32], b: &BoxOf) -> bool
+    requires { AreVariables (length b.now) (m ∷ xs.now) }
+    ensures { OnTrue result (All (Keeps b.now) (max_tells m xs.now b.now)) }
+{
+    law_clamp_order();
+    // its contract says that the bounds are in range
+    let _length = b.len();
+    if xs.is_empty() {
+        return false;
+    }
+    is_reach_kept(m, reach_of(xs, b), b) && is_sole_kept(m, sole_reaching(m, xs, b), b)
+}
+
+/// Whether m lies in the reach and can be as great.
+fn is_reach_kept(m: u32, reach: Reach, b: &BoxOf) -> bool
+    requires { m < length b.now }
+    ensures low { OnTrue result (reach.low ≤ℤ low_of b.now m) }
+    ensures from { OnTrue result (high_of b.now m ≤ℤ reach.high) }
+    ensures to { OnTrue result (reach.high ≤ℤ high_of b.now m) }
+{
+    let high = b.high(m);
+    reach.low <= b.low(m) && high <= reach.high && reach.high <= high
+}
+
+/// Whether the variable that was found, if one was, is no less than m can be.
+fn is_sole_kept(m: u32, found: Option<u32>, b: &BoxOf) -> bool
+    requires m { m < length b.now }
+    requires found { IfSome found (λ x. x < length b.now) }
+    ensures { OnTrue result (IfSome found (λ x. low_of b.now m ≤ℤ low_of b.now x)) }
+{
+    match found {
+        Some(x) => b.low(m) <= b.low(x),
+        None => true,
+    }
 }

@@ -1,16 +1,17 @@
 //! The least of a list of variables.
 
-ghost use Rattle.std.specs.Prelude.{◌≡◌, ◌<◌, [], ◌∷◌, length};
+ghost use Rattle.std.specs.Prelude.{◌≡◌, ◌<◌, ◌≤ℤ◌, [], ◌∷◌, length, IfSome};
+ghost use Rattle.std.specs.Bool.{OnTrue};
 ghost use Rattle.std.specs.Int.{int_min};
-ghost use Rattle.std.specs.List.{filter};
+ghost use Rattle.std.specs.List.{All, filter};
 ghost use Rattle.interval.specs.Boxes.{high_of, low_of};
-ghost use Rattle.tells.specs.Words.{AreVariables};
+ghost use Rattle.tells.specs.Words.{AreVariables, Keeps};
 ghost use Rattle.tells.specs.Words as words;
 ghost use Rattle.tells.specs.Hearing.{MayHearAll, HearsAll};
 ghost use Rattle.extreme_tells.specs.Extremes.{least_over, sole, told_each, told_of};
 ghost use Rattle.extreme_tells.specs.Minimum.{min_reaches, min_member_tells, min_some_tells, min_tells};
 
-use interval::BoxOf;
+use interval::{BoxOf, law_clamp_order};
 use tells::{Hear, high_tell, low_tell, no_number};
 
 /// The least high and the least low of a list of variables.
@@ -161,4 +162,42 @@ fn reaches(m: u32, x: u32, b: &BoxOf) -> bool
     ensures { result ≡ min_reaches m b.now x }
 {
     b.high(m) >= b.low(x)
+}
+
+/// Whether the least of the list is seen to tell nothing: m lies in the reach of the list and can be as small, and where one
+/// variable alone can be as small as m, it is no greater.
+pub fn is_min_quiet(m: u32, xs: &[u32], b: &BoxOf) -> bool
+    requires { AreVariables (length b.now) (m ∷ xs.now) }
+    ensures { OnTrue result (All (Keeps b.now) (min_tells m xs.now b.now)) }
+{
+    law_clamp_order();
+    // its contract says that the bounds are in range
+    let _length = b.len();
+    if xs.is_empty() {
+        return false;
+    }
+    is_reach_kept(m, reach_of(xs, b), b) && is_sole_kept(m, sole_reaching(m, xs, b), b)
+}
+
+/// Whether m lies in the reach and can be as small.
+fn is_reach_kept(m: u32, reach: Reach, b: &BoxOf) -> bool
+    requires { m < length b.now }
+    ensures high { OnTrue result (high_of b.now m ≤ℤ reach.high) }
+    ensures from { OnTrue result (reach.low ≤ℤ low_of b.now m) }
+    ensures to { OnTrue result (low_of b.now m ≤ℤ reach.low) }
+{
+    let low = b.low(m);
+    b.high(m) <= reach.high && reach.low <= low && low <= reach.low
+}
+
+/// Whether the variable that was found, if one was, is no greater than m can be.
+fn is_sole_kept(m: u32, found: Option<u32>, b: &BoxOf) -> bool
+    requires m { m < length b.now }
+    requires found { IfSome found (λ x. x < length b.now) }
+    ensures { OnTrue result (IfSome found (λ x. high_of b.now x ≤ℤ high_of b.now m)) }
+{
+    match found {
+        Some(x) => b.high(x) <= b.high(m),
+        None => true,
+    }
 }

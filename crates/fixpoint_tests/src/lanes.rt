@@ -15,7 +15,7 @@ use std::alloc::{AllocError, Global};
 use std::process::Abort;
 use std::sync::atomic::{AtomicBool, Ordering};
 use std::test::Fail;
-use std::thread::Threads;
+use std::thread::{Threads, yield_now};
 
 /// What propagation gives: the bounds of all variables or none, and the rounds.
 fn outcome<R: Threads + Sync, G: Gate + Sync>(
@@ -269,12 +269,13 @@ impl Meet {
     }
 }
 
-/// Waits for the other lane, for so many turns.
+/// Waits for the other lane, for so many turns in which others may run.
 fn wait_for(flag: &AtomicBool, gave_up: &AtomicBool) {
-    for _ in 0..200_000_000u32 {
+    for _ in 0..20_000_000u32 {
         if flag.load(Ordering::SeqCst) {
             return;
         }
+        yield_now();
     }
     gave_up.store(true, Ordering::SeqCst);
 }

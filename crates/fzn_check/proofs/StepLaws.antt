@@ -16,7 +16,7 @@ use Rattle.model_text.specs.Texts.{HasFaultOn, IsFaultOf, IsTextOf, most_bytes, 
 use Rattle.model_text.specs.Files.{IsFaultOfTold, WasAsked, refusal_line}
 use Rattle.fzn_check.specs.Lines.{bad_text_line}
 use Rattle.fzn_check.specs.Endings.{Ends, EndsEarly, EndsJudged, EndsLate, EndsRead, IsBadText}
-use Rattle.fzn_check.specs.Outcome.{Asked, CanOpen, EndsFor, IsEnd, IsErrorLine, IsKnown, IsStop, IsVerdict, IsVerdictLine, MayEndEarly, MayEndLate, NamesFiles, Told, WereAsked, WereAskedFor, Wrote, WroteFront, plain_line}
+use Rattle.fzn_check.specs.Outcome.{AskedFiles, CanOpenFiles, EndsFor, IsEnd, IsErrorLine, IsKnown, IsStop, IsVerdict, IsVerdictLine, MayEndEarly, MayEndLate, NamesFiles, Told, WereAsked, WereAskedFor, Wrote, WroteFront, plain_line}
 use Rattle.fzn_check.specs.Steps.{IsEarlyEnd, IsEarlyEnding, IsEarlyText, IsEnding, IsHeldEnd, IsHeldEnding, IsJudgement, IsLateEnd, IsLateEnding, IsReadCause, IsUnread, IsWordsCause, JudgesWith, StopsWith, status_in}
 use Rattle.fzn_check.specs.declared.ending.Ending.{Ending}
 use Rattle.fzn_check.specs.declared.status.Status.{Status}
@@ -25,15 +25,15 @@ use Rattle.fzn_check.proofs.EndLaws.{bad_late_alone, early_only, judged_verdict,
 
 -- ---- the names that a source may be asked for
 
-pub first_name : (names : Option (List (List ℕ))) (asked : Text × Text) → CanOpen names (Some asked) → IsNextName names asked.0
+pub first_name : (names : Option (List (List ℕ))) (asked : Text × Text) → CanOpenFiles names (Some asked) → IsNextName names asked.0
 first_name None asked can = tt
 first_name (Some []) asked can = let bad : [] ≡ asked.0 ∷ asked.1 ∷ [] = can in cc
 first_name (Some (next ∷ later)) asked can = let e : next ∷ later ≡ asked.0 ∷ asked.1 ∷ [] = can in cc
 
-pub second_name : (names after : Option (List (List ℕ))) (asked : Text × Text) → CanOpen names (Some asked) → after ≡ later_names names → IsNextName after asked.1
+pub second_name : (names after : Option (List (List ℕ))) (asked : Text × Text) → CanOpenFiles names (Some asked) → after ≡ later_names names → IsNextName after asked.1
 second_name names after asked can left = subst (λ n. IsNextName n asked.1) (sym left) (of_later names asked can)
   where
-    of_later : (names : Option (List (List ℕ))) (asked : Text × Text) → CanOpen names (Some asked) → IsNextName (later_names names) asked.1
+    of_later : (names : Option (List (List ℕ))) (asked : Text × Text) → CanOpenFiles names (Some asked) → IsNextName (later_names names) asked.1
     of_later None asked can = tt
     of_later (Some []) asked can = let bad : [] ≡ asked.0 ∷ asked.1 ∷ [] = can in cc
     of_later (Some (next ∷ [])) asked can = let bad : next ∷ [] ≡ asked.0 ∷ asked.1 ∷ [] = can in cc
@@ -224,7 +224,7 @@ not_early Hidden verdict early = verdict
 not_read_fault : (status : Status) → IsVerdict status → status ≡ ReadFault → ⊥
 not_read_fault status verdict is = subst IsVerdict is verdict
 
-pub written_asked : (held : Told) (asked : Asked) (before after : Option (List (List ℕ))) (left : Option (List ℕ)) (is_open : Bool) (status result : Status) → IsVerdict status
+pub written_asked : (held : Told) (asked : AskedFiles) (before after : Option (List (List ℕ))) (left : Option (List ℕ)) (is_open : Bool) (status result : Status) → IsVerdict status
     → (result ≡ status) ⊎ (result ≡ WriteFault) → WereAskedFor held asked before after left is_open status → WereAskedFor held asked before after left is_open result
 written_asked held None before after left is_open status result verdict ends were = absurd were
 written_asked held (Some names) before after left is_open status result verdict ends (inl early) = absurd (not_early status verdict early.0)

@@ -2,13 +2,13 @@
 use Rattle.std.proofs.Common.{◌≡◌, ◌⊎◌, inl, inr, ℕ, List, [], Option, Some, None, refl, sym, subst, ◌∙◌}
 use Rattle.fzn_io.specs.Faults.{CountRose}
 use Rattle.fzn_io.specs.Streams.{Adds, AddsFront, IsHeld}
-use Rattle.fzn_check.specs.Outcome.{Asked, EndsFor, IsEnd, IsErrorLine, IsKnown, IsStop, IsVerdict, IsVerdictLine, NamesFiles, Told, WereAskedFor, Wrote, WroteFront, plain_line}
+use Rattle.fzn_check.specs.Outcome.{AskedFiles, EndsFor, IsEnd, IsErrorLine, IsKnown, IsStop, IsVerdict, IsVerdictLine, NamesFiles, Told, WereAskedFor, Wrote, WroteFront, plain_line}
 use Rattle.fzn_check.specs.Steps.{IsWordsCause}
 use Rattle.fzn_check.specs.declared.status.Status.{Status}
 use Rattle.fzn_check.specs.declared.status.Status.TheVariants.{Right, Usage, Refused, ReadFault, WriteFault, NoMemory, Wrong as WrongSolution, BadText, Hidden}
 
 -- the error line of a status that no text gives, and of one that a text gives
-plain_error : (held : Told) (asked : Asked) (status : Status) (line : List ℕ) → (IsStop status → ⊥) → line ≡ plain_line status → IsErrorLine held asked status line
+plain_error : (held : Told) (asked : AskedFiles) (status : Status) (line : List ℕ) → (IsStop status → ⊥) → line ≡ plain_line status → IsErrorLine held asked status line
 plain_error held asked Right line never is = is
 plain_error held asked Usage line never is = is
 plain_error held asked (Refused kind number) line never is = absurd (never tt)
@@ -19,7 +19,7 @@ plain_error held asked WrongSolution line never is = is
 plain_error held asked BadText line never is = absurd (never tt)
 plain_error held asked Hidden line never is = absurd (never tt)
 
-stop_error : (held : Told) (asked : Asked) (status : Status) (line : List ℕ) → IsStop status → IsEnd held asked status line → IsErrorLine held asked status line
+stop_error : (held : Told) (asked : AskedFiles) (status : Status) (line : List ℕ) → IsStop status → IsEnd held asked status line → IsErrorLine held asked status line
 stop_error held asked Right line stop is = absurd stop
 stop_error held asked Usage line stop is = absurd stop
 stop_error held asked (Refused kind number) line stop is = is
@@ -42,12 +42,12 @@ verdict_no_stop BadText verdict stop = verdict
 verdict_no_stop Hidden verdict stop = verdict
 
 -- something that ends the check was asked for
-asked_some : (tells : Option (Option (List ℕ)) → List ℕ → Type 0) (held : Told) (asked : Asked) (status : Status) (line : List ℕ) → asked ≡ None → EndsFor tells held asked status line → ⊥
-asked_some tells held asked status line none ends = subst (λ (a : Asked). EndsFor tells held a status line) none ends
+asked_some : (tells : Option (Option (List ℕ)) → List ℕ → Type 0) (held : Told) (asked : AskedFiles) (status : Status) (line : List ℕ) → asked ≡ None → EndsFor tells held asked status line → ⊥
+asked_some tells held asked status line none ends = subst (λ (a : AskedFiles). EndsFor tells held a status line) none ends
 
 -- ---- a verdict: written, or not
 
-module _ (held : Told) (asked : Asked) (status result : Status) (line : List ℕ) (verdict : IsVerdict status) (is_end : IsEnd held asked status line)
+module _ (held : Told) (asked : AskedFiles) (status result : Status) (line : List ℕ) (verdict : IsVerdict status) (is_end : IsEnd held asked status line)
     (ends : (result ≡ status) ⊎ (result ≡ WriteFault)) where
   result_is : IsVerdict result ⊎ (result ≡ WriteFault)
   result_is = elim ends [ inl same ↦ inl (subst IsVerdict (sym same) verdict) | inr fault ↦ inr fault ]
@@ -87,7 +87,7 @@ module _ (held : Told) (asked : Asked) (status result : Status) (line : List ℕ
 
 -- ---- a text that stops the check
 
-module _ (held : Told) (asked : Asked) (status : Status) (line : List ℕ) (stop : IsStop status) (is_end : IsEnd held asked status line) where
+module _ (held : Told) (asked : AskedFiles) (status : Status) (line : List ℕ) (stop : IsStop status) (is_end : IsEnd held asked status line) where
   pub stop_never : (other : Status) → (IsStop other → ⊥) → status ≡ other → ⊥
   stop_never other never is = never (subst IsStop is stop)
 
@@ -108,7 +108,7 @@ module _ (held : Told) (asked : Asked) (status : Status) (line : List ℕ) (stop
 
 -- ---- a status that no text gives
 
-module _ (asked : Asked) (before after : ℕ) where
+module _ (asked : AskedFiles) (before after : ℕ) where
   pub plain_is : (status : Status) → IsWordsCause asked before after status → ((status ≡ Usage) × (asked ≡ None)) ⊎ (((status ≡ ReadFault) × (NamesFiles asked × CountRose before after)) ⊎ (status ≡ NoMemory))
   plain_is Right cause = absurd cause
   plain_is Usage cause = inl (refl, cause)

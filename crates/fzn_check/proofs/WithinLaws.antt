@@ -6,9 +6,9 @@ use Rattle.constraint_model.specs.declared.model.VarDecl.{VarDecl}
 use Rattle.constraint_model.specs.declared.model.Constraint.{Constraint}
 use Rattle.constraint_model.specs.declared.model.FznModel.{FznModel}
 use Rattle.constraint_model.specs.Relations.{Holds, IsSolution, IsWithin}
-use Rattle.fzn_check.specs.Wrong.{HoldsAt, IsInside, IsFirstFailing, IsFirstOf, IsFirstViolated}
+use Rattle.fzn_check.specs.Wrong.{HoldsAt, IsInBounds, IsFirstFailing, IsFirstOf, IsFirstViolated}
 
-pub all_inside : (vars : List VarDecl) (a : List ℤ) → length a ≡ length vars → ((v : ℕ) → v < length vars → IsInside vars a v) → IsWithin a vars
+pub all_inside : (vars : List VarDecl) (a : List ℤ) → length a ≡ length vars → ((v : ℕ) → v < length vars → IsInBounds vars a v) → IsWithin a vars
 all_inside [] [] same each = tt
 all_inside [] (z ∷ zs) same each = absurd (omega arith)
 all_inside (d ∷ ds) [] same each = absurd (omega arith)

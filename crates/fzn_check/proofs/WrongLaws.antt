@@ -7,7 +7,7 @@ use Rattle.constraint_model.specs.declared.model.Constraint.{Constraint}
 use Rattle.constraint_model.specs.declared.model.FznModel.{FznModel}
 use Rattle.constraint_model.specs.Relations.{Holds, IsSolution, IsWithin}
 use Rattle.constraint_check.specs.Asked.{HoldsNumbered}
-use Rattle.fzn_check.specs.Wrong.{IsFirstOutside, IsFirstViolated, IsInside, IsWrong}
+use Rattle.fzn_check.specs.Wrong.{IsFirstOutside, IsFirstViolated, IsInBounds, IsWrong}
 use Rattle.fzn_check.specs.Endings.{IsFirstBad}
 use Rattle.fzn_check.specs.declared.wrong.Wrong.{Wrong}
 
@@ -18,7 +18,7 @@ first_alone holds a b fails other before earlier = elim (cases_order a b) [
   | inr apart ↦ elim apart [ inl less ↦ absurd (fails (earlier a less)) | inr more ↦ absurd (other (before b more)) ]
 ]
 
-inside_of : (vars : List VarDecl) (a : List ℤ) (v : ℕ) → IsWithin a vars → v < length vars → IsInside vars a v
+inside_of : (vars : List VarDecl) (a : List ℤ) (v : ℕ) → IsWithin a vars → v < length vars → IsInBounds vars a v
 inside_of [] a v within inside = absurd (omega arith)
 inside_of (d ∷ ds) [] v within inside = absurd within
 inside_of (d ∷ ds) (z ∷ zs) zero within inside = λ e. (within.0, within.1)
@@ -36,7 +36,7 @@ none_wrong model a (Wrong.Violates number) solves wrong = wrong.violated (one_ho
 
 -- the first that is wrong is one
 outside_alone : (vars : List VarDecl) (a : List ℤ) (v u : ℕ) → IsFirstOutside vars a v → IsFirstOutside vars a u → v ≡ u
-outside_alone vars a v u h g = first_alone (IsInside vars a) v u h.outside g.outside h.before g.before
+outside_alone vars a v u h g = first_alone (IsInBounds vars a) v u h.outside g.outside h.before g.before
 
 violated_alone : (model : FznModel) (a : List ℤ) (m n : ℕ) → IsFirstViolated model a m → IsFirstViolated model a n → m ≡ n
 violated_alone model a m n h g =

@@ -9,8 +9,8 @@ use Rattle.fzn_print.specs.AnswerText.{line_end}
 use Rattle.fzn_check.specs.declared.wrong.Wrong.{Wrong}
 
 -- what a declared variable is called
-abbrev pub variable_name : FznModel → ℕ → List ℕ
-variable_name model v = option_map_or (λ d. d.name) (slice_get model.vars v) []
+abbrev pub declared_name : FznModel → ℕ → List ℕ
+declared_name model v = option_map_or (λ d. d.name) (slice_get model.vars v) []
 
 -- what the constraint of this number, counted from 1, is called
 abbrev pub constraint_name : FznModel → ℕ → List ℕ
@@ -18,7 +18,7 @@ constraint_name model number = option_map_or (λ c. spelled c.name) (slice_get m
 
 -- what is wrong
 abbrev pub wrong_text : FznModel → Wrong → List ℕ
-wrong_text model (Wrong.Outside v) = codes "outside " ++ variable_name model v
+wrong_text model (Wrong.Outside v) = codes "outside " ++ declared_name model v
 wrong_text model (Wrong.Violates number) = codes "violates " ++ decimal number ++ codes " " ++ constraint_name model number
 
 -- the solution at this place, counted from 0, is the first that is wrong
@@ -31,7 +31,7 @@ right_line count = codes "ok " ++ decimal count ++ line_end
 
 -- a variable isn't printed
 abbrev pub hidden_line : FznModel → ℕ → List ℕ
-hidden_line model v = codes "hidden " ++ variable_name model v ++ line_end
+hidden_line model v = codes "hidden " ++ declared_name model v ++ line_end
 
 -- the text is the text of no answer
 abbrev pub bad_text_line : List ℕ

@@ -14,20 +14,20 @@ abbrev pub Told : Type 0
 Told = List ℕ → Option (Option (List ℕ))
 
 -- The names of the two files, where the words are taken.
-abbrev pub Asked : Type 0
-Asked = Option (Text × Text)
+abbrev pub AskedFiles : Type 0
+AskedFiles = Option (Text × Text)
 
 -- The bytes are told, and these are they.
 abbrev pub IsKnown : Option (Option (List ℕ)) → List ℕ → Type 0
 IsKnown held text = held ≡ Some (Some text)
 
 -- The check of the files that the words name ends so, by what `tells` says of the bytes that a name holds.
-abbrev pub EndsFor : (Option (Option (List ℕ)) → List ℕ → Type 0) → Told → Asked → Status → List ℕ → Type 0
+abbrev pub EndsFor : (Option (Option (List ℕ)) → List ℕ → Type 0) → Told → AskedFiles → Status → List ℕ → Type 0
 EndsFor tells held None status line = ⊥
 EndsFor tells held (Some names) status line = Ends (tells (held names.0)) (tells (held names.1)) status line
 
 -- The check may end so; and where the bytes are known it ends in no other way.
-pub record IsEnd (held : Told) (asked : Asked) (status : Status) (line : List ℕ) : Type 0 where
+pub record IsEnd (held : Told) (asked : AskedFiles) (status : Status) (line : List ℕ) : Type 0 where
   pub ends : EndsFor IsHeld held asked status line
   pub alone : (other : Status) (text : List ℕ) → EndsFor IsKnown held asked other text → (other ≡ status) × (text ≡ line)
 
@@ -52,7 +52,7 @@ plain_line WriteFault = codes "write fault" ++ line_end
 plain_line NoMemory = codes "out of memory" ++ line_end
 plain_line _ = []
 
-abbrev pub IsErrorLine : Told → Asked → Status → List ℕ → Type 0
+abbrev pub IsErrorLine : Told → AskedFiles → Status → List ℕ → Type 0
 IsErrorLine held asked (Refused kind number) line = IsEnd held asked (Refused kind number) line
 IsErrorLine held asked BadText line = IsEnd held asked BadText line
 IsErrorLine held asked Hidden line = IsEnd held asked Hidden line
@@ -70,7 +70,7 @@ pub record WroteFront (IsLine : List ℕ → Type 0) (before after : Option (Lis
   pub added : AddsFront before after line
 
 -- The line of a verdict.
-pub record IsVerdictLine (held : Told) (asked : Asked) (line : List ℕ) : Type 0 where
+pub record IsVerdictLine (held : Told) (asked : AskedFiles) (line : List ℕ) : Type 0 where
   pub status : Status
   pub verdict : IsVerdict status
   pub is_end : IsEnd held asked status line
@@ -78,12 +78,12 @@ pub record IsVerdictLine (held : Told) (asked : Asked) (line : List ℕ) : Type 
 -- ---- what the source may be asked for, and was asked for
 
 -- Where a source tells the names that it may be asked for, they are these two.
-abbrev pub CanOpen : Option (List (List ℕ)) → Asked → Type 0
-CanOpen None asked = Unit {0}
-CanOpen (Some names) None = Unit {0}
-CanOpen (Some names) (Some (model, solutions)) = names ≡ model ∷ solutions ∷ []
+abbrev pub CanOpenFiles : Option (List (List ℕ)) → AskedFiles → Type 0
+CanOpenFiles None asked = Unit {0}
+CanOpenFiles (Some names) None = Unit {0}
+CanOpenFiles (Some names) (Some (model, solutions)) = names ≡ model ∷ solutions ∷ []
 
-abbrev pub NamesFiles : Asked → Type 0
+abbrev pub NamesFiles : AskedFiles → Type 0
 NamesFiles None = ⊥
 NamesFiles (Some names) = Unit {0}
 
@@ -108,7 +108,7 @@ WereAsked held names before after left is_open status =
     (MayEndEarly status × WasAsked (held names.0) before after left is_open (status ≡ ReadFault))
     ⊎ (MayEndLate status × WasAsked (held names.1) (later_names before) after left is_open (status ≡ ReadFault))
 
-abbrev pub WereAskedFor : Told → Asked → (before after : Option (List (List ℕ))) → Option (List ℕ) → Bool → Status → Type 0
+abbrev pub WereAskedFor : Told → AskedFiles → (before after : Option (List (List ℕ))) → Option (List ℕ) → Bool → Status → Type 0
 WereAskedFor held None before after left is_open status = ⊥
 WereAskedFor held (Some names) before after left is_open status = WereAsked held names before after left is_open status
 

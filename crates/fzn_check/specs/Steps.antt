@@ -7,7 +7,7 @@ use Rattle.constraint_model.specs.declared.model.FznModel.{FznModel}
 use Rattle.fzn_print.specs.declared.answers.Answer.{Answer}
 use Rattle.fzn_check.specs.Endings.{EndsEarly, EndsJudged, EndsLate}
 use Rattle.fzn_check.specs.Lines.{bad_text_line}
-use Rattle.fzn_check.specs.Outcome.{Asked, IsEnd, IsStop, IsVerdict, MayEndEarly, MayEndLate, NamesFiles, Told}
+use Rattle.fzn_check.specs.Outcome.{AskedFiles, IsEnd, IsStop, IsVerdict, MayEndEarly, MayEndLate, NamesFiles, Told}
 use Rattle.fzn_check.specs.declared.status.Status.{Status}
 use Rattle.fzn_check.specs.declared.status.Status.TheVariants.{Usage, ReadFault, NoMemory, BadText}
 use Rattle.fzn_check.specs.declared.ending.Ending.{Ending}
@@ -37,7 +37,7 @@ IsReadCause before after ReadFault = CountRose before after
 IsReadCause before after NoMemory = Unit {0}
 IsReadCause before after _ = ⊥
 
-abbrev pub IsWordsCause : Asked → ℕ → ℕ → Status → Type 0
+abbrev pub IsWordsCause : AskedFiles → ℕ → ℕ → Status → Type 0
 IsWordsCause asked before after Usage = asked ≡ None
 IsWordsCause asked before after ReadFault = NamesFiles asked × CountRose before after
 IsWordsCause asked before after NoMemory = Unit {0}
@@ -99,7 +99,7 @@ IsUnread ReadError.NoMemory end = end ≡ Ending.Plain NoMemory
 
 -- ---- an end of the whole
 
-abbrev pub IsEnding : Told → Asked → ℕ → ℕ → Ending → Type 0
+abbrev pub IsEnding : Told → AskedFiles → ℕ → ℕ → Ending → Type 0
 IsEnding held asked before after (Ending.Judged status line) = IsVerdict status × IsEnd held asked status line.items
 IsEnding held asked before after (Ending.Stopped status line) = IsStop status × IsEnd held asked status line.items
 IsEnding held asked before after (Ending.Plain status) = IsWordsCause asked before after status

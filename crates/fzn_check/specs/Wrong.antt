@@ -10,14 +10,14 @@ use Rattle.constraint_check.specs.Asked.{HoldsNumbered}
 use Rattle.fzn_check.specs.declared.wrong.Wrong.{Wrong}
 
 -- a variable is within the bounds that it starts with
-abbrev pub IsInside : List VarDecl → List ℤ → ℕ → Type 0
-IsInside vars a v = (d : VarDecl) → ((slice_index_or vars v d).low ≤ℤ slice_index_or a v (pos 0)) × (slice_index_or a v (pos 0) ≤ℤ (slice_index_or vars v d).high)
+abbrev pub IsInBounds : List VarDecl → List ℤ → ℕ → Type 0
+IsInBounds vars a v = (d : VarDecl) → ((slice_index_or vars v d).low ≤ℤ slice_index_or a v (pos 0)) × (slice_index_or a v (pos 0) ≤ℤ (slice_index_or vars v d).high)
 
 -- the first that isn't
 pub record IsFirstOutside (vars : List VarDecl) (a : List ℤ) (v : ℕ) : Type 0 where
   pub declared : v < length vars
-  pub outside : ¬ IsInside vars a v
-  pub before : (u : ℕ) → u < v → IsInside vars a u
+  pub outside : ¬ IsInBounds vars a v
+  pub before : (u : ℕ) → u < v → IsInBounds vars a u
 
 -- the first constraint that doesn't hold, by its number, counted from 1, where all variables are within their bounds
 pub record IsFirstViolated (model : FznModel) (a : List ℤ) (number : ℕ) : Type 0 where

@@ -1,7 +1,7 @@
 //! The lines of what is found in the texts.
 
 ghost use Rattle.std.specs.Prelude.{◌≡◌, ◌+◌, ◌^◌, ◌<◌, ◌++◌, IfOk, OnOk};
-ghost use Rattle.fzn_check.specs.Lines.{bad_text_line, constraint_name, hidden_line, right_line, variable_name, wrong_line, wrong_text};
+ghost use Rattle.fzn_check.specs.Lines.{bad_text_line, constraint_name, hidden_line, right_line, declared_name, wrong_line, wrong_text};
 
 use crate::wrong::Wrong;
 use constraint_model::FznModel;
@@ -9,8 +9,8 @@ use itoa::Buffer;
 use std::alloc::{AllocError, Global};
 
 /// What a declared variable is called.
-fn variable_name(model: &FznModel, variable: usize) -> &[u8]
-    ensures { result.now ≡ variable_name model.now variable }
+fn declared_name(model: &FznModel, variable: usize) -> &[u8]
+    ensures { result.now ≡ declared_name model.now variable }
 {
     match model.vars.as_slice().get(variable) {
         Some(declaration) => declaration.name.as_slice(),
@@ -35,7 +35,7 @@ fn push_wrong(text: &mut Vec<u8>, model: &FznModel, wrong: Wrong) -> Result<(), 
     match wrong {
         Wrong::Outside(variable) => {
             text.extend_from_slice(b"outside ")?;
-            text.extend_from_slice(variable_name(model, variable as usize))
+            text.extend_from_slice(declared_name(model, variable as usize))
         }
         Wrong::Violates(number) => {
             text.extend_from_slice(b"violates ")?;
@@ -83,7 +83,7 @@ pub(crate) fn print_hidden(
     ensures { IfOk result (λ line. line.items ≡ hidden_line model.now variable) }
 {
     let mut line = Vec::from_slice(alloc, b"hidden ")?;
-    line.extend_from_slice(variable_name(model, variable))?;
+    line.extend_from_slice(declared_name(model, variable))?;
     line.extend_from_slice(b"\n")?;
     Ok(line)
 }

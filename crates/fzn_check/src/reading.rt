@@ -7,7 +7,7 @@ ghost use Rattle.fzn_print.specs.Reading.{AllPrinted};
 ghost use Rattle.model_text.specs.Texts.{most_bytes, too_long};
 ghost use Rattle.model_text.specs.Files.{WasAsked, refusal_line};
 ghost use Rattle.fzn_check.specs.Words.{names_meant, names_of};
-ghost use Rattle.fzn_check.specs.Outcome.{CanOpen, MayEndEarly, MayEndLate, NamesFiles, WereAskedFor};
+ghost use Rattle.fzn_check.specs.Outcome.{CanOpenFiles, MayEndEarly, MayEndLate, NamesFiles, WereAskedFor};
 ghost use Rattle.fzn_check.specs.Steps.{IsEarlyEnding, IsEnding, IsHeldEnding, IsUnread, StopsWith, status_in};
 
 use crate::ending::Ending;
@@ -29,7 +29,7 @@ pub(crate) fn check_words<R: Threads + Sync, S: Source>(
     words: &[String],
     files: &mut S,
 ) -> Ending
-    requires { CanOpen (S.names files.old) (names_of words.now) }
+    requires { CanOpenFiles (S.names files.old) (names_of words.now) }
     ensures ends { IsEnding (S.held files.old) (names_of words.now) (S.faults files.old) (S.faults files.new) result }
     ensures unread { (NamesFiles (names_of words.now) → ⊥) → files.new ≡ files.old }
     ensures held_kept { S.held files.new ≡ S.held files.old }
@@ -50,7 +50,7 @@ fn check_files<R: Threads + Sync, S: Source>(
     names: &Names<'_>,
     files: &mut S,
 ) -> Ending
-    requires { CanOpen (S.names files.old) (Some (names_meant names.now)) }
+    requires { CanOpenFiles (S.names files.old) (Some (names_meant names.now)) }
     ensures ends { IsEnding (S.held files.old) (Some (names_meant names.now)) (S.faults files.old) (S.faults files.new) result }
     ensures held_kept { S.held files.new ≡ S.held files.old }
     ensures asked { WereAskedFor (S.held files.old) (Some (names_meant names.now)) (S.names files.old) (S.names files.new) (S.left files.new) (S.is_open files.new) (status_in result) }

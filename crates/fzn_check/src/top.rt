@@ -4,7 +4,7 @@ ghost use Rattle.std.specs.Prelude.{◌≡◌, ◌⊎◌, ℕ, List, None};
 ghost use Rattle.fzn_io.specs.Faults.{CountRose};
 ghost use Rattle.fzn_io.specs.Streams.{Adds, AddsFront, IsHeld};
 ghost use Rattle.fzn_check.specs.Words.{names_of};
-ghost use Rattle.fzn_check.specs.Outcome.{CanOpen, EndsFor, IsEnd, IsErrorLine, IsKnown, IsVerdict, IsVerdictLine, NamesFiles, WereAskedFor, Wrote, WroteFront, plain_line};
+ghost use Rattle.fzn_check.specs.Outcome.{CanOpenFiles, EndsFor, IsEnd, IsErrorLine, IsKnown, IsVerdict, IsVerdictLine, NamesFiles, WereAskedFor, Wrote, WroteFront, plain_line};
 
 use crate::ending::Ending;
 use crate::reading::check_words;
@@ -24,7 +24,7 @@ pub fn check_main<R: Threads + Sync, S: Source, K: Sink, E: Sink>(
     out: &mut K,
     err: &mut E,
 ) -> Status
-    requires { CanOpen (S.names files.old) (names_of words.now) }
+    requires { CanOpenFiles (S.names files.old) (names_of words.now) }
     ensures usage { result ≡ Status.Usage → names_of words.now ≡ None }
     ensures not_taken { names_of words.now ≡ None → (result ≡ Status.Usage) ⊎ (result ≡ Status.NoMemory) }
     ensures complete { (status : Status) (line : List ℕ) → EndsFor IsKnown (S.held files.old) (names_of words.now) status line

@@ -4,13 +4,13 @@ use Rattle.std.specs.Prelude.{true, false, Option, Some, None, not}
 use Rattle.std.specs.Char.{is_ascii_digit}
 use Rattle.std.specs.Prelude.{◌==◌, ◌&&◌, ◌≢◌, [], ◌∷◌, zero, suc}
 use Rattle.std.proofs.Common.{inl, inr, arith, zero-add}
-use Rattle.std.proofs.lemmas.Bool.{cond-true, cond-false, cases_Bool, eqb-true, and_parts}
+use Rattle.std.proofs.lemmas.Bool.{cond-true, cond-false, cases_Bool, cases_lt, eqb-true, and_parts}
 use Rattle.fzn_lexer.specs.Bytes.{is_word_byte, is_in_line}
 use Rattle.fzn_lexer.specs.Machine.{step, accepted, alive_if, digits_step, later, found_as, found_on, longest_found, word, int, comment}
 use Rattle.fzn_lexer.specs.declared.PieceKind.{PieceKind}
 use Rattle.fzn_lexer.specs.declared.machine.Found.{Found}
 use Rattle.fzn_lexer.specs.declared.machine.State.{State}
-use Rattle.fzn_lexer.specs.declared.machine.State.TheVariants.{Start, Dead, InWord, Digits, MarkEnd, InComment}
+use Rattle.fzn_lexer.specs.declared.machine.State.TheVariants.{Start, Dead, InWord, Zero, Digits, Point, Fraction, Colon, Dot, MarkEnd, InComment}
 use Rattle.fzn_lexer.specs.declared.machine.TheConstants.{WORD_BYTES}
 use Rattle.fzn_lexer.proofs.Longest.{found_more, found_dead, found_last, found_all, dead_found}
 
@@ -23,6 +23,13 @@ dead_at t q e = cond-false t q Dead e
 none_later : (o : Option Found) → later None o ≡ o
 none_later None = refl
 none_later (Some f) = refl
+
+-- a number that isn't another
+not_eqb : (b n : ℕ) → b ≢ n → (b == n) ≡ false
+not_eqb b n h = elim (cases_Bool (b == n)) [
+  | inl e ↦ absurd (h (eqb-true b n e))
+  | inr e ↦ e
+]
 
 -- one more byte that stays in the state
 row_more : (k : PieceKind) (q : State) (at : ℕ) (text : List ℕ) → at < length text → accepted q ≡ Some k → step q (get_or text at 0) ≡ q
@@ -55,6 +62,65 @@ digits_more at text h e = row_more _ Digits at text h refl (cond-true (is_ascii_
 
 pub digits_dead : (at : ℕ) (text : List ℕ) → at < length text → step Digits (get_or text at 0) ≡ Dead → found_on int Digits at text ≡ found_as int at
 digits_dead at text h e = row_dead _ Digits at text h e
+
+-- a point behind the digits, with no digit behind it
+pub point_dead : (at : ℕ) (text : List ℕ) → at < length text → get_or text at 0 ≡ 46 → (at + 1 < length text → is_ascii_digit (get_or text (at + 1) 0) ≡ false)
+    → found_on int Digits at text ≡ found_as int at
+point_dead at text h e digit =
+    let first : Option Found = found_as int at in
+    let whole : Option Found = found_on int Digits at text in
+    let more = found_more first whole Digits at text h refl in
+    let put : later first (longest_found Point (at + 1) (drop (at + 1) text)) ≡ whole
+    = subst (λ (b : ℕ). later (later first (found_as (accepted (step Digits b)) (at + 1))) (longest_found (step Digits b) (at + 1) (drop (at + 1) text)) ≡ whole) e more in
+    elim (cases_lt (at + 1) (length text)) [
+      | inl inside ↦ sym (found_dead first whole Point (at + 1) text inside put (dead_at (is_ascii_digit (get_or text (at + 1) 0)) Fraction (digit inside)))
+      | inr past ↦ sym (found_all first whole Point (at + 1) text past put)
+    ]
+
+pub digits_all : (at : ℕ) (text : List ℕ) → length text ≤ at → found_on int Digits at text ≡ found_as int at
+digits_all at text h = row_end _ Digits at text h
+
+-- a 0 goes on as other digits do, but for the letters of a base
+pub zero_as_digits : (at : ℕ) (text : List ℕ) → at < length text → step Digits (get_or text at 0) ≡ step Zero (get_or text at 0) → found_on int Digits at text ≡ found_on int Zero at text
+zero_as_digits at text h same =
+    let first : Option Found = found_as int at in
+    sym (found_more first (found_on int Digits at text) Digits at text h refl)
+    ∙ ap (λ (r : State). later (later first (found_as (accepted r) (at + 1))) (longest_found r (at + 1) (drop (at + 1) text))) same
+    ∙ found_more first (found_on int Zero at text) Zero at text h refl
+
+pub zero_all : (at : ℕ) (text : List ℕ) → length text ≤ at → found_as int at ≡ found_on int Zero at text
+zero_all at text h = sym (row_end _ Zero at text h)
+
+-- a second colon makes a mark of two
+pub colon_two : (at : ℕ) (text : List ℕ) → at < length text → get_or text at 0 ≡ 58 → found_as (accepted Colon) (at + 1) ≡ found_on (accepted Colon) Colon at text
+colon_two at text h e =
+    let first : Option Found = found_as (accepted Colon) at in
+    let whole : Option Found = found_on (accepted Colon) Colon at text in
+    let more = found_more first whole Colon at text h refl in
+    let put : later (found_as (accepted Colon) (at + 1)) (longest_found MarkEnd (at + 1) (drop (at + 1) text)) ≡ whole
+    = subst (λ (b : ℕ). later (later first (found_as (accepted (step Colon b)) (at + 1))) (longest_found (step Colon b) (at + 1) (drop (at + 1) text)) ≡ whole) e more in
+    found_last (found_as (accepted Colon) (at + 1)) whole MarkEnd (at + 1) (drop (at + 1) text) put refl
+
+pub colon_one : (at : ℕ) (text : List ℕ) → at < length text → get_or text at 0 ≢ 58 → found_as (accepted Colon) at ≡ found_on (accepted Colon) Colon at text
+colon_one at text h apart = sym (row_dead _ Colon at text h (dead_at (get_or text at 0 == 58) MarkEnd (not_eqb _ 58 apart)))
+
+pub colon_all : (at : ℕ) (text : List ℕ) → length text ≤ at → found_as (accepted Colon) at ≡ found_on (accepted Colon) Colon at text
+colon_all at text h = sym (row_end _ Colon at text h)
+
+-- two points are a mark, and one is none
+pub point_two : (at : ℕ) (text : List ℕ) → at < length text → get_or text at 0 ≡ 46 → found_as (accepted Colon) (at + 1) ≡ found_on (accepted Dot) Dot at text
+point_two at text h e =
+    let whole : Option Found = found_on (accepted Dot) Dot at text in
+    let more = found_more None whole Dot at text h refl in
+    let put : later (found_as (accepted Colon) (at + 1)) (longest_found MarkEnd (at + 1) (drop (at + 1) text)) ≡ whole
+    = subst (λ (b : ℕ). later (later None (found_as (accepted (step Dot b)) (at + 1))) (longest_found (step Dot b) (at + 1) (drop (at + 1) text)) ≡ whole) e more in
+    found_last (found_as (accepted Colon) (at + 1)) whole MarkEnd (at + 1) (drop (at + 1) text) put refl
+
+pub point_one : (at : ℕ) (text : List ℕ) → at < length text → get_or text at 0 ≢ 46 → None ≡ found_on (accepted Dot) Dot at text
+point_one at text h apart = found_dead None (found_on (accepted Dot) Dot at text) Dot at text h refl (dead_at (get_or text at 0 == 46) MarkEnd (not_eqb _ 46 apart))
+
+pub point_all : (at : ℕ) (text : List ℕ) → length text ≤ at → None ≡ found_on (accepted Dot) Dot at text
+point_all at text h = found_all None (found_on (accepted Dot) Dot at text) Dot at text h refl
 
 pub comment_more : (at : ℕ) (text : List ℕ) → at < length text → is_in_line (get_or text at 0) ≡ true → found_on comment InComment (at + 1) text ≡ found_on comment InComment at text
 comment_more at text h e = row_more _ InComment at text h refl (alive_at (is_in_line (get_or text at 0)) InComment e)

@@ -1,6 +1,6 @@
 // A machine over bytes that finds the longest piece that begins at a place, in one pass.
 
-ghost use Rattle.std.specs.Prelude.{◌≡◌, ◌≤◌, ◌<◌, [], drop, false, length};
+ghost use Rattle.std.specs.Prelude.{◌≡◌, ◌≤◌, ◌<◌, [], drop, false, length, true};
 ghost use Rattle.fzn_lexer.specs.Lexing.{LexesTo};
 ghost use Rattle.fzn_lexer.specs.Bytes as bytes;
 ghost use Rattle.fzn_lexer.specs.Machine as machine;
@@ -325,6 +325,21 @@ fn goes_on(b: u8) -> bool
     b.is_ascii_digit() || b == b'.' || is_exponent_letter(b)
 }
 
+/// Whether a number whose decimal digits stand before `to` ends there. A point with no digit behind it is none of a number.
+#[inline(always)]
+fn ends_at(text: &[u8], to: usize) -> bool
+    requires { to ≤ length text.now }
+    ensures { result ≡ true → machine.found_on machine.int States.Digits to text.now ≡ machine.found_as machine.int to }
+{
+    if to >= text.len() {
+        return true;
+    }
+    if text[to] != b'.' {
+        return !goes_on(text[to]);
+    }
+    to + 1 >= text.len() || !text[to + 1].is_ascii_digit()
+}
+
 /// The longest number where decimal digits stand before `from`.
 #[inline(always)]
 fn number_behind(text: &[u8], from: usize) -> Option<Found>
@@ -333,10 +348,73 @@ fn number_behind(text: &[u8], from: usize) -> Option<Found>
 {
     let to = digits_end(text, from);
     let piece = PieceKind::Token(Kind::Int);
-    if to < text.len() && !goes_on(text[to]) {
+    if ends_at(text, to) {
         return Some(Found { piece, to });
     }
     longest_behind(text, to, Some(Found { piece, to }), State::Digits)
+}
+
+/// Whether a number may go on with this letter behind the 0 with which it begins, and not as digits do.
+#[inline(always)]
+fn is_base_letter(b: u8) -> bool
+    ensures { result ≡ false → machine.step States.Digits b ≡ machine.step States.Zero b }
+{
+    b == b'x' || b == b'o'
+}
+
+/// The longest number where a 0 with which it begins stands before `from`. It is called, so that what stands for the many other
+/// numbers is written once where pieces are read.
+#[inline(never)]
+fn zero_behind(text: &[u8], from: usize) -> Option<Found>
+    requires { from ≤ length text.now }
+    ensures { result ≡ machine.found_on machine.int States.Zero from text.now }
+{
+    let piece = PieceKind::Token(Kind::Int);
+    if from >= text.len() {
+        return Some(Found { piece, to: from });
+    }
+    if is_base_letter(text[from]) {
+        return longest_behind(text, from, Some(Found { piece, to: from }), State::Zero);
+    }
+    number_behind(text, from)
+}
+
+/// The longest mark where a colon stands before `from`.
+#[inline(always)]
+fn colon_behind(text: &[u8], from: usize) -> Option<Found>
+    requires { from ≤ length text.now }
+    ensures { result ≡ machine.found_on (machine.accepted States.Colon) States.Colon from text.now }
+{
+    let piece = PieceKind::Token(Kind::Mark);
+    if from >= text.len() {
+        return Some(Found { piece, to: from });
+    }
+    if text[from] == b':' {
+        return Some(Found {
+            piece,
+            to: from + 1,
+        });
+    }
+    Some(Found { piece, to: from })
+}
+
+/// The mark of two points where the first stands before `from`.
+#[inline(always)]
+fn point_behind(text: &[u8], from: usize) -> Option<Found>
+    requires { from ≤ length text.now }
+    ensures { result ≡ machine.found_on (machine.accepted States.Dot) States.Dot from text.now }
+{
+    if from >= text.len() {
+        return None;
+    }
+    if text[from] == b'.' {
+        let piece = PieceKind::Token(Kind::Mark);
+        return Some(Found {
+            piece,
+            to: from + 1,
+        });
+    }
+    None
 }
 
 /// The longest piece where its first byte, before `from`, leaves this state.
@@ -351,6 +429,9 @@ fn piece_behind(text: &[u8], from: usize, state: State) -> Option<Found>
             to: word_end(text, from),
         }),
         State::Digits => number_behind(text, from),
+        State::Zero => zero_behind(text, from),
+        State::Colon => colon_behind(text, from),
+        State::Dot => point_behind(text, from),
         State::InComment => Some(Found {
             piece: PieceKind::Comment,
             to: comment_end(text, from),

@@ -16,7 +16,8 @@ use Rattle.constraint_model.specs.Ranges.{Range, ranges_of}
 use Rattle.fzn_model.specs.Scopes.{number_at, set_at}
 use Rattle.constraint_model.specs.Fits.{row_for, is_constant}
 use Rattle.fzn_model.specs.Effects.{hull, variable, declares_variable, is_bool_shape, membership, equality, domain_constraints, value_constraints, element_constraints, terms_in}
-use Rattle.fzn_model.specs.Faults.{scalar_fits, fits_scalar_type, fits_array_type, set_is_long, shape_is_long}
+use Rattle.fzn_model.specs.Faults.{scalar_fits, fits_scalar_type, fits_array_type}
+use Rattle.fzn_model.proofs.LeafLaws.{set_is_long, shape_is_long}
 use Rattle.constraint_model.specs.WellFormed.{IsDeclaration, IsTermOf, IsScalarOf, IsMeaningOf, IsConstraintOf}
 use Rattle.fzn_model.proofs.MeaningLaws.{SetLaws, Ends, opposite_in, zero_in, one_in, number_in_profile, numbers_each, ranges_each, set_meaning}
 

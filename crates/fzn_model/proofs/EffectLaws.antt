@@ -1,6 +1,6 @@
 -- What an item without a fault adds is well-formed.
-use Rattle.std.proofs.Common.{◌≡◌, ℕ, List, [], ◌∷◌, ◌++◌, length, Bool, true, false, cond, ◌&&◌, ◌||◌, not, is_some, Option, Some, None, refl, ap, sym, subst, arith}
-use Rattle.std.specs.Prelude.{option_map, option_to_list, unwrap_or, pos}
+use Rattle.std.proofs.Common.{◌≡◌, ℕ, List, [], ◌∷◌, ◌++◌, length, Bool, true, false, cond, ◌&&◌, ◌||◌, not, is_some, Option, Some, None, refl, ap, sym, subst, ◌∙◌, arith}
+use Rattle.std.specs.Prelude.{option_map, option_to_list, unwrap_or, pos, flat_map}
 use Rattle.std.specs.List.{AllByRecursion as Each, list_any, cons_option}
 use Rattle.std.specs.Option.{IfSome}
 use Rattle.std.proofs.lemmas.Bool.{and_parts, or_parts, not-true, not-false, true≢false, false≢true}
@@ -26,7 +26,12 @@ use Rattle.fzn_model.specs.Searches.{phases_of}
 use Rattle.fzn_model.specs.Scopes.{Scope, expr_meaning}
 use Rattle.constraint_model.specs.Fits.{named, fits, row_for, constraint_on, has_long_row}
 use Rattle.fzn_model.specs.Effects.{Reading, joined, effect_of, no_effect, variable, variable_effect, parameter_effect, scalar_effect, array_effect, constraint_alone, constraint_effect, solve_effect, meanings_of, term_in, objective, goal_of, value_of, declares_variable, is_bool_shape, domain_constraints, value_constraints}
-use Rattle.fzn_model.specs.Faults.{if_some, all_mean, arguments_fit, fits_scalar_type, fits_array_type, value_fits, has_index_set, is_wrong_value, is_wrong_row, has_wrong_argument, is_unsupported, aim_fits, aim_expressions, expr_is_long, shape_is_long, type_is_long, has_long_list, expressions, is_too_large, passes_limit, first_kind, own_tests, place_tests, fault_of}
+use Rattle.fzn_model.specs.Faults.{if_some, all_mean, arguments_fit, fits_scalar_type, fits_array_type, value_fits, has_index_set, is_wrong_value, is_wrong_row, has_wrong_argument, is_unsupported, aim_fits, is_too_large, place_tests, fault_of}
+use Rattle.fzn_model.specs.declared.leaves.Leaf.{Leaf}
+use Rattle.fzn_model.specs.Leaves.{expr_leaves, type_leaves, aim_leaves}
+use Rattle.fzn_model.specs.Drafts.{has_kind, has_leaf, first_kind, own_kinds}
+use Rattle.fzn_model.proofs.LeafLaws.{expr_is_long, shape_is_long, expr_long, exprs_long, declaration_long}
+use Rattle.fzn_model.proofs.KindLaws.{least_is_first}
 use Rattle.constraint_model.specs.WellFormed.{IsDeclaration, IsVariable, IsTermOf, IsMeaningOf, IsConstraintOf, IsGoalOf, IsOutputOf}
 use Rattle.fzn_model.proofs.MeaningLaws.{SetLaws, each_append, each_false, meaning_stays, constraint_stays, AreNames, meaning}
 use Rattle.fzn_model.proofs.OutputLaws.{scalar_outputs, value_outputs, array_outputs}
@@ -166,13 +171,13 @@ objective_is vars (Some (Meaning.One s)) k e = subst (λ b. IsTermOf vars b s.te
 objective_is vars (Some (Meaning.Row array)) k e = absurd (false≢true e)
 objective_is vars (Some (Meaning.Set ranges)) k e = absurd (false≢true e)
 
-goal_fits : (laws : SetLaws) (vars : List VarDecl) (text : List ℕ) (scope : Scope) → AreNames vars scope → (e : Expr) → not (value_fits text scope (fits Letter.Integer) e) ≡ false → list_any expr_is_long (e ∷ []) ≡ false
+goal_fits : (laws : SetLaws) (vars : List VarDecl) (text : List ℕ) (scope : Scope) → AreNames vars scope → (e : Expr) → not (value_fits text scope (fits Letter.Integer) e) ≡ false → expr_is_long e ≡ false
     → IsTermOf (vars ++ []) false (objective text scope e)
 goal_fits laws vars text scope h e w l =
-    let known : IfSome (expr_meaning text scope e) (IsMeaningOf vars) = meaning laws vars text scope h e (each_false expr_is_long (e ∷ []) l).0 in
+    let known : IfSome (expr_meaning text scope e) (IsMeaningOf vars) = meaning laws vars text scope h e l in
     objective_is (vars ++ []) (expr_meaning text scope e) (value_stays vars [] (expr_meaning text scope e) known) (not-false (value_fits text scope (fits Letter.Integer) e) w)
 
-adds_goal : (laws : SetLaws) (vars : List VarDecl) (text : List ℕ) (scope : Scope) → AreNames vars scope → (notes : List AnnTree) (aim : Aim) → not (aim_fits text scope aim) ≡ false → list_any expr_is_long (aim_expressions aim) ≡ false
+adds_goal : (laws : SetLaws) (vars : List VarDecl) (text : List ℕ) (scope : Scope) → AreNames vars scope → (notes : List AnnTree) (aim : Aim) → not (aim_fits text scope aim) ≡ false → list_any (has_kind text scope FaultKind.TooMany) (aim_leaves aim) ≡ false
     → Adds vars (solve_effect text scope (length vars) notes aim)
 adds_goal laws vars text scope h notes aim w l = record {
   declared = tt;
@@ -183,10 +188,10 @@ adds_goal laws vars text scope h notes aim w l = record {
   search = search_stays vars (phases_of text scope notes ++ last_phase (length vars) ∷ []) (search_declared vars text scope h notes);
 }
   where
-    by : (a : Aim) → not (aim_fits text scope a) ≡ false → list_any expr_is_long (aim_expressions a) ≡ false → IsGoalOf (vars ++ []) (goal_of text scope a)
+    by : (a : Aim) → not (aim_fits text scope a) ≡ false → list_any (has_kind text scope FaultKind.TooMany) (aim_leaves a) ≡ false → IsGoalOf (vars ++ []) (goal_of text scope a)
     by Aim.Satisfy w l = tt
-    by (Aim.Minimize e) w l = goal_fits laws vars text scope h e w l
-    by (Aim.Maximize e) w l = goal_fits laws vars text scope h e w l
+    by (Aim.Minimize e) w l = goal_fits laws vars text scope h e w (sym (expr_long text scope e) ∙ l)
+    by (Aim.Maximize e) w l = goal_fits laws vars text scope h e w (sym (expr_long text scope e) ∙ l)
 
 -- ---- any item
 
@@ -194,7 +199,8 @@ adds_goal laws vars text scope h notes aim w l = record {
 pub record Passes (text : List ℕ) (before : Reading) (what : WhatTree) : Type 0 where
   pub typed : (not (is_unsupported what) && has_wrong_argument text before.scope what) ≡ false
   pub taken : is_unsupported what ≡ false
-  pub limit : passes_limit before what (effect_of text before.scope (length before.vars) what) ≡ false
+  pub short : has_leaf text before.scope FaultKind.TooMany what ≡ false
+  pub limit : (list_any has_long_row (effect_of text before.scope (length before.vars) what).constraints || is_too_large (joined before (effect_of text before.scope (length before.vars) what))) ≡ false
   pub open_yet : is_some before.solved ≡ false
 
 none_first : (tests : List (FaultKind × Bool)) → first_kind tests ≡ None → Each (λ (t : FaultKind × Bool). t.1 ≡ false) tests
@@ -208,31 +214,40 @@ none_first (t ∷ ts) e = by t.1 refl (none_first ts) e
 pub passes : (text : List ℕ) (before : Reading) (what : WhatTree) → fault_of text before what ≡ None → Passes text before what
 unfolding fault_of
 passes text before what e =
-    let h = none_first (own_tests text before.scope what ++ place_tests before what (effect_of text before.scope (length before.vars) what)) e in
-    record { typed = h.1.1.1.0; taken = h.1.1.1.1.0; limit = h.1.1.1.1.1.1.0; open_yet = h.1.1.1.1.1.1.1.0 }
+    let more : Effect = effect_of text before.scope (length before.vars) what in
+    let h = none_first (own_kinds text before.scope what ++ place_tests before more) (sym (least_is_first text before what more) ∙ e) in
+    record { typed = h.1.1.1.0; taken = h.1.1.1.1.0; short = h.1.1.1.1.1.1.0; limit = h.1.1.1.1.1.1.1.0; open_yet = h.1.1.1.1.1.1.1.1.0 }
 
 supported : (u w : Bool) → (not u && w) ≡ false → u ≡ false → w ≡ false
 supported true w e t = absurd (true≢false t)
 supported false w e t = e
 
+-- neither the type of a declaration nor its value has a list that is too long
+short_declaration : (text : List ℕ) (scope : Scope) (shape : Shape) (name : Token) (parts : List Leaf)
+    → list_any (has_kind text scope FaultKind.TooMany) (type_leaves shape ++ Leaf.Declared name ∷ parts) ≡ false
+    → (shape_is_long shape ≡ false) × (list_any (has_kind text scope FaultKind.TooMany) parts ≡ false)
+short_declaration text scope shape name parts e =
+    or_parts (shape_is_long shape) (list_any (has_kind text scope FaultKind.TooMany) parts) (sym (declaration_long text scope shape name parts) ∙ e)
+
 -- what an item without a fault adds
 pub adds : (laws : SetLaws) (text : List ℕ) (before : Reading) (what : WhatTree) → AreNames before.vars before.scope → Passes text before what → Adds before.vars (effect_of text before.scope (length before.vars) what)
 unfolding effect_of
-adds laws text before what h p = by what (supported (is_unsupported what) (has_wrong_argument text before.scope what) p.typed p.taken) p.taken short.0 short.1 lists.1
+adds laws text before what h p = by what (supported (is_unsupported what) (has_wrong_argument text before.scope what) p.typed p.taken) p.short rows
   where
-    lists : (has_long_list what ≡ false) × (list_any has_long_row (effect_of text before.scope (length before.vars) what).constraints ≡ false)
-    lists =
+    rows : list_any has_long_row (effect_of text before.scope (length before.vars) what).constraints ≡ false
+    rows =
         let more : Effect = effect_of text before.scope (length before.vars) what in
-        or_parts (has_long_list what) (list_any has_long_row more.constraints)
-        (or_parts (has_long_list what || list_any has_long_row more.constraints) (is_too_large (joined before more)) p.limit).0
+        (or_parts (list_any has_long_row more.constraints) (is_too_large (joined before more)) p.limit).0
 
-    short : (type_is_long what ≡ false) × (list_any expr_is_long (expressions what) ≡ false)
-    short = or_parts (type_is_long what) (list_any expr_is_long (expressions what)) lists.0
-
-    by : (w : WhatTree) → has_wrong_argument text before.scope w ≡ false → is_unsupported w ≡ false → type_is_long w ≡ false → list_any expr_is_long (expressions w) ≡ false
+    by : (w : WhatTree) → has_wrong_argument text before.scope w ≡ false → has_leaf text before.scope FaultKind.TooMany w ≡ false
         → list_any has_long_row (effect_of text before.scope (length before.vars) w).constraints ≡ false → Adds before.vars (effect_of text before.scope (length before.vars) w)
-    by (predicate_item tokens) w t s l r = adds_nothing before.vars
-    by (scalar_item shape name notes value) w t s l r = adds_scalar laws before.vars text before.scope h shape (spelling text name) notes value w s l
-    by (array_item low high shape name notes value) w t s l r = adds_array laws before.vars text before.scope h shape (spelling text name) notes value (row_typed text before.scope low high shape value w) s l
-    by (constraint_item name args notes) w t s l r = adds_constraint laws before.vars text before.scope h (spelling text name) args w l r
-    by (solve_item notes aim) w t s l r = adds_goal laws before.vars text before.scope h notes aim w l
+    by (predicate_item tokens) w l r = adds_nothing before.vars
+    by (scalar_item shape name notes value) w l r =
+        let s = short_declaration text before.scope shape name (flat_map expr_leaves (option_to_list value)) l in
+        adds_scalar laws before.vars text before.scope h shape (spelling text name) notes value w s.0 (sym (exprs_long text before.scope (option_to_list value)) ∙ s.1)
+    by (array_item low high shape name notes value) w l r =
+        let s = short_declaration text before.scope shape name (expr_leaves value) l in
+        adds_array laws before.vars text before.scope h shape (spelling text name) notes value (row_typed text before.scope low high shape value w) s.0
+        (ap (λ b. b || false) (sym (expr_long text before.scope value) ∙ s.1))
+    by (constraint_item name args notes) w l r = adds_constraint laws before.vars text before.scope h (spelling text name) args w (sym (exprs_long text before.scope args) ∙ l) r
+    by (solve_item notes aim) w l r = adds_goal laws before.vars text before.scope h notes aim w l

@@ -12,8 +12,8 @@ use Rattle.constraint_model.specs.declared.table.ConstraintName.{ConstraintName}
 use Rattle.fzn_model.specs.Scopes.{Scope, meaning_of, expr_meaning}
 use Rattle.constraint_model.specs.Fits.{named, constraint_on}
 use Rattle.fzn_model.specs.Effects.{effect_of, no_effect, scalar_effect, variable_effect, parameter_effect, constraint_alone, meanings_of, value_of, declares_variable}
-use Rattle.fzn_model.specs.Faults.{first_kind, Refuses, declares_again}
-use Rattle.fzn_model.specs.Drafts.{IsNew}
+use Rattle.fzn_model.specs.Faults.{Refuses}
+use Rattle.fzn_model.specs.Drafts.{declares_again, first_kind, IsNew}
 
 pub first_own : (xs ys : List (FaultKind × Bool)) (k : FaultKind) → first_kind xs ≡ Some k → first_kind (xs ++ ys) ≡ Some k
 first_own [] ys k e = absurd (true≢false (sym (ap is_some e)))

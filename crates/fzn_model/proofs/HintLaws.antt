@@ -31,9 +31,9 @@ name_found (x ∷ xs) name m e = by (bytes_eq name x.0) (name_found xs name m) e
     by false f e = f e
 
 pub hints_stay : (scope : Scope) (d : List ℕ × Meaning) (hints : List Hint) → AreRight scope hints → AreRight (scope ++ d ∷ []) hints
-hints_stay scope d hints h = All-weaker (IsRight scope) (IsRight (scope ++ d ∷ [])) (λ hint. name_stays scope d (name_in hint) (meaning_in hint)) hints h
+hints_stay scope d hints h = All-weaker (IsRight scope) (IsRight (scope ++ d ∷ [])) (λ hint right some. name_stays scope d (name_in hint) (meaning_in hint) (right some)) hints h
 
 pub hint_right : (scope : Scope) (name : List ℕ) (m : Meaning) (hint : Option Hint) → meaning_of scope name ≡ None → IfSome hint (λ (h : Hint). (name_in h ≡ name) × (meaning_in h ≡ m)) → IfSome hint (IsRight (scope ++ (name, m) ∷ []))
 hint_right scope name m None e h = tt
-hint_right scope name m (Some hint) e h =
+hint_right scope name m (Some hint) e h = λ _.
     ap (meaning_of (scope ++ (name, m) ∷ [])) h.0 ∙ name_found scope name m e ∙ ap Some (sym h.1)

@@ -4,6 +4,8 @@ pub mod EffectLaws
 pub mod FaultLaws
 pub mod HintLaws
 pub mod KnownLaws
+pub mod KindLaws
+pub mod LeafLaws
 pub mod MeaningLaws
 pub mod NoteLaws
 pub mod NumberLaws

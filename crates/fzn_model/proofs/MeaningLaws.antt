@@ -23,7 +23,7 @@ use Rattle.fzn_model.specs.Literals.{is_numeral, number_in, natural_of, number_o
 use Rattle.constraint_model.specs.Ranges.{Range, AreApart, insert_number, rising, ranges_on, ranges_of_rising, ranges_of, range_of, HaveRanges, IntervalsHold}
 use Rattle.fzn_model.specs.Scopes.{Scope, meaning_of, number_at, set_at, scalar_of, entry_at, all_some, array_literal, simple_at, expr_meaning, boolean, integer}
 use Rattle.constraint_model.specs.Limits.{most_entries}
-use Rattle.fzn_model.specs.Faults.{set_is_long, elem_is_long, expr_is_long}
+use Rattle.fzn_model.proofs.LeafLaws.{set_is_long, elem_is_long, expr_is_long}
 use Rattle.constraint_model.specs.WellFormed.{IsVariable, IsTermOf, IsScalarOf, IsMeaningOf, IsConstraintOf, IsOutputOf}
 
 -- ---- lists and options
@@ -273,7 +273,7 @@ simple_meaning laws vars text scope h (Elem.Set s) l = set_meaning laws vars tex
 
 pub meaning : (laws : SetLaws) (vars : List VarDecl) (text : List ℕ) (scope : Scope) → AreNames vars scope → (e : Expr) → expr_is_long e ≡ false → IfSome (expr_meaning text scope e) (IsMeaningOf vars)
 unfolding expr_meaning
-meaning laws vars text scope h (Expr.One e) l = simple_meaning laws vars text scope h e (each_false elem_is_long (e ∷ []) (or_parts (nat_lt most_entries 1) (list_any elem_is_long (e ∷ [])) l).1).0
+meaning laws vars text scope h (Expr.One e) l = simple_meaning laws vars text scope h e l
 meaning laws vars text scope h (Expr.Row es) l =
     let few : length es ≤ most_entries = ltb-false most_entries (length es) (or_parts (nat_lt most_entries (length es)) (list_any elem_is_long es) l).0 in
     mapped array_literal (AreEntries vars es) (IsMeaningOf vars) (λ xs k. (omega (arith, few, k.0), All-from_recursion (IsScalarOf vars) xs k.1)) (all_some (map (entry_at text scope) es)) (entries_scalars vars text scope h es)

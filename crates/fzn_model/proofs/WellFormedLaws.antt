@@ -20,7 +20,7 @@ use Rattle.constraint_model.specs.declared.meanings.Meaning.{Meaning}
 use Rattle.fzn_model.specs.declared.effect.Effect.{Effect}
 use Rattle.constraint_model.specs.Fits.{constants_in, goal_constants, add_once, kernels_of, has_long_row}
 use Rattle.fzn_model.specs.Effects.{Reading, nothing, numbered, with_number, joined, effect_of, with_item, reading_of, solved_constants}
-use Rattle.fzn_model.specs.Faults.{fault_of, has_long_list, is_too_large}
+use Rattle.fzn_model.specs.Faults.{fault_of, is_too_large}
 use Rattle.constraint_model.specs.Limits.{most_vars, most_kernels, most_constants}
 use Rattle.constraint_model.specs.Arrays.{HaveNumbers}
 use Rattle.fzn_model.specs.Resolving.{AreLawful, IsModelOf, model_with}
@@ -99,7 +99,7 @@ keeps_item : (laws : SetLaws) (text : List ℕ) (r : Reading) (item : ItemTree) 
 keeps_item laws text r item h e =
     let more : Effect = effect_of text r.scope (length r.vars) item.what in
     let p = passes text r item.what e in
-    keeps_more r more h p.open_yet (or_parts (has_long_list item.what || list_any has_long_row more.constraints) (is_too_large (joined r more)) p.limit).1 (adds laws text r item.what h.scope p)
+    keeps_more r more h p.open_yet (or_parts (list_any has_long_row more.constraints) (is_too_large (joined r more)) p.limit).1 (adds laws text r item.what h.scope p)
 
 -- ---- all items
 

@@ -1,11 +1,17 @@
 -- A draft of the model as what stands of the text after some of its items.
-use Rattle.std.specs.Prelude.{◌≡◌, ◌+◌, ◌++◌, length, map, fold, flat_map, sum_by, None, IfSome, option_to_list}
+use Rattle.std.specs.Prelude.{◌≡◌, ◌+◌, ℕ, List, [], ◌∷◌, ◌++◌, length, map, fold, flat_map, sum_by, Bool, false, not, ◌&&◌, cond, Option, Some, None, IfSome, option_to_list}
+use Rattle.std.specs.List.{list_any}
 use Rattle.std.specs.Option.{option_or}
+use Rattle.fzn_parser.specs.Items.{WhatTree, scalar_item, array_item}
 use Rattle.fzn_model.specs.declared.draft.Draft.{Draft}
 use Rattle.fzn_model.specs.declared.effect.Effect.{Effect}
+use Rattle.fzn_model.specs.declared.fault_kinds.FaultKind.{FaultKind}
+use Rattle.fzn_model.specs.declared.leaves.Leaf.{Leaf}
+use Rattle.fzn_model.specs.Leaves.{leaves}
 use Rattle.constraint_model.specs.Fits.{add_once, constants_in, kernels_of}
 use Rattle.fzn_model.specs.Scopes.{Scope, meaning_of}
 use Rattle.fzn_model.specs.Effects.{Reading, numbered, arrays_in, solved_constants}
+use Rattle.fzn_model.specs.Faults.{is_declared, leaf_test, tells, is_unsupported, has_wrong_argument}
 
 abbrev pub seen : Draft → Reading
 seen d = record {
@@ -48,3 +54,36 @@ put before more = record {
 -- an effect declares no name that was declared
 abbrev pub IsNew : Scope → Effect → Type 0
 IsNew scope more = IfSome more.declared (λ d. meaning_of scope d.0 ≡ None)
+
+-- ---- faults by their kinds, for private clauses
+
+-- the leaf has a fault of this kind
+abbrev pub has_kind : List ℕ → Scope → FaultKind → Leaf → Bool
+has_kind text scope kind leaf = tells kind (leaf_test text scope leaf)
+
+-- a leaf of the item has a fault of this kind
+abbrev pub has_leaf : List ℕ → Scope → FaultKind → WhatTree → Bool
+has_leaf text scope kind what = list_any (has_kind text scope kind) (leaves what)
+
+-- the item declares a name that an earlier item declared
+abbrev pub declares_again : List ℕ → Scope → WhatTree → Bool
+declares_again text scope (scalar_item shape name notes value) = is_declared text scope name
+declares_again text scope (array_item low high shape name notes value) = is_declared text scope name
+declares_again text scope _ = false
+
+-- the first kind whose test is met
+abbrev pub first_kind : List (FaultKind × Bool) → Option FaultKind
+first_kind [] = None
+first_kind (t ∷ ts) = cond t.1 (Some t.0) (first_kind ts)
+
+-- the kinds of fault that an item may have by itself and against the declarations before it, the least first, with their tests
+abbrev pub own_kinds : List ℕ → Scope → WhatTree → List (FaultKind × Bool)
+own_kinds text scope what =
+    (FaultKind.NameTwice, declares_again text scope what)
+    ∷ (FaultKind.NameUnknown, has_leaf text scope FaultKind.NameUnknown what)
+    ∷ (FaultKind.UnknownConstraint, has_leaf text scope FaultKind.UnknownConstraint what)
+    ∷ (FaultKind.WrongArgument, not (is_unsupported what) && has_wrong_argument text scope what)
+    ∷ (FaultKind.Unsupported, is_unsupported what)
+    ∷ (FaultKind.OutOfRange, has_leaf text scope FaultKind.OutOfRange what)
+    ∷ (FaultKind.TooMany, has_leaf text scope FaultKind.TooMany what)
+    ∷ []

@@ -1,10 +1,8 @@
--- Why an item is refused, against the items before it: the first kind, in the order below, whose test it meets.
-use Rattle.std.specs.Prelude.{◌≡◌, ℕ, pos, List, [], ◌∷◌, ◌++◌, length, Bool, true, false, not, ◌&&◌, ◌||◌, cond, nat_lt, is_some, is_none, Option, Some, None, option_to_list}
+-- Why an item is refused, against the items before it: the least kind of those whose tests it meets.
+use Rattle.std.specs.Prelude.{◌≡◌, ℕ, pos, List, [], ◌∷◌, ◌++◌, map, length, find, Bool, true, false, not, ◌&&◌, ◌||◌, nat_eq, nat_lt, is_some, is_none, Option, Some, None}
 use Rattle.std.specs.List.{list_any, list_all}
 use Rattle.std.specs.Ordering.{int_eq}
 use Rattle.fzn_lexer.specs.declared.Token.{Token}
-use Rattle.fzn_parser.specs.declared.tree.SetLit.{SetLit}
-use Rattle.fzn_parser.specs.declared.tree.Elem.{Elem}
 use Rattle.fzn_parser.specs.declared.tree.Expr.{Expr}
 use Rattle.fzn_parser.specs.declared.tree.Shape.{Shape}
 use Rattle.fzn_parser.specs.declared.tree.Aim.{Aim}
@@ -16,67 +14,34 @@ use Rattle.constraint_model.specs.declared.table.Letter.{Letter}
 use Rattle.fzn_model.specs.declared.fault_kinds.FaultKind.{FaultKind}
 use Rattle.fzn_model.specs.declared.stop.Stop.{Stop}
 use Rattle.fzn_model.specs.declared.effect.Effect.{Effect}
+use Rattle.fzn_model.specs.declared.leaves.Leaf.{Leaf}
+use Rattle.fzn_model.specs.FaultKinds.{kind_number, kinds}
+use Rattle.fzn_model.specs.Leaves.{leaves}
 use Rattle.fzn_model.specs.Literals.{number_of}
 use Rattle.fzn_model.specs.Scopes.{Scope, meaning_of, expr_meaning}
 use Rattle.constraint_model.specs.Limits.{most_vars, most_entries, most_kernels, most_constants}
 use Rattle.constraint_model.specs.Fits.{named, fits, row_for, is_constant, has_long_row}
 use Rattle.fzn_model.specs.Effects.{Reading, joined, effect_of, meanings_of}
 
--- ---- the parts of an item
-
-abbrev pub elements : Expr → List Elem
-elements (Expr.One e) = e ∷ []
-elements (Expr.Row es) = es
-
--- the expressions of an item outside annotations
-abbrev pub aim_expressions : Aim → List Expr
-aim_expressions Aim.Satisfy = []
-aim_expressions (Aim.Minimize e) = e ∷ []
-aim_expressions (Aim.Maximize e) = e ∷ []
-
-abbrev pub expressions : WhatTree → List Expr
-expressions (predicate_item tokens) = []
-expressions (scalar_item shape name notes value) = option_to_list value
-expressions (array_item low high shape name notes value) = value ∷ []
-expressions (constraint_item name args notes) = args
-expressions (solve_item notes aim) = aim_expressions aim
-
--- ---- names
+-- ---- the leaves of an item
 
 abbrev pub is_declared : List ℕ → Scope → Token → Bool
 is_declared text scope t = is_some (meaning_of scope (spelling text t))
 
--- the item declares a name that an earlier item declared
-abbrev pub declares_again : List ℕ → Scope → WhatTree → Bool
-declares_again text scope (scalar_item shape name notes value) = is_declared text scope name
-declares_again text scope (array_item low high shape name notes value) = is_declared text scope name
-declares_again text scope _ = false
-
-abbrev pub elem_is_unknown : List ℕ → Scope → Elem → Bool
-elem_is_unknown text scope (Elem.Name t) = not (is_declared text scope t)
-elem_is_unknown text scope _ = false
-
-abbrev pub expr_uses_unknown : List ℕ → Scope → Expr → Bool
-expr_uses_unknown text scope e = list_any (elem_is_unknown text scope) (elements e)
-
--- the item uses a name that no earlier item declared
-abbrev pub uses_unknown : List ℕ → Scope → WhatTree → Bool
-uses_unknown text scope what = list_any (expr_uses_unknown text scope) (expressions what)
+-- the test of a leaf, with the kind of its fault where the test is met: a name was declared before, or wasn't; no constraint is
+-- spelled so; an integer literal isn't in the profile; a list is too long
+abbrev pub leaf_test : List ℕ → Scope → Leaf → FaultKind × Bool
+leaf_test text scope (Leaf.Declared t) = (FaultKind.NameTwice, is_declared text scope t)
+leaf_test text scope (Leaf.Used t) = (FaultKind.NameUnknown, not (is_declared text scope t))
+leaf_test text scope (Leaf.Constrained t) = (FaultKind.UnknownConstraint, is_none (named (spelling text t)))
+leaf_test text scope (Leaf.Number t) = (FaultKind.OutOfRange, is_none (number_of (spelling text t)))
+leaf_test text scope (Leaf.Entries n) = (FaultKind.TooMany, nat_lt most_entries n)
 
 -- ---- constraints and types
 
 abbrev pub if_some : {A : Type 0} → (A → Bool) → Option A → Bool
 if_some test (Some x) = test x
 if_some test None = false
-
--- no constraint is spelled so
-abbrev pub is_unknown : List ℕ → Bool
-is_unknown name = is_none (named name)
-
--- the item's constraint isn't known; those that declarations add are
-abbrev pub has_unknown_constraint : List ℕ → WhatTree → Bool
-has_unknown_constraint text (constraint_item name args notes) = is_unknown (spelling text name)
-has_unknown_constraint text _ = false
 
 -- a boolean or an integer is of this type, or may stand in an array of such elements
 abbrev pub scalar_fits : Shape → Scalar → Bool
@@ -162,98 +127,37 @@ is_unsupported (scalar_item shape name notes value) = is_unsupported_type shape
 is_unsupported (array_item low high shape name notes value) = is_unsupported_type shape || is_set_type shape
 is_unsupported _ = false
 
--- ---- literals
-
--- an integer literal isn't in the profile
-abbrev pub is_wide : List ℕ → Token → Bool
-is_wide text t = is_none (number_of (spelling text t))
-
-abbrev pub set_is_wide : List ℕ → SetLit → Bool
-set_is_wide text (SetLit.Range low high) = is_wide text low || is_wide text high
-set_is_wide text (SetLit.Braces values) = list_any (is_wide text) values
-
-abbrev pub elem_is_wide : List ℕ → Elem → Bool
-elem_is_wide text (Elem.Int t) = is_wide text t
-elem_is_wide text (Elem.Set s) = set_is_wide text s
-elem_is_wide text _ = false
-
-abbrev pub expr_is_wide : List ℕ → Expr → Bool
-expr_is_wide text e = list_any (elem_is_wide text) (elements e)
-
-abbrev pub shape_is_wide : List ℕ → Shape → Bool
-shape_is_wide text (Shape.VarIn s) = set_is_wide text s
-shape_is_wide text (Shape.VarSetIn s) = set_is_wide text s
-shape_is_wide text _ = false
-
-abbrev pub type_is_wide : List ℕ → WhatTree → Bool
-type_is_wide text (scalar_item shape name notes value) = shape_is_wide text shape
-type_is_wide text (array_item low high shape name notes value) = is_wide text low || is_wide text high || shape_is_wide text shape
-type_is_wide text _ = false
-
--- an integer literal of the item outside annotations isn't in the profile
-abbrev pub has_wide_literal : List ℕ → WhatTree → Bool
-has_wide_literal text what = type_is_wide text what || list_any (expr_is_wide text) (expressions what)
-
 -- ---- limits
-
-abbrev pub set_is_long : SetLit → Bool
-set_is_long (SetLit.Range low high) = false
-set_is_long (SetLit.Braces values) = nat_lt most_entries (length values)
-
-abbrev pub elem_is_long : Elem → Bool
-elem_is_long (Elem.Set s) = set_is_long s
-elem_is_long _ = false
-
-abbrev pub expr_is_long : Expr → Bool
-expr_is_long e = nat_lt most_entries (length (elements e)) || list_any elem_is_long (elements e)
-
-abbrev pub shape_is_long : Shape → Bool
-shape_is_long (Shape.VarIn s) = set_is_long s
-shape_is_long (Shape.VarSetIn s) = set_is_long s
-shape_is_long _ = false
-
-abbrev pub type_is_long : WhatTree → Bool
-type_is_long (scalar_item shape name notes value) = shape_is_long shape
-type_is_long (array_item low high shape name notes value) = shape_is_long shape
-type_is_long _ = false
-
--- an array literal or a set in braces of too many entries
-abbrev pub has_long_list : WhatTree → Bool
-has_long_list what = type_is_long what || list_any expr_is_long (expressions what)
 
 -- a limit is passed
 abbrev pub is_too_large : Reading → Bool
 is_too_large r = nat_lt most_vars (length r.vars) || nat_lt most_kernels r.kernels || nat_lt most_constants (length r.constants)
 
--- with this item a limit is passed
-abbrev pub passes_limit : Reading → WhatTree → Effect → Bool
-passes_limit before what more = has_long_list what || list_any has_long_row more.constraints || is_too_large (joined before more)
-
 -- ---- the fault
 
--- the first kind whose test is met
-abbrev pub first_kind : List (FaultKind × Bool) → Option FaultKind
-first_kind [] = None
-first_kind (t ∷ ts) = cond t.1 (Some t.0) (first_kind ts)
-
--- the tests of an item by itself and against the declarations before it
+-- the tests of an item by itself and against the declarations before it: those of its leaves, what doesn't fit, and
+-- its type
 abbrev pub own_tests : List ℕ → Scope → WhatTree → List (FaultKind × Bool)
-own_tests text scope what =
-    (FaultKind.NameTwice, declares_again text scope what)
-    ∷ (FaultKind.NameUnknown, uses_unknown text scope what)
-    ∷ (FaultKind.UnknownConstraint, has_unknown_constraint text what)
-    ∷ (FaultKind.WrongArgument, not (is_unsupported what) && has_wrong_argument text scope what)
-    ∷ (FaultKind.Unsupported, is_unsupported what)
-    ∷ (FaultKind.OutOfRange, has_wide_literal text what)
-    ∷ []
+own_tests text scope what = map (leaf_test text scope) (leaves what)
+    ++ (FaultKind.WrongArgument, not (is_unsupported what) && has_wrong_argument text scope what)
+    ∷ (FaultKind.Unsupported, is_unsupported what) ∷ []
 
--- the tests of an item, and of what it adds, against all that stands before it
-abbrev pub place_tests : Reading → WhatTree → Effect → List (FaultKind × Bool)
-place_tests before what more = (FaultKind.TooMany, passes_limit before what more) ∷ (FaultKind.AfterSolve, is_some before.solved) ∷ []
+-- the tests of what an item adds, against all that stands before it
+abbrev pub place_tests : Reading → Effect → List (FaultKind × Bool)
+place_tests before more =
+    (FaultKind.TooMany, list_any has_long_row more.constraints || is_too_large (joined before more)) ∷ (FaultKind.AfterSolve, is_some before.solved) ∷ []
+
+-- a test of this kind that is met
+abbrev pub tells : FaultKind → FaultKind × Bool → Bool
+tells kind t = nat_eq (kind_number t.0) (kind_number kind) && t.1
+
+-- the least kind of which a test is met
+unfoldable pub least_kind : List (FaultKind × Bool) → Option FaultKind
+least_kind tests = find (λ kind. list_any (tells kind) tests) kinds
 
 -- the least kind that an item has, against what stands before it
 unfoldable pub fault_of : List ℕ → Reading → WhatTree → Option FaultKind
-fault_of text before what = first_kind (own_tests text before.scope what ++ place_tests before what (effect_of text before.scope (length before.vars) what))
+fault_of text before what = least_kind (own_tests text before.scope what ++ place_tests before (effect_of text before.scope (length before.vars) what))
 
 -- an answer of this kind alone, and only where this holds; memory may be refused at any time
 abbrev pub OnlyFault : FaultKind → Type 0 → Stop → Type 0

@@ -1,5 +1,5 @@
 -- Hints of what names stand for, beside the declared names. A hint that is there says what these say; a name may lack one.
-use Rattle.std.specs.Prelude.{◌≡◌, ℕ, List, take, All, Some}
+use Rattle.std.specs.Prelude.{◌≡◌, ◌<◌, ℕ, List, take, All, Some}
 use Rattle.constraint_model.specs.declared.model.Term.{Term}
 use Rattle.constraint_model.specs.declared.meanings.Meaning.{Meaning}
 use Rattle.fzn_model.specs.declared.hints.Hint.{Hint}
@@ -11,9 +11,9 @@ name_in h = take h.length h.bytes
 abbrev pub meaning_in : Hint → Meaning
 meaning_in h = Meaning.One (record { is_bool = h.is_bool; term = Term.Var h.variable })
 
--- the hint's name stands for its variable
+-- the hint's name, where it has one, stands for its variable
 abbrev pub IsRight : Scope → Hint → Type 0
-IsRight scope h = meaning_of scope (name_in h) ≡ Some (meaning_in h)
+IsRight scope h = 0 < h.length → meaning_of scope (name_in h) ≡ Some (meaning_in h)
 
 -- each of them is such a hint
 abbrev pub AreRight : Scope → List Hint → Type 0

@@ -2,7 +2,9 @@ pub mod Drafts
 pub mod Effects
 pub mod FaultKinds
 pub mod Faults
+pub mod Hashes
 pub mod Hints
+pub mod Leaves
 pub mod Literals
 pub mod Outputs
 pub mod Resolving

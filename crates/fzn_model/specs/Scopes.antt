@@ -52,15 +52,6 @@ scalar_of (Meaning.One s) = Some s
 scalar_of (Meaning.Row array) = None
 scalar_of (Meaning.Set ranges) = None
 
--- what an array's entry stands for, where it is a boolean or an integer
-abbrev pub entry_at : List ℕ → Scope → Elem → Option Scalar
-entry_at text scope Elem.True = Some (boolean (pos 1))
-entry_at text scope Elem.False = Some (boolean (pos 0))
-entry_at text scope (Elem.Int t) = Some (integer (number_at text t))
-entry_at text scope (Elem.Float t) = None
-entry_at text scope (Elem.Name t) = option_and_then scalar_of (meaning_of scope (spelling text t))
-entry_at text scope (Elem.Set s) = None
-
 -- all of them, where each is there
 abbrev pub all_some : {A : Type 0} → List (Option A) → Option (List A)
 all_some [] = Some []
@@ -74,6 +65,10 @@ simple_at text scope (Elem.Int t) = Some (Meaning.One (integer (number_at text t
 simple_at text scope (Elem.Float t) = None
 simple_at text scope (Elem.Name t) = meaning_of scope (spelling text t)
 simple_at text scope (Elem.Set s) = Some (Meaning.Set (set_at text s))
+
+-- what an array's entry stands for, where it is a boolean or an integer
+abbrev pub entry_at : List ℕ → Scope → Elem → Option Scalar
+entry_at text scope e = option_and_then scalar_of (simple_at text scope e)
 
 -- an array as it is written out, which has no number
 abbrev pub array_literal : List Scalar → Meaning

@@ -129,37 +129,35 @@ fn array_effect(
     text: &[u8],
     declaration: &ArrayDeclaration<'_>,
     value: Option<Meaning>,
-) -> Result<Effect, Stop>
-    ensures { IfOk result (λ e. e ≡ effects.array_effect text.now declaration.now.shape.now declaration.now.name.now (map ann_tree declaration.now.anns.now) value) }
+    effect: &mut Effect,
+) -> Result<(), Stop>
+    requires { effect.old ≡ effects.no_effect }
+    ensures { OnOk result (effect.new ≡ effects.array_effect text.now declaration.now.shape.now declaration.now.name.now (map ann_tree declaration.now.anns.now) value) }
 {
     let entries = terms_in(alloc, &value)?;
-    let constraints = element_constraints(alloc, text, declaration.shape, entries.as_slice())?;
-    let output = array_output(alloc, text, declaration, entries)?;
-    let declared = named(alloc, declaration.name, value)?;
-    Ok(Effect {
-        declared,
-        var: None,
-        constraints,
-        output,
-        solved: None,
-    })
+    effect.constraints = element_constraints(alloc, text, declaration.shape, entries.as_slice())?;
+    effect.output = array_output(alloc, text, declaration, entries)?;
+    effect.declared = named(alloc, declaration.name, value)?;
+    Ok(())
 }
 
-/// What the declaration of an array adds, where its value fits.
+/// Puts down what the declaration of an array adds, where its value fits.
 pub(crate) fn read_array(
     alloc: Global,
     text: &[u8],
     scope: &Scope,
     declaration: &ArrayDeclaration<'_>,
     value: &Expr,
-) -> Result<Effect, Stop>
-    ensures effect { IfOk result (λ e. e ≡ effects.array_effect text.now declaration.now.shape.now declaration.now.name.now (map ann_tree declaration.now.anns.now) (scopes.expr_meaning text.now scope.now value.now)) }
+    effect: &mut Effect,
+) -> Result<(), Stop>
+    requires { effect.old ≡ effects.no_effect }
+    ensures effect { OnOk result (effect.new ≡ effects.array_effect text.now declaration.now.shape.now declaration.now.name.now (map ann_tree declaration.now.anns.now) (scopes.expr_meaning text.now scope.now value.now)) }
     ensures fits { OnOk result (faults.is_wrong_row text.now scope.now declaration.now.low declaration.now.high declaration.now.shape.now value.now ≡ false) }
     ensures wrong { IfErr result (faults.OnlyFault Kind.WrongArgument (faults.is_wrong_row text.now scope.now declaration.now.low declaration.now.high declaration.now.shape.now value.now ≡ true)) }
 {
     let value = read_row(alloc, text, scope, declaration, value)?;
-    match array_effect(alloc, text, declaration, value) {
-        Ok(effect) => Ok(effect),
+    match array_effect(alloc, text, declaration, value, effect) {
+        Ok(()) => Ok(()),
         Err(_) => Err(Stop::NoMemory),
     }
 }

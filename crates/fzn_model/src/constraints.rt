@@ -18,7 +18,7 @@ use crate::scope::Scope;
 use crate::searches::all_phases;
 use crate::stop::Stop;
 use constraint_model::{
-    ArrayTerms, Constraint, ConstraintName, Goal, Meaning, Operand, Phase, Term, fits_some_row,
+    ArrayTerms, Constraint, ConstraintName, Goal, Meaning, Operand, Term, fits_some_row,
 };
 use fzn_parser::tree::{Aim, Ann, Expr};
 use list_of::ListOf;
@@ -75,18 +75,13 @@ fn arguments(
 }
 
 #[inline(always)]
-fn one_constraint(alloc: Global, constraint: Constraint) -> Result<Effect, Stop>
-    ensures { IfOk result (λ e. e ≡ effects.constraint_alone constraint) }
+fn one_constraint(alloc: Global, constraint: Constraint, effect: &mut Effect) -> Result<(), Stop>
+    requires { effect.old ≡ effects.no_effect }
+    ensures { OnOk result (effect.new ≡ effects.constraint_alone constraint) }
 {
-    let mut constraints = ListOf::from_vec(Vec::with_capacity(alloc, 1)?);
-    constraints.push(constraint)?;
-    Ok(Effect {
-        declared: None,
-        var: None,
-        constraints,
-        output: None,
-        solved: None,
-    })
+    effect.constraints = ListOf::from_vec(Vec::with_capacity(alloc, 1)?);
+    effect.constraints.push(constraint)?;
+    Ok(())
 }
 
 #[inline(always)]
@@ -94,14 +89,16 @@ fn known_effect(
     alloc: Global,
     name: ConstraintName,
     meanings: ListOf<Meaning>,
-) -> Result<Effect, Stop>
-    ensures { IfOk result (λ e. e ≡ effects.constraint_alone (fitting.constraint_on name meanings)) }
+    effect: &mut Effect,
+) -> Result<(), Stop>
+    requires { effect.old ≡ effects.no_effect }
+    ensures { OnOk result (effect.new ≡ effects.constraint_alone (fitting.constraint_on name meanings)) }
 {
     let constraint = constraint_on(alloc, name, meanings)?;
-    one_constraint(alloc, constraint)
+    one_constraint(alloc, constraint, effect)
 }
 
-/// What a constraint item adds, where its arguments fit.
+/// Puts down what a constraint item adds, where its arguments fit.
 #[inline(always)]
 pub(crate) fn read_constraint(
     alloc: Global,
@@ -109,8 +106,10 @@ pub(crate) fn read_constraint(
     scope: &Scope,
     name: &[u8],
     args: &[Expr],
-) -> Result<Effect, Stop>
-    ensures effect { IfOk result (λ e. e ≡ effects.constraint_effect text.now scope.now name.now args.now) }
+    effect: &mut Effect,
+) -> Result<(), Stop>
+    requires { effect.old ≡ effects.no_effect }
+    ensures effect { OnOk result (effect.new ≡ effects.constraint_effect text.now scope.now name.now args.now) }
     ensures fits { OnOk result (faults.arguments_fit text.now scope.now name.now args.now ≡ true) }
     ensures wrong { IfErr result (faults.OnlyFault Kind.WrongArgument (faults.arguments_fit text.now scope.now name.now args.now ≡ false)) }
 {
@@ -123,8 +122,8 @@ pub(crate) fn read_constraint(
     if !fits_some_row(known, meanings.as_slice()) {
         return Err(Stop::Fault(FaultKind::WrongArgument));
     }
-    match known_effect(alloc, known, meanings) {
-        Ok(effect) => Ok(effect),
+    match known_effect(alloc, known, meanings, effect) {
+        Ok(()) => Ok(()),
         Err(_) => Err(Stop::NoMemory),
     }
 }
@@ -178,19 +177,7 @@ fn read_goal(alloc: Global, text: &[u8], scope: &Scope, aim: &Aim) -> Result<Goa
     }
 }
 
-fn solve_effect(alloc: Global, phases: ListOf<Phase>, goal: Goal) -> Effect
-    ensures { result ≡ record { declared = None; var = None; constraints = []; output = None; solved = Some (phases, goal) } }
-{
-    Effect {
-        declared: None,
-        var: None,
-        constraints: ListOf::new(alloc),
-        output: None,
-        solved: Some((phases, goal)),
-    }
-}
-
-/// What the solve item adds, where its objective fits.
+/// Puts down what the solve item adds, where its objective fits.
 pub(crate) fn read_solve(
     alloc: Global,
     text: &[u8],
@@ -198,8 +185,10 @@ pub(crate) fn read_solve(
     count: u32,
     anns: &[Ann],
     aim: &Aim,
-) -> Result<Effect, Stop>
-    ensures effect { IfOk result (λ e. e ≡ effects.solve_effect text.now scope.now count (map ann_tree anns.now) aim.now) }
+    effect: &mut Effect,
+) -> Result<(), Stop>
+    requires { effect.old ≡ effects.no_effect }
+    ensures effect { OnOk result (effect.new ≡ effects.solve_effect text.now scope.now count (map ann_tree anns.now) aim.now) }
     ensures fits { OnOk result (faults.aim_fits text.now scope.now aim.now ≡ true) }
     ensures wrong { IfErr result (faults.OnlyFault Kind.WrongArgument (faults.aim_fits text.now scope.now aim.now ≡ false)) }
 {
@@ -211,5 +200,6 @@ pub(crate) fn read_solve(
         Ok(phases) => phases,
         Err(_) => return Err(Stop::NoMemory),
     };
-    Ok(solve_effect(alloc, phases, goal))
+    effect.solved = Some((phases, goal));
+    Ok(())
 }

@@ -7,16 +7,16 @@ ghost use Rattle.constraint_model.specs.Fits.{add_once, constants_in, kernels_of
 ghost use Rattle.constraint_model.specs.Limits as limits;
 ghost use Rattle.fzn_model.specs.declared.fault_kinds.FaultKind.{FaultKind as Kind};
 ghost use Rattle.constraint_model.specs.Arrays.{HaveNumbers};
-ghost use Rattle.fzn_model.specs.Drafts.{seen, counted, put, IsNew};
+ghost use Rattle.fzn_model.specs.Drafts.{seen, counted, put, IsNew, first_kind};
 ghost use Rattle.fzn_model.specs.Scopes.{AreNumbered, meaning_of};
 ghost use Rattle.fzn_model.specs.Effects as effects;
 ghost use Rattle.fzn_model.specs.Faults as faults;
 
 use crate::effect::Effect;
 use crate::fault_kinds::FaultKind;
-use crate::limits::{MOST_CONSTANTS, MOST_KERNELS, MOST_VARS, has_long_list, has_long_rows};
+use crate::limits::{MOST_CONSTANTS, MOST_KERNELS, MOST_VARS, has_long_rows};
 use crate::name_hash::NameHash;
-use crate::reads::read_item;
+use crate::reads::{no_effect, read_item};
 use crate::scope::Scope;
 use crate::stop::Stop;
 use constraint_model::{
@@ -227,20 +227,17 @@ impl Draft {
         push_all(&mut self.constraints, constraints)
     }
 
-    /// Counts what an item adds. Errors: the item's least fault against all that stands; memory.
+    /// Counts what an item adds. Errors: the least fault of that against all that stands; memory.
     #[inline(always)]
-    fn place(&mut self, what: &What, effect: &Effect) -> Result<(), Stop>
+    fn place(&mut self, effect: &Effect) -> Result<(), Stop>
         requires vars { length self.old.vars ≤ limits.most_vars }
         requires kernels { self.old.kernels ≤ limits.most_kernels }
         requires numbers { HaveNumbers self.old.constants.arrays effect.now.constraints }
         ensures counted { OnOk result (seen self.new ≡ counted (seen self.old) effect.now) }
-        ensures lawful { OnOk result (faults.first_kind (faults.place_tests (seen self.old) (what_tree what.now) effect.now) ≡ None) }
+        ensures lawful { OnOk result (first_kind (faults.place_tests (seen self.old) effect.now) ≡ None) }
         ensures fits { OnOk result (faults.is_too_large (effects.joined (seen self.old) effect.now) ≡ false) }
-        ensures fault { IfErr result (λ s. faults.Refuses (faults.first_kind (faults.place_tests (seen self.old) (what_tree what.now) effect.now)) s) }
+        ensures fault { IfErr result (λ s. faults.Refuses (first_kind (faults.place_tests (seen self.old) effect.now)) s) }
     {
-        if has_long_list(what) {
-            return Err(Stop::Fault(FaultKind::TooMany));
-        }
         if has_long_rows(effect.constraints.as_slice()) {
             return Err(Stop::Fault(FaultKind::TooMany));
         }
@@ -254,27 +251,34 @@ impl Draft {
         Ok(())
     }
 
-    /// What an item adds, counted. Errors: its least fault against what stands; memory.
+    /// Puts down what an item adds, and counts it. Errors: its least fault against what stands; memory.
     #[tactic(auto, unfolding(crate::specs::Faults::fault_of))]
     #[inline(always)]
-    fn judge(&mut self, alloc: Global, text: &[u8], what: &What) -> Result<Effect, Stop>
+    fn judge(
+        &mut self,
+        alloc: Global,
+        text: &[u8],
+        what: &What,
+        effect: &mut Effect,
+    ) -> Result<(), Stop>
+        requires nothing { effect.old ≡ effects.no_effect }
         requires vars { length self.old.vars ≤ limits.most_vars }
         requires kernels { self.old.kernels ≤ limits.most_kernels }
         requires numbers { AreNumbered self.old.constants.arrays self.old.scope }
-        ensures effect { IfOk result (λ e. e ≡ effects.effect_of text.now self.old.scope (length self.old.vars) (what_tree what.now)) }
-        ensures new { IfOk result (λ e. IsNew self.old.scope e) }
-        ensures counted { IfOk result (λ e. seen self.new ≡ counted (seen self.old) e) }
-        ensures fits { IfOk result (λ e. faults.is_too_large (effects.joined (seen self.old) e) ≡ false) }
+        ensures effect { OnOk result (effect.new ≡ effects.effect_of text.now self.old.scope (length self.old.vars) (what_tree what.now)) }
+        ensures new { OnOk result (IsNew self.old.scope effect.new) }
+        ensures counted { OnOk result (seen self.new ≡ counted (seen self.old) effect.new) }
+        ensures fits { OnOk result (faults.is_too_large (effects.joined (seen self.old) effect.new) ≡ false) }
         ensures lawful { OnOk result (faults.fault_of text.now (seen self.old) (what_tree what.now) ≡ None) }
         ensures fault { IfErr result (λ s. faults.Refuses (faults.fault_of text.now (seen self.old) (what_tree what.now)) s) }
     {
         let count = self.vars.len() as u32;
-        let effect = match read_item(alloc, text, &self.scope, count, what) {
-            Ok(effect) => effect,
+        match read_item(alloc, text, &self.scope, count, what, effect) {
+            Ok(()) => {}
             Err(stop) => return Err(stop),
-        };
-        match self.place(what, &effect) {
-            Ok(()) => Ok(effect),
+        }
+        match self.place(effect) {
+            Ok(()) => Ok(()),
             Err(stop) => Err(stop),
         }
     }
@@ -289,10 +293,11 @@ impl Draft {
         ensures lawful { OnOk result (faults.fault_of text.now (seen self.old) (what_tree item.now.what) ≡ None) }
         ensures fault { IfErr result (λ s. faults.Refuses (faults.fault_of text.now (seen self.old) (what_tree item.now.what)) s) }
     {
-        let effect = match self.judge(alloc, text, &item.what) {
-            Ok(effect) => effect,
+        let mut effect = no_effect(alloc);
+        match self.judge(alloc, text, &item.what, &mut effect) {
+            Ok(()) => {}
             Err(stop) => return Err(stop),
-        };
+        }
         match self.put(alloc, effect) {
             Ok(()) => Ok(()),
             Err(_) => Err(Stop::NoMemory),

@@ -1,6 +1,6 @@
 //! The kinds of fault of a text, with their numbers and names.
 
-ghost use Rattle.std.specs.Prelude.{◌≡◌};
+ghost use Rattle.std.specs.Prelude.{◌≡◌, nat_eq};
 ghost use Rattle.fzn_model.specs.FaultKinds.{kind_number, kind_name, kind_numbered};
 
 /// The kinds of fault of a text. Those of an item and of its place are found here, the others by those that read the text
@@ -39,6 +39,14 @@ impl FaultKind {
         ensures { result ≡ kind_number self }
     {
         self as u8
+    }
+
+    /// Whether both are one kind.
+    #[inline(always)]
+    pub(crate) fn is_same(self, other: FaultKind) -> bool
+        ensures { result ≡ nat_eq (kind_number self) (kind_number other) }
+    {
+        self.number() == other.number()
     }
 
     /// Its name.

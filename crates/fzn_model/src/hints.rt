@@ -1,6 +1,6 @@
 //! Hints by which the short names of variables are found in one step.
 
-ghost use Rattle.std.specs.Prelude.{◌≡◌, [], Some, IsTrue, IfSome};
+ghost use Rattle.std.specs.Prelude.{◌≡◌, [], Some, ◌<◌, IsTrue, IfSome};
 ghost use Rattle.constraint_model.specs.declared.model.Term.{Term as Stood};
 ghost use Rattle.constraint_model.specs.declared.meanings.Meaning.{Meaning as Stands};
 ghost use Rattle.fzn_model.specs.Scopes.{Scope, meaning_of};
@@ -8,25 +8,34 @@ ghost use Rattle.fzn_model.specs.Hints.{name_in, meaning_in, IsRight, AreRight};
 
 use constraint_model::{Meaning, Scalar, Term};
 use std::alloc::{AllocError, Global};
-use std::hash::{FoldHasher, Hasher};
 
 /// So many bytes a name with a hint may have.
-const MOST_BYTES: usize = 21;
+const MOST_BYTES: usize = 20;
 
 /// So many names there is room for at most.
 const MOST_NAMES: usize = 65_536;
 
-/// So many slots stand side by side, and a name has its hint in one of them.
+/// So many hints stand side by side, and so many of two such buckets may be the one of a name.
 const BUCKET: usize = 4;
 
-/// A short name, and the variable that it stands for.
+/// The golden ratio of 2 to the 64: numbers that lie side by side are far apart in the upper bits of their products with it.
+const SPREAD: u64 = 0x9e37_79b9_7f4a_7c15;
+
+/// A short name, and the variable that it stands for. Where the name has no bytes, it is the hint of none.
 #[derive(Clone, Copy)]
 pub(crate) struct Hint {
     bytes: [u8; MOST_BYTES],
     length: u8,
     is_bool: bool,
-    variable: u32,
+    variable: u16,
 }
+
+const NO_HINT: Hint = Hint {
+    bytes: [0; MOST_BYTES],
+    length: 0,
+    is_bool: false,
+    variable: 0,
+};
 
 /// The first bytes of a name. Whether they are those of the name is seen where they are compared.
 fn first_bytes(name: &[u8]) -> [u8; MOST_BYTES] {
@@ -42,24 +51,27 @@ fn first_bytes(name: &[u8]) -> [u8; MOST_BYTES] {
 impl Hint {
     #[inline(always)]
     fn has_name(&self, name: &[u8]) -> bool
-        ensures { IsTrue result → name_in self.now ≡ name.now }
+        ensures { IsTrue result → (name_in self.now ≡ name.now) × (0 < self.now.length) }
     {
         let length = name.len();
-        length == self.length as usize && length <= MOST_BYTES && &self.bytes[..length] == name
+        length == self.length as usize
+            && 0 < length
+            && length <= MOST_BYTES
+            && &self.bytes[..length] == name
     }
 
     /// The hint of a short name.
     fn on_variable(name: &[u8], is_bool: bool, variable: u32) -> Option<Hint>
         ensures { IfSome result (λ h. (name_in h ≡ name.now) × (meaning_in h ≡ Stands.One (record { is_bool = is_bool; term = Stood.Var variable }))) }
     {
-        if name.len() > MOST_BYTES {
+        if name.len() > MOST_BYTES || variable > 65_535 {
             return None;
         }
         let hint = Hint {
             bytes: first_bytes(name),
             length: name.len() as u8,
             is_bool,
-            variable,
+            variable: variable as u16,
         };
         if hint.has_name(name) {
             Some(hint)
@@ -87,55 +99,39 @@ impl Hint {
     {
         Scalar {
             is_bool: self.is_bool,
-            term: Term::Var(self.variable),
+            term: Term::Var(self.variable as u32),
         }
     }
 
-    fn hash(&self) -> u64 {
+    fn number(&self) -> u64 {
         let length = self.length as usize;
         if length <= MOST_BYTES {
-            hash_of(&self.bytes[..length])
+            number_of(&self.bytes[..length])
         } else {
             0
         }
     }
 }
 
-/// Where a hint stands, beside some bits of the hash of its name.
-#[derive(Clone, Copy)]
-struct Slot {
-    /// 0 where the slot is empty.
-    mark: u16,
-    place: u16,
-}
-
-const EMPTY: Slot = Slot { mark: 0, place: 0 };
-
+/// The number of a name. Names that end in digits, as most do, have numbers side by side where those that the digits write are,
+/// so what an item asks for lies together, as its names do.
 #[inline(always)]
-fn hash_of(name: &[u8]) -> u64 {
-    let mut hasher = FoldHasher::default();
-    hasher.write(name);
-    hasher.finish()
+fn number_of(name: &[u8]) -> u64 {
+    let mut number: u64 = 0;
+    for byte in name {
+        if *byte != b'_' {
+            number = number.wrapping_mul(10).wrapping_add(*byte as u64);
+        }
+    }
+    number
 }
 
-/// The slot of a name with this hash, where there are so many slots.
-#[inline(always)]
-fn slot_of(hash: u64, room: usize) -> usize {
-    ((hash >> 32).wrapping_mul(room as u64) >> 32) as usize
-}
-
-#[inline(always)]
-fn mark_of(hash: u64) -> u16 {
-    (hash % 65_536) as u16 | 1
-}
-
-/// Hints, found by slots whose places a fast hash gives. There are four slots a name, so that few names lack a hint. Where it
-/// is foreseen which names collide, more do, and are found as they would be without. Slots and hints stand apart, since a
-/// slot is small: many names in no order are asked for, and what is asked for should be near.
+/// Hints of names, each at one of eight places that the number of its name gives: four where that number is, and four far from
+/// there. There are two places a name, so that few names lack a hint. Where it is foreseen which names collide, more do, and
+/// are found as they would be without.
 #[derive(Drop)]
 pub(crate) struct Hints {
     hints: Vec<Hint>,
-    slots: Vec<Slot>,
     room: usize,
 }
 
@@ -146,17 +142,16 @@ impl Hints {
     {
         Hints {
             hints: Vec::new(alloc),
-            slots: Vec::new(alloc),
-            room: MOST_NAMES.min(names) * BUCKET,
+            room: (MOST_NAMES.min(names) * 2).next_power_of_two(),
         }
     }
 
-    /// Makes the slots, where there are none.
+    /// Makes the places, where there are none.
     pub(crate) fn make(&mut self) -> Result<(), AllocError>
-        ensures { self.new.hints.items ≡ self.old.hints.items }
+        ensures { (scope : Scope) → AreRight scope self.old.hints.items → AreRight scope self.new.hints.items }
     {
-        if self.slots.is_empty() {
-            self.slots.resize(self.room, EMPTY)?;
+        if self.hints.is_empty() {
+            self.hints.resize(self.room, NO_HINT)?;
         }
         Ok(())
     }
@@ -177,18 +172,15 @@ impl Hints {
         }
     }
 
-    /// Where the hint of a name with this hash may stand: any place is right, since what is found there is compared.
+    /// The place of this step for a name of this number: any is right, since what is found there is compared.
     #[inline(always)]
-    fn place_of(&self, hash: u64) -> Option<usize> {
-        let first = slot_of(hash, self.room);
-        let mark = mark_of(hash);
-        for step in 0..BUCKET {
-            let slot = first ^ step;
-            if slot < self.slots.len() && self.slots[slot].mark == mark {
-                return Some(self.slots[slot].place as usize);
-            }
-        }
-        None
+    fn place(&self, number: u64, step: usize) -> usize {
+        let bucket = if step < BUCKET {
+            number
+        } else {
+            number.wrapping_mul(SPREAD) >> 32
+        };
+        (bucket as usize ^ step) & self.room.wrapping_sub(1)
     }
 
     /// The variable that a name stands for, where there is a hint.
@@ -199,64 +191,44 @@ impl Hints {
         if name.len() > MOST_BYTES {
             return None;
         }
-        match self.place_of(hash_of(name)) {
-            Some(place) => self.at(place, name),
-            None => None,
-        }
-    }
-
-    /// The first empty slot of a bucket.
-    fn empty_slot(&self, first: usize) -> Option<usize> {
-        for step in 0..BUCKET {
-            let slot = first ^ step;
-            if slot < self.slots.len() && self.slots[slot].mark == 0 {
-                return Some(slot);
+        let number = number_of(name);
+        for step in 0..2 * BUCKET {
+            let found = self.at(self.place(number, step), name);
+            if found.is_some() {
+                return found;
             }
         }
         None
     }
 
-    /// Names the place of the next hint at an empty slot; whether there was one.
-    fn take_slot(&mut self, hash: u64) -> bool
-        ensures { self.new.hints.items ≡ self.old.hints.items }
-    {
-        if self.hints.len() >= MOST_NAMES {
-            return false;
-        }
-        let place = self.hints.len() as u16;
-        match self.empty_slot(slot_of(hash, self.room)) {
-            Some(slot) => {
-                if slot < self.slots.len() {
-                    let mark = mark_of(hash);
-                    self.slots[slot] = Slot { mark, place };
-                }
-                true
+    /// The first of the places for a name of this number at which no hint is.
+    fn empty_place(&self, number: u64) -> Option<usize> {
+        for step in 0..2 * BUCKET {
+            let place = self.place(number, step);
+            if place < self.hints.len() && self.hints[place].length == 0 {
+                return Some(place);
             }
-            None => false,
         }
+        None
     }
 
-    /// Puts a hint behind the others. Where there is no memory for it, its name is found as it would be without.
-    fn push(&mut self, hint: Hint)
+    /// Puts a hint at a place.
+    fn set(&mut self, place: usize, hint: Hint)
         ensures { (scope : Scope) → AreRight scope self.old.hints.items → IsRight scope hint → AreRight scope self.new.hints.items }
     {
-        match self.hints.push(hint) {
-            Ok(()) => {}
-            Err(_) => {}
+        if place < self.hints.len() {
+            self.hints[place] = hint;
         }
     }
 
-    /// Puts a hint, where there is one, and a slot for it is empty.
+    /// Puts a hint, where there is one, and a place for it is empty.
     pub(crate) fn put(&mut self, hint: Option<Hint>)
         ensures { (scope : Scope) → AreRight scope self.old.hints.items → IfSome hint (IsRight scope) → AreRight scope self.new.hints.items }
     {
-        match hint {
-            Some(hint) => {
-                if self.take_slot(hint.hash()) {
-                    self.push(hint);
-                }
+        if let Some(hint) = hint {
+            if let Some(place) = self.empty_place(hint.number()) {
+                self.set(place, hint);
             }
-            None => {}
         }
     }
 }

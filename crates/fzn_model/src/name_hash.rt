@@ -1,24 +1,91 @@
 //! How the names of a text are hashed.
 
+ghost use Rattle.std.specs.Prelude.{◌≡◌};
+ghost use Rattle.fzn_model.specs.Hashes.{with_byte, written, finished};
+
 use crate::exprs::spelling;
 use fzn_lexer::Token;
 use fzn_parser::tree::{Item, What};
 use sha2::{Digest, Sha256};
 use std::hash::{BuildHasher, DefaultHasher, Hasher};
 
+/// Below this number a word has room for one byte more.
+const FULL: u64 = 72_057_594_037_927_936;
+
+/// A word of no bytes.
+const NO_BYTES: u64 = 1;
+
+/// Hashes a name word by word. It comes byte by byte, and one byte costs the hash below as much as a word.
+#[derive(Clone, Copy)]
+pub(crate) struct NameHasher {
+    start: DefaultHasher,
+    /// The bytes since the last word, behind a 1: so no two names make the same words.
+    word: u64,
+}
+
+impl NameHasher {
+    #[inline(always)]
+    fn put(&mut self, byte: u8)
+        ensures { self.new ≡ with_byte self.old byte }
+    {
+        if self.word >= FULL {
+            self.start.write_u64(self.word);
+            self.word = NO_BYTES;
+        }
+        self.word = self.word * 256 + byte as u64;
+    }
+}
+
+impl Hasher for NameHasher {
+    ghost use Rattle.fzn_model.specs.Hashes.{written, finished};
+
+    ghost write = { written };
+
+    ghost finish = { finished };
+
+    #[inline(always)]
+    fn finish(&self) -> u64 {
+        let mut state = self.start;
+        state.write_u64(self.word);
+        state.finish()
+    }
+
+    // Besides its bytes a name writes its length. That is passed over: the words tell it.
+    #[inline(always)]
+    fn write(&mut self, bytes: &[u8]) {
+        if let [byte] = bytes {
+            self.put(*byte);
+        }
+    }
+}
+
 /// Makes the hashers for the names of one text. Each begins with a digest of all names that the text declares. So it can't
 /// be foreseen which names collide, as long as that digest can't be chosen: another name makes another digest.
 #[derive(Clone, Copy)]
 pub(crate) struct NameHash {
-    start: DefaultHasher,
+    start: NameHasher,
+}
+
+impl NameHash {
+    fn of_digest(digest: &[u8]) -> NameHash {
+        let mut start = DefaultHasher::new();
+        start.write(digest);
+        NameHash {
+            start: NameHasher {
+                start,
+                word: NO_BYTES,
+            },
+        }
+    }
 }
 
 impl BuildHasher for NameHash {
-    type Hasher = DefaultHasher;
+    type Hasher = NameHasher;
 
     ghost build_hasher = { λ hash. hash.start };
 
-    fn build_hasher(&self) -> DefaultHasher {
+    #[inline(always)]
+    fn build_hasher(&self) -> NameHasher {
         self.start
     }
 }
@@ -54,10 +121,7 @@ fn names_digest(text: &[u8], items: &[Item]) -> [u8; 32] {
 
 /// How the names that these items declare are hashed. No contract speaks of the hashes: names are found under any.
 pub(crate) fn name_hash(text: &[u8], items: &[Item]) -> NameHash {
-    let digest = names_digest(text, items);
-    let mut start = DefaultHasher::new();
-    start.write(digest.as_slice());
-    NameHash { start }
+    NameHash::of_digest(names_digest(text, items).as_slice())
 }
 
 /// The words of a text that stand where a name is declared, by which its names are hashed. No contract speaks of them.
@@ -76,10 +140,10 @@ impl Names {
         }
     }
 
-    /// One word more.
+    /// One word more, with the byte that ends it, which no name has: where words could be cut in another way for one digest, they
+    /// could be cut so that they collide.
     pub fn add(&mut self, word: &[u8]) {
         self.digest.update(word);
-        self.digest.update(b" ".as_slice());
         self.count = self.count.saturating_add(1);
     }
 
@@ -90,9 +154,6 @@ impl Names {
 
     /// How names are hashed where these words may be among them.
     pub(crate) fn hash(self) -> NameHash {
-        let digest = self.digest.finalize();
-        let mut start = DefaultHasher::new();
-        start.write(digest.as_slice());
-        NameHash { start }
+        NameHash::of_digest(self.digest.finalize().as_slice())
     }
 }

@@ -5,24 +5,25 @@ ghost use Rattle.fzn_parser.specs.Items.{what_tree};
 ghost use Rattle.fzn_model.specs.declared.fault_kinds.FaultKind.{FaultKind as Kind};
 ghost use Rattle.fzn_model.specs.Effects as effects;
 ghost use Rattle.fzn_model.specs.Faults as faults;
-ghost use Rattle.fzn_model.specs.Drafts.{IsNew};
+ghost use Rattle.fzn_model.specs.Drafts.{has_leaf, declares_again, first_kind, own_kinds, IsNew};
 
 use crate::arrays::{ArrayDeclaration, read_array};
 use crate::constraints::{read_constraint, read_solve};
 use crate::effect::Effect;
 use crate::exprs::spelling;
 use crate::fault_kinds::FaultKind;
-use crate::literals::has_wide_literal;
-use crate::names::{declares_again, uses_unknown};
+use crate::leaves::Sought;
+use crate::names::declares_again;
 use crate::scalars::{ScalarDeclaration, read_scalar};
 use crate::scope::Scope;
 use crate::stop::Stop;
-use crate::types::{has_unknown_constraint, is_unsupported};
+use crate::types::is_unsupported;
 use fzn_parser::tree::What;
 use list_of::ListOf;
 use std::alloc::Global;
 
-fn no_effect(alloc: Global) -> Effect
+/// What adds nothing.
+pub(crate) fn no_effect(alloc: Global) -> Effect
     ensures { result ≡ effects.no_effect }
 {
     Effect {
@@ -34,7 +35,7 @@ fn no_effect(alloc: Global) -> Effect
     }
 }
 
-/// What an item adds, where its arguments, its value or its objective fit.
+/// Puts down what an item adds, where its arguments, its value or its objective fit.
 #[tactic(auto, unfolding(crate::specs::Effects::effect_of))]
 #[inline(always)]
 fn read_effect(
@@ -43,13 +44,15 @@ fn read_effect(
     scope: &Scope,
     count: u32,
     what: &What,
-) -> Result<Effect, Stop>
-    ensures effect { IfOk result (λ e. e ≡ effects.effect_of text.now scope.now count (what_tree what.now)) }
+    effect: &mut Effect,
+) -> Result<(), Stop>
+    requires { effect.old ≡ effects.no_effect }
+    ensures effect { OnOk result (effect.new ≡ effects.effect_of text.now scope.now count (what_tree what.now)) }
     ensures fits { OnOk result (faults.has_wrong_argument text.now scope.now (what_tree what.now) ≡ false) }
     ensures wrong { IfErr result (faults.OnlyFault Kind.WrongArgument (faults.has_wrong_argument text.now scope.now (what_tree what.now) ≡ true)) }
 {
     match what {
-        What::Predicate(_) => Ok(no_effect(alloc)),
+        What::Predicate(_) => Ok(()),
         What::Scalar {
             shape,
             name,
@@ -62,7 +65,7 @@ fn read_effect(
                 name: spelling(text, name),
                 anns: anns.as_slice(),
             };
-            read_scalar(alloc, text, scope, &declaration, value)
+            read_scalar(alloc, text, scope, &declaration, value, effect)
         }
         What::Array {
             low,
@@ -79,22 +82,32 @@ fn read_effect(
                 name: spelling(text, name),
                 anns: anns.as_slice(),
             };
-            read_array(alloc, text, scope, &declaration, value)
+            read_array(alloc, text, scope, &declaration, value, effect)
         }
         What::Constraint { name, args, .. } => {
-            read_constraint(alloc, text, scope, spelling(text, name), args.as_slice())
+            let name = spelling(text, name);
+            read_constraint(alloc, text, scope, name, args.as_slice(), effect)
         }
-        What::Solve { anns, aim } => read_solve(alloc, text, scope, count, anns.as_slice(), aim),
+        What::Solve { anns, aim } => {
+            read_solve(alloc, text, scope, count, anns.as_slice(), aim, effect)
+        }
     }
+}
+
+/// Whether a leaf of the item has a fault of this kind.
+fn has_leaf(text: &[u8], scope: &Scope, kind: FaultKind, what: &What) -> bool
+    ensures { result ≡ has_leaf text.now scope.now kind (what_tree what.now) }
+{
+    Sought { text, scope, kind }.is_in(what)
 }
 
 /// The kind of an item's fault: this one, or that of a name or a constraint that isn't known.
 fn least_kind(text: &[u8], scope: &Scope, what: &What, kind: FaultKind) -> FaultKind
-    ensures { result ≡ cond (faults.uses_unknown text.now scope.now (what_tree what.now)) Kind.NameUnknown (cond (faults.has_unknown_constraint text.now (what_tree what.now)) Kind.UnknownConstraint kind) }
+    ensures { result ≡ cond (has_leaf text.now scope.now Kind.NameUnknown (what_tree what.now)) Kind.NameUnknown (cond (has_leaf text.now scope.now Kind.UnknownConstraint (what_tree what.now)) Kind.UnknownConstraint kind) }
 {
-    if uses_unknown(text, scope, what) {
+    if has_leaf(text, scope, FaultKind::NameUnknown, what) {
         FaultKind::NameUnknown
-    } else if has_unknown_constraint(text, what) {
+    } else if has_leaf(text, scope, FaultKind::UnknownConstraint, what) {
         FaultKind::UnknownConstraint
     } else {
         kind
@@ -103,10 +116,10 @@ fn least_kind(text: &[u8], scope: &Scope, what: &What, kind: FaultKind) -> Fault
 
 /// Why an item isn't taken whose value, arguments or objective don't fit.
 fn refused(text: &[u8], scope: &Scope, what: &What, stop: Stop) -> Stop
-    requires new { faults.declares_again text.now scope.now (what_tree what.now) ≡ false }
+    requires new { declares_again text.now scope.now (what_tree what.now) ≡ false }
     requires supported { faults.is_unsupported (what_tree what.now) ≡ false }
     requires wrong { faults.OnlyFault Kind.WrongArgument (faults.has_wrong_argument text.now scope.now (what_tree what.now) ≡ true) stop }
-    ensures { faults.Refuses (faults.first_kind (faults.own_tests text.now scope.now (what_tree what.now))) result }
+    ensures { faults.Refuses (first_kind (own_kinds text.now scope.now (what_tree what.now))) result }
 {
     match stop {
         Stop::Fault(kind) => Stop::Fault(least_kind(text, scope, what, kind)),
@@ -114,8 +127,8 @@ fn refused(text: &[u8], scope: &Scope, what: &What, stop: Stop) -> Stop
     }
 }
 
-/// What an item adds. Errors: its least fault against the declarations before it; memory. What fits uses nothing that isn't
-/// known, so names are asked for once more only where something doesn't fit.
+/// Puts down what an item adds. Errors: its least fault against the declarations before it; memory. What fits uses nothing
+/// that isn't known, so names are asked for once more only where something doesn't fit.
 #[tactic(auto, using(crate::proofs::KnownLaws::fitting_names, crate::proofs::KnownLaws::fitting_constraint))]
 pub(crate) fn read_item(
     alloc: Global,
@@ -123,11 +136,13 @@ pub(crate) fn read_item(
     scope: &Scope,
     count: u32,
     what: &What,
-) -> Result<Effect, Stop>
-    ensures effect { IfOk result (λ e. e ≡ effects.effect_of text.now scope.now count (what_tree what.now)) }
-    ensures new { IfOk result (λ e. IsNew scope.now e) }
-    ensures lawful { OnOk result (faults.first_kind (faults.own_tests text.now scope.now (what_tree what.now)) ≡ None) }
-    ensures fault { IfErr result (λ s. faults.Refuses (faults.first_kind (faults.own_tests text.now scope.now (what_tree what.now))) s) }
+    effect: &mut Effect,
+) -> Result<(), Stop>
+    requires { effect.old ≡ effects.no_effect }
+    ensures effect { OnOk result (effect.new ≡ effects.effect_of text.now scope.now count (what_tree what.now)) }
+    ensures new { OnOk result (IsNew scope.now effect.new) }
+    ensures lawful { OnOk result (first_kind (own_kinds text.now scope.now (what_tree what.now)) ≡ None) }
+    ensures fault { IfErr result (λ s. faults.Refuses (first_kind (own_kinds text.now scope.now (what_tree what.now))) s) }
 {
     if declares_again(text, scope, what) {
         return Err(Stop::Fault(FaultKind::NameTwice));
@@ -136,12 +151,18 @@ pub(crate) fn read_item(
         let kind = least_kind(text, scope, what, FaultKind::Unsupported);
         return Err(Stop::Fault(kind));
     }
-    let effect = match read_effect(alloc, text, scope, count, what) {
-        Ok(effect) => effect,
+    match read_effect(alloc, text, scope, count, what, effect) {
+        Ok(()) => {}
         Err(stop) => return Err(refused(text, scope, what, stop)),
-    };
-    if has_wide_literal(text, what) {
+    }
+    // Each of these walks is built for its kind, and passes over the leaves that can't have it.
+    let kind = FaultKind::OutOfRange;
+    if (Sought { text, scope, kind }).is_in(what) {
         return Err(Stop::Fault(FaultKind::OutOfRange));
     }
-    Ok(effect)
+    let kind = FaultKind::TooMany;
+    if (Sought { text, scope, kind }).is_in(what) {
+        return Err(Stop::Fault(FaultKind::TooMany));
+    }
+    Ok(())
 }

@@ -115,21 +115,6 @@ fn push_value(
     Ok(())
 }
 
-fn variable_constraints(
-    alloc: Global,
-    text: &[u8],
-    shape: &Shape,
-    x: Term,
-    value: &Option<Meaning>,
-) -> Result<ListOf<Constraint>, Stop>
-    ensures { IfOk result (λ cs. cs ≡ effects.domain_constraints text.now shape.now x ++ effects.value_constraints shape.now x value.now) }
-{
-    let mut constraints = ListOf::new(alloc);
-    push_domain(alloc, text, shape, x, &mut constraints)?;
-    push_value(alloc, shape, x, value, &mut constraints)?;
-    Ok(constraints)
-}
-
 fn variable(alloc: Global, text: &[u8], shape: &Shape, name: &[u8]) -> Result<VarDecl, Stop>
     ensures { IfOk result (λ d. d ≡ effects.variable text.now shape.now name.now) }
 {
@@ -143,30 +128,28 @@ fn variable(alloc: Global, text: &[u8], shape: &Shape, name: &[u8]) -> Result<Va
     })
 }
 
-/// What the declaration of a variable at this place adds.
+/// Puts down what the declaration of a variable at this place adds.
 fn variable_effect(
     alloc: Global,
     text: &[u8],
     declaration: &ScalarDeclaration<'_>,
     value: &Option<Meaning>,
-) -> Result<Effect, Stop>
-    ensures { IfOk result (λ e. e ≡ effects.variable_effect text.now declaration.now.place declaration.now.shape.now declaration.now.name.now (map ann_tree declaration.now.anns.now) value.now) }
+    effect: &mut Effect,
+) -> Result<(), Stop>
+    requires { effect.old ≡ effects.no_effect }
+    ensures { OnOk result (effect.new ≡ effects.variable_effect text.now declaration.now.place declaration.now.shape.now declaration.now.name.now (map ann_tree declaration.now.anns.now) value.now) }
 {
     let x = Term::Var(declaration.place);
-    let var = variable(alloc, text, declaration.shape, declaration.name)?;
-    let constraints = variable_constraints(alloc, text, declaration.shape, x, value)?;
-    let output = scalar_output(alloc, text, declaration, x)?;
+    effect.var = Some(variable(alloc, text, declaration.shape, declaration.name)?);
+    push_domain(alloc, text, declaration.shape, x, &mut effect.constraints)?;
+    push_value(alloc, declaration.shape, x, value, &mut effect.constraints)?;
+    effect.output = scalar_output(alloc, text, declaration, x)?;
     let scalar = Scalar {
         is_bool: is_bool_shape(declaration.shape),
         term: x,
     };
-    Ok(Effect {
-        declared: Some((copy_name(alloc, declaration.name)?, Meaning::One(scalar))),
-        var: Some(var),
-        constraints,
-        output,
-        solved: None,
-    })
+    effect.declared = Some((copy_name(alloc, declaration.name)?, Meaning::One(scalar)));
+    Ok(())
 }
 
 fn parameter_output(
@@ -197,24 +180,20 @@ pub(crate) fn named(
     }
 }
 
-/// What the declaration of a parameter adds.
+/// Puts down what the declaration of a parameter adds.
 fn parameter_effect(
     alloc: Global,
     text: &[u8],
     declaration: &ScalarDeclaration<'_>,
     value: Option<Meaning>,
-) -> Result<Effect, Stop>
-    ensures { IfOk result (λ e. e ≡ effects.parameter_effect text.now declaration.now.shape.now declaration.now.name.now (map ann_tree declaration.now.anns.now) value) }
+    effect: &mut Effect,
+) -> Result<(), Stop>
+    requires { effect.old ≡ effects.no_effect }
+    ensures { OnOk result (effect.new ≡ effects.parameter_effect text.now declaration.now.shape.now declaration.now.name.now (map ann_tree declaration.now.anns.now) value) }
 {
-    let output = parameter_output(alloc, text, declaration, &value)?;
-    let declared = named(alloc, declaration.name, value)?;
-    Ok(Effect {
-        declared,
-        var: None,
-        constraints: ListOf::new(alloc),
-        output,
-        solved: None,
-    })
+    effect.output = parameter_output(alloc, text, declaration, &value)?;
+    effect.declared = named(alloc, declaration.name, value)?;
+    Ok(())
 }
 
 fn scalar_effect(
@@ -222,31 +201,35 @@ fn scalar_effect(
     text: &[u8],
     declaration: &ScalarDeclaration<'_>,
     value: Option<Meaning>,
-) -> Result<Effect, Stop>
-    ensures { IfOk result (λ e. e ≡ effects.scalar_effect text.now declaration.now.place declaration.now.shape.now declaration.now.name.now (map ann_tree declaration.now.anns.now) value) }
+    effect: &mut Effect,
+) -> Result<(), Stop>
+    requires { effect.old ≡ effects.no_effect }
+    ensures { OnOk result (effect.new ≡ effects.scalar_effect text.now declaration.now.place declaration.now.shape.now declaration.now.name.now (map ann_tree declaration.now.anns.now) value) }
 {
     if declares_variable(declaration.shape) {
-        variable_effect(alloc, text, declaration, &value)
+        variable_effect(alloc, text, declaration, &value, effect)
     } else {
-        parameter_effect(alloc, text, declaration, value)
+        parameter_effect(alloc, text, declaration, value, effect)
     }
 }
 
-/// What the declaration of a scalar adds, where its value fits.
+/// Puts down what the declaration of a scalar adds, where its value fits.
 pub(crate) fn read_scalar(
     alloc: Global,
     text: &[u8],
     scope: &Scope,
     declaration: &ScalarDeclaration<'_>,
     value: &Option<Expr>,
-) -> Result<Effect, Stop>
-    ensures effect { IfOk result (λ e. e ≡ effects.scalar_effect text.now declaration.now.place declaration.now.shape.now declaration.now.name.now (map ann_tree declaration.now.anns.now) (effects.value_of text.now scope.now value.now)) }
+    effect: &mut Effect,
+) -> Result<(), Stop>
+    requires { effect.old ≡ effects.no_effect }
+    ensures effect { OnOk result (effect.new ≡ effects.scalar_effect text.now declaration.now.place declaration.now.shape.now declaration.now.name.now (map ann_tree declaration.now.anns.now) (effects.value_of text.now scope.now value.now)) }
     ensures fits { OnOk result (faults.is_wrong_value text.now scope.now declaration.now.shape.now value.now ≡ false) }
     ensures wrong { IfErr result (faults.OnlyFault Kind.WrongArgument (faults.is_wrong_value text.now scope.now declaration.now.shape.now value.now ≡ true)) }
 {
     let value = read_value(alloc, text, scope, declaration.shape, value)?;
-    match scalar_effect(alloc, text, declaration, value) {
-        Ok(effect) => Ok(effect),
+    match scalar_effect(alloc, text, declaration, value, effect) {
+        Ok(()) => Ok(()),
         Err(_) => Err(Stop::NoMemory),
     }
 }

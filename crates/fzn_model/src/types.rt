@@ -7,7 +7,6 @@ ghost use Rattle.fzn_model.specs.Effects as effects;
 ghost use Rattle.fzn_model.specs.Faults as faults;
 ghost use Rattle.constraint_model.specs.Fits as fitting;
 
-use crate::exprs::spelling;
 use constraint_model::{ConstraintName, Meaning, Scalar, Term};
 use fzn_parser::tree::{Shape, What};
 
@@ -53,12 +52,6 @@ pub(crate) fn is_unsupported(what: &What) -> bool
     }
 }
 
-fn is_unknown(name: &[u8]) -> bool
-    ensures { result ≡ faults.is_unknown name.now }
-{
-    ConstraintName::named(name).is_none()
-}
-
 pub(crate) fn equality_name(is_bool: bool) -> ConstraintName
     ensures { result ≡ effects.equality_name is_bool }
 {
@@ -66,16 +59,6 @@ pub(crate) fn equality_name(is_bool: bool) -> ConstraintName
         ConstraintName::BoolEq
     } else {
         ConstraintName::IntEq
-    }
-}
-
-/// Whether the item's constraint isn't known.
-pub(crate) fn has_unknown_constraint(text: &[u8], what: &What) -> bool
-    ensures { result ≡ faults.has_unknown_constraint text.now (what_tree what.now) }
-{
-    match what {
-        What::Constraint { name, .. } => is_unknown(spelling(text, name)),
-        What::Predicate(_) | What::Scalar { .. } | What::Array { .. } | What::Solve { .. } => false,
     }
 }
 

@@ -4,9 +4,10 @@ ghost use Rattle.std.specs.Prelude.{◌≡◌, ◌≢◌, IfOk, map};
 ghost use Rattle.fzn_parser.specs.Items.{what_tree, is_var, var_set_at, var_range_at, var_at, param_at, shape_at, value_at, name_at, scalar_at, bounds_at, array_rest, array_at, constraint_at, aim_at, solve_at, what_at, whole_at};
 
 use crate::cursor::{Class, Cursor, Lexeme, Stop, Symbol};
+use crate::entries::read_list;
 use crate::notes::read_notes;
 use crate::tree::{Aim, Expr, Shape, What};
-use crate::values::{read_expr, read_exprs, read_set};
+use crate::values::{read_expr, read_set};
 use fzn_lexer::Token;
 use std::alloc::Global;
 
@@ -199,7 +200,7 @@ fn read_constraint(alloc: Global, cursor: &mut Cursor, depth: usize) -> Result<W
 {
     let name = cursor.kept(Class::Name)?;
     cursor.expect(Symbol::ParenOpen)?;
-    let args = read_exprs(alloc, cursor)?;
+    let args = read_list(alloc, cursor, Symbol::ParenClose)?;
     let anns = read_notes(alloc, cursor, depth)?;
     Ok(What::Constraint { name, args, anns })
 }

@@ -7,6 +7,7 @@
 #![tactic(auto)]
 
 mod cursor;
+mod entries;
 mod items;
 pub mod laws;
 mod notes;

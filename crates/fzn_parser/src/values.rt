@@ -1,32 +1,21 @@
 //! Reads sets and expressions.
 
 ghost use Rattle.std.specs.Prelude.{◌≡◌, ◌≢◌, IfOk};
-ghost use Rattle.fzn_parser.specs.Reading.{ints_at, set_at, from_int, number_at, elem_at, elems_at, expr_at, exprs_at};
+ghost use Rattle.fzn_parser.specs.Reading.{int_at, set_at, from_int, number_at, elem_at, expr_at};
 
 use crate::cursor::{Class, Cursor, Stop, Symbol};
+use crate::entries::{Entry, read_list};
 use crate::tree::{Elem, Expr, SetLit};
 use fzn_lexer::Token;
-use list_of::ListOf;
 use std::alloc::Global;
 
-/// The integers of a set, behind its opening brace, and the closing one.
-pub(crate) fn read_ints(alloc: Global, cursor: &mut Cursor) -> Result<ListOf<Token>, Stop>
-    ensures read { IfOk result (λ l. ints_at cursor.old ≡ Some (l, cursor.new)) }
-    ensures refused { result ≡ Err Stop.Refused → ints_at cursor.old ≡ None }
-{
-    let mut list = ListOf::new(alloc);
-    if cursor.take(Symbol::BraceClose) {
-        return Ok(list);
+/// An integer in braces.
+impl Entry for Token {
+    ghost at = { λ ls. int_at ls };
+
+    fn read(_alloc: Global, cursor: &mut Cursor) -> Result<Token, Stop> {
+        cursor.kept(Class::Int)
     }
-    let most = cursor.len();
-    for _turn in 0..most {
-        let entry = cursor.kept(Class::Int)?;
-        list.push(entry)?;
-        if !cursor.continues(Symbol::BraceClose)? {
-            return Ok(list);
-        }
-    }
-    Err(Stop::Refused)
 }
 
 #[tactic(auto, unfolding(crate::specs::Reading::set_at))]
@@ -35,7 +24,7 @@ pub(crate) fn read_set(alloc: Global, cursor: &mut Cursor) -> Result<SetLit, Sto
     ensures refused { result ≡ Err Stop.Refused → set_at cursor.old ≡ None }
 {
     if cursor.take(Symbol::BraceOpen) {
-        let values = read_ints(alloc, cursor)?;
+        let values = read_list(alloc, cursor, Symbol::BraceClose)?;
         return Ok(SetLit::Braces(values));
     }
     let low = cursor.kept(Class::Int)?;
@@ -86,7 +75,7 @@ pub(crate) fn read_elem(alloc: Global, cursor: &mut Cursor) -> Result<Elem, Stop
         return Ok(Elem::False);
     }
     if cursor.take(Symbol::BraceOpen) {
-        let values = read_ints(alloc, cursor)?;
+        let values = read_list(alloc, cursor, Symbol::BraceClose)?;
         return Ok(Elem::Set(SetLit::Braces(values)));
     }
     if let Some(token) = cursor.take_kept(Class::Name) {
@@ -95,24 +84,13 @@ pub(crate) fn read_elem(alloc: Global, cursor: &mut Cursor) -> Result<Elem, Stop
     read_number(cursor)
 }
 
-/// The entries of an array literal, behind its opening bracket, and the closing one.
-fn read_elems(alloc: Global, cursor: &mut Cursor) -> Result<ListOf<Elem>, Stop>
-    ensures read { IfOk result (λ l. elems_at cursor.old ≡ Some (l, cursor.new)) }
-    ensures refused { result ≡ Err Stop.Refused → elems_at cursor.old ≡ None }
-{
-    let mut list = ListOf::new(alloc);
-    if cursor.take(Symbol::BracketClose) {
-        return Ok(list);
+/// An entry of an array literal.
+impl Entry for Elem {
+    ghost at = { λ ls. elem_at ls };
+
+    fn read(alloc: Global, cursor: &mut Cursor) -> Result<Elem, Stop> {
+        read_elem(alloc, cursor)
     }
-    let most = cursor.len();
-    for _turn in 0..most {
-        let entry = read_elem(alloc, cursor)?;
-        list.push(entry)?;
-        if !cursor.continues(Symbol::BracketClose)? {
-            return Ok(list);
-        }
-    }
-    Err(Stop::Refused)
 }
 
 #[tactic(auto, unfolding(crate::specs::Reading::expr_at))]
@@ -122,29 +100,18 @@ pub(crate) fn read_expr(alloc: Global, cursor: &mut Cursor) -> Result<Expr, Stop
     ensures refused { result ≡ Err Stop.Refused → expr_at cursor.old ≡ None }
 {
     if cursor.take(Symbol::BracketOpen) {
-        let entries = read_elems(alloc, cursor)?;
+        let entries = read_list(alloc, cursor, Symbol::BracketClose)?;
         return Ok(Expr::Row(entries));
     }
     let elem = read_elem(alloc, cursor)?;
     Ok(Expr::One(elem))
 }
 
-/// The arguments of a constraint, behind its opening bracket, and the closing one.
-pub(crate) fn read_exprs(alloc: Global, cursor: &mut Cursor) -> Result<ListOf<Expr>, Stop>
-    ensures read { IfOk result (λ l. exprs_at cursor.old ≡ Some (l, cursor.new)) }
-    ensures refused { result ≡ Err Stop.Refused → exprs_at cursor.old ≡ None }
-{
-    let mut list = ListOf::new(alloc);
-    if cursor.take(Symbol::ParenClose) {
-        return Ok(list);
+/// An argument of a constraint.
+impl Entry for Expr {
+    ghost at = { λ ls. expr_at ls };
+
+    fn read(alloc: Global, cursor: &mut Cursor) -> Result<Expr, Stop> {
+        read_expr(alloc, cursor)
     }
-    let most = cursor.len();
-    for _turn in 0..most {
-        let entry = read_expr(alloc, cursor)?;
-        list.push(entry)?;
-        if !cursor.continues(Symbol::ParenClose)? {
-            return Ok(list);
-        }
-    }
-    Err(Stop::Refused)
 }

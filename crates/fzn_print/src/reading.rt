@@ -141,8 +141,8 @@ fn read_with(
     }
 }
 
-/// The answer that the bytes are the text of: its solutions, each with a number of the profile for each variable, 0 or 1 for
-/// a boolean, and its mark. There is no other. Errors: `BadText` where there is none; `NoMemory`.
+/// The answer that the bytes are the text of: its solutions, each with a number that a text may have for each variable, 0 or 1
+/// for a boolean, and its mark. There is no other. Errors: `BadText` where there is none; `NoMemory`.
 pub fn read_solutions(
     alloc: Global,
     model: &FznModel,

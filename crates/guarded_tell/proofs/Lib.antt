@@ -8,3 +8,5 @@ pub mod SettledLaws
 pub mod SeenLaws
 pub mod ApartLaws
 pub mod DifferenceLaws
+pub mod FoundLaws
+pub mod SideLaws

@@ -5,4 +5,6 @@ pub mod Narrowing
 pub mod Shapes
 pub mod Settled
 pub mod Rests
+pub mod Sides
 pub mod Open
+pub mod Found

@@ -63,6 +63,7 @@ fn is_fixed(v: u32, b: &BoxOf) -> bool
 }
 
 /// Tells that the coefficient times the variable isn't the product.
+#[inline(always)]
 fn narrow_apart<H: Hear>(coeff: i64, var: u32, product: i64, b: &BoxOf, h: &mut H)
     requires unit { unsigned_abs coeff ≡ 1 }
     requires variable { var < length b.now }
@@ -74,6 +75,7 @@ fn narrow_apart<H: Hear>(coeff: i64, var: u32, product: i64, b: &BoxOf, h: &mut 
 }
 
 /// Leaves the low of the variable out, where it makes the product.
+#[inline(always)]
 fn narrow_low_apart<H: Hear>(coeff: i64, var: u32, product: i64, b: &BoxOf, h: &mut H)
     requires unit { unsigned_abs coeff ≡ 1 }
     requires variable { var < length b.now }
@@ -86,6 +88,7 @@ fn narrow_low_apart<H: Hear>(coeff: i64, var: u32, product: i64, b: &BoxOf, h: &
 }
 
 /// Leaves the high of the variable out, where it makes the product.
+#[inline(always)]
 fn narrow_high_apart<H: Hear>(coeff: i64, var: u32, product: i64, b: &BoxOf, h: &mut H)
     requires unit { unsigned_abs coeff ≡ 1 }
     requires variable { var < length b.now }

@@ -7,8 +7,8 @@
 //!
 //! Begin with `specs/Kernels.antt`, which has a line of `tells` for each. It stands on the families (`sum_tells`, with
 //! `small_sums` and `short_tells`, `clause_tells`, `arithmetic_tells`, `extreme_tells`, `element_tells`, `set_tells`,
-//! `global_tells`), whose tells it gives on and whose laws make its own. Its own are shapes, how long a kernel rests, and
-//! differences of two variables. It runs nothing to a fixpoint. That a visit which narrows nothing forms no tell isn't
+//! `global_tells`), whose tells it gives on and whose laws make its own. Its own are shapes, how long a kernel rests,
+//! which bounds it reads, and differences of two variables. It runs nothing to a fixpoint. That a visit which narrows nothing forms no tell isn't
 //! claimed.
 #![tactic(auto)]
 
@@ -21,6 +21,7 @@ mod resting;
 mod rooms;
 mod settled;
 mod shape;
+mod sides;
 mod slight_sum;
 mod visit;
 
@@ -31,6 +32,7 @@ pub use narrowing::{visit_narrowing, visit_unseen};
 pub use quiet::Hint;
 pub use resting::{Rest, rest_of, seen_rest};
 pub use shape::{Shape, shape_of};
+pub use sides::{is_one_sided, side_at};
 pub use sum_tells::Extended;
 pub use tell_laws::law_narrowing;
 pub use tells::{Hear, Lit, Side, Tell};

@@ -20,6 +20,7 @@ use crate::shape::Shape;
 use crate::slight_sum::give_slight_sum;
 use crate::{Hear, Kernel, Tell, law_tell_place, visit_tells};
 use arithmetic_tells::is_product_quiet;
+use extreme_tells::{is_max_quiet, is_min_quiet};
 use global_tells::{is_all_different_quiet, is_cumulative_quiet};
 use interval::{BoxOf, law_clamp_order, law_quotient_order};
 use short_tells::{narrow_at_most, narrow_equation};
@@ -199,6 +200,8 @@ fn is_quiet(k: &Kernel, b: &BoxOf) -> bool
 {
     match k {
         Kernel::Times { x, y, z } => is_product_quiet(*x, *y, *z, b),
+        Kernel::Max { m, xs } => is_max_quiet(*m, xs.as_slice(), b),
+        Kernel::Min { m, xs } => is_min_quiet(*m, xs.as_slice(), b),
         Kernel::AllDiff { xs } => is_all_different_quiet(xs.as_slice(), b),
         Kernel::Cumulative {
             starts,

@@ -9,6 +9,7 @@ ghost use Rattle.guarded_tell.specs.Words as words;
 ghost use Rattle.clause_tells.specs.Clause.{AreLiterals};
 ghost use Rattle.sum_tells.specs.Linear.{IsLinear};
 ghost use Rattle.small_sums.specs.Short.{IsSmallTerm};
+ghost use Rattle.guarded_tell.specs.Found.{IsSearched};
 ghost use Rattle.guarded_tell.specs.Kernels.{vars_of, IsKernel};
 ghost use Rattle.guarded_tell.specs.Shapes.{IsShapeOf};
 ghost use Rattle.guarded_tell.specs.Rests.{IsAtMostFor, IsAtMostSettled, IsClauseFor, IsEitherFor, IsOpenSum, IsQuietFor, IsRest, IsSameFor, IsUnequalFor};
@@ -34,6 +35,7 @@ pub enum Rest {
 }
 
 /// How long the kernel is seen to need no visit, from this box on. What a visit of it remembered is looked at alone.
+#[inline(always)]
 pub fn rest_of(k: &Kernel, shape: &Shape, b: &BoxOf, hint: Hint) -> Rest
     requires kernel { IsKernel (length b.now) k.now }
     requires shape { IsShapeOf k.now shape.now }
@@ -47,6 +49,7 @@ pub fn rest_of(k: &Kernel, shape: &Shape, b: &BoxOf, hint: Hint) -> Rest
 }
 
 /// How long the kernel needs no visit, where its shape alone says that it narrows nothing.
+#[inline(always)]
 pub fn seen_rest(k: &Kernel, shape: &Shape, b: &BoxOf) -> Option<Rest>
     requires kernel { IsKernel (length b.now) k.now }
     requires shape { IsShapeOf k.now shape.now }
@@ -64,6 +67,7 @@ pub fn seen_rest(k: &Kernel, shape: &Shape, b: &BoxOf) -> Option<Rest>
 }
 
 /// The same of a sum of two terms that is at most the limit where the literal is true.
+#[inline(always)]
 fn at_most_rest(lit: Lit, limit: i64, pair: Pair, b: &BoxOf) -> Option<Rest>
     requires variable { lit.var < length b.now }
     requires proper { low_of b.now lit.var ≤ℤ high_of b.now lit.var }
@@ -81,6 +85,7 @@ fn at_most_rest(lit: Lit, limit: i64, pair: Pair, b: &BoxOf) -> Option<Rest>
 }
 
 /// The same of a sum of two terms that is the limit where the literal is true.
+#[inline(always)]
 fn same_rest(lit: Lit, limit: i64, pair: Pair, b: &BoxOf) -> Option<Rest>
     requires variable { lit.var < length b.now }
     requires proper { low_of b.now lit.var ≤ℤ high_of b.now lit.var }
@@ -99,6 +104,7 @@ fn same_rest(lit: Lit, limit: i64, pair: Pair, b: &BoxOf) -> Option<Rest>
 }
 
 /// The same of a sum of two terms that must not be the limit. Most have a fixed term and a limit between their sums.
+#[inline(always)]
 fn unequal_rest(limit: i64, pair: Pair) -> Option<Rest>
     requires first { IsSmallTerm pair.first }
     requires second { IsSmallTerm pair.second }
@@ -164,12 +170,12 @@ fn hinted_rest(k: &Kernel, b: &BoxOf, hint: Hint) -> Rest
 }
 
 /// How long the kernel needs no visit, where it is a clause that is seen to narrow nothing or an equation that must not hold
-/// with two open terms. What the hint remembers is looked at first.
+/// with two open terms. What the hint remembers is looked at first, and then all of a clause.
 #[tactic(auto, unfolding(crate::specs::Kernels::vars_of, crate::specs::Kernels::HasNumbers))]
 pub fn listed_rest(k: &Kernel, b: &BoxOf, hint: &mut Hint) -> Option<Rest>
     requires kernel { IsKernel (length b.now) k.now }
     requires proper { IsProperIn (vars_of k.now) b.now }
-    ensures { MatchOption result (Unit {0}) (IsQuietFor k.now b.now) }
+    ensures { MatchOption result (IsSearched k.now b.now) (IsQuietFor k.now b.now) }
 {
     law_quotient_order();
     law_clamp_order();

@@ -2,3 +2,4 @@ pub mod QuotientLaws
 pub mod BoxLaws
 pub mod ClampLaws
 pub mod CornerLaws
+pub mod NaturalCorners

@@ -28,10 +28,10 @@ const FILLED: u64 = FILLED_BY_32 | FILLED_BY_32 >> 32;
 const SPAN: u64 = FILLED + 1;
 
 /// The last epoch that a word has room for.
-pub const LAST_EPOCH: u32 = (u64::MAX / SPAN) as u32;
+pub(crate) const LAST_EPOCH: u32 = (u64::MAX / SPAN) as u32;
 
 /// The epoch of a word.
-pub fn epoch_in(word: u64) -> u64
+pub(crate) fn epoch_in(word: u64) -> u64
     ensures { result ≡ epoch_of word }
 {
     word / SPAN
@@ -41,7 +41,7 @@ pub fn epoch_in(word: u64) -> u64
 // read and written by one addition, where the epoch and the middle would be numbers too long for most instructions.
 
 /// The word of the bound 0 at an epoch. It is the same for a lower and for an upper bound.
-pub fn origin_word(epoch: u32) -> u64
+pub(crate) fn origin_word(epoch: u32) -> u64
     requires { epoch ≤ last_epoch }
     ensures { IsOriginOf epoch result }
 {
@@ -49,7 +49,7 @@ pub fn origin_word(epoch: u32) -> u64
 }
 
 /// The word of a lower bound at the epoch of a word of the bound 0.
-pub fn low_word(origin: u64, bound: i64) -> u64
+pub(crate) fn low_word(origin: u64, bound: i64) -> u64
     requires origin { IsOriginOf (epoch_of origin) origin }
     requires bound { IsBound bound }
     ensures { result ≡ word_of (epoch_of origin) (low_code bound) }
@@ -58,7 +58,7 @@ pub fn low_word(origin: u64, bound: i64) -> u64
 }
 
 /// The word of an upper bound at the epoch of a word of the bound 0.
-pub fn high_word(origin: u64, bound: i64) -> u64
+pub(crate) fn high_word(origin: u64, bound: i64) -> u64
     requires origin { IsOriginOf (epoch_of origin) origin }
     requires bound { IsBound bound }
     ensures { result ≡ word_of (epoch_of origin) (high_code bound) }
@@ -66,16 +66,16 @@ pub fn high_word(origin: u64, bound: i64) -> u64
     origin.wrapping_sub_signed(bound)
 }
 
-/// The lower bound that a word stands for, by the word of the bound 0 at its epoch.
-pub fn low_bound(origin: u64, word: u64) -> i64
+/// The lower bound that a word encodes, by the word of the bound 0 at its epoch.
+pub(crate) fn low_bound(origin: u64, word: u64) -> i64
     requires { IsOriginOf (epoch_of word) origin }
     ensures { result ≡ low_value (code_of word) }
 {
     word.wrapping_sub(origin).cast_signed()
 }
 
-/// The upper bound that a word stands for, by the word of the bound 0 at its epoch.
-pub fn high_bound(origin: u64, word: u64) -> i64
+/// The upper bound that a word encodes, by the word of the bound 0 at its epoch.
+pub(crate) fn high_bound(origin: u64, word: u64) -> i64
     requires { IsOriginOf (epoch_of word) origin }
     ensures { result ≡ high_value (code_of word) }
 {

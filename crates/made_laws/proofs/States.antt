@@ -1,6 +1,6 @@
 -- What stands after each line of a made text.
 use Rattle.std.proofs.Common.{◌≡◌, ◌<◌, ◌≤◌, ◌+◌, ◌-◌, ℕ, true, false, List, [], ◌∷◌, ◌++◌, length, refl, sym, ◌∙◌, ap, subst, arith}
-use Rattle.std.specs.Prelude.{codes, map, pos, negsuc, neg_ℤ, ℤ, Option, Some, None, option_map, option_and_then, unwrap_or, is_some, is_none, ◌||◌, ◌&&◌, not, nat_lt, fold}
+use Rattle.std.specs.Prelude.{codes, map, Bool, pos, negsuc, neg_ℤ, ℤ, Option, Some, None, option_map, option_and_then, unwrap_or, is_some, is_none, ◌||◌, ◌&&◌, not, nat_lt, fold}
 use Rattle.std.specs.List.{list_any, range_with_len, cons_option}
 use Rattle.std.proofs.lemmas.List.{append-nil}
 use Rattle.std.proofs.lemmas.Bool.Decides.{nat_tests}
@@ -29,10 +29,11 @@ use Rattle.fzn_model.specs.Literals.{number_of}
 use Rattle.fzn_model.specs.Scopes.{Scope, meaning_of, number_at, expr_meaning, integer, array_literal, scalar_of, all_some}
 use Rattle.fzn_model.specs.Outputs.{has_output_var}
 use Rattle.fzn_model.specs.Effects.{Reading, joined, effect_of, meanings_of, constraint_alone, constraint_effect, term_in, no_effect}
-use Rattle.fzn_model.specs.Faults.{is_too_large, all_mean, if_some}
+use Rattle.fzn_model.specs.Leaves.{leaves as leaves_of}
+use Rattle.fzn_model.specs.Faults.{leaf_test, is_too_large, all_mean, if_some}
 use Rattle.made_laws.proofs.Lines.{name}
 use Rattle.made_laws.proofs.Names.{integer_at, declared, scope_of, name_new}
-use Rattle.made_laws.proofs.Runs.{IsClean}
+use Rattle.made_laws.proofs.Runs.{IsClean, is_met}
 
 -- ---- what stands
 
@@ -124,12 +125,11 @@ variable_clean text u n low high t few w =
     let leaves = variable_leaves text u n low high t w in
     let count : length (vars_of u (n + 1)) ≡ n + 1 = length-map-range_with_len (variable_at u) 0 (n + 1) in
     record {
-      once = ap (λ s. is_some (meaning_of (scope_of n) s)) w.name_is ∙ ap is_some (name_new n (omega arith));
-      known = refl;
-      named = refl;
+      names = ap (λ o. is_none o || (is_none (number_of (spelling text high)) || (is_some (meaning_of (scope_of n) (spelling text t)) || false))) w.low_is
+          ∙ (ap (λ o. is_none o || (is_some (meaning_of (scope_of n) (spelling text t)) || false)) w.high_is
+          ∙ (ap (λ s. is_some (meaning_of (scope_of n) s) || false) w.name_is ∙ ap (λ o. is_some o || false) (name_new n (omega arith))));
       fits = refl;
       supported = refl;
-      narrow = ap (λ o. (is_none o || is_none (number_of (spelling text high))) || false) w.low_is ∙ ap (λ o. is_none o || false) w.high_is;
       few = few_of (reading u n [] 0 None) (reading u (n + 1) [] 0 None) _ _ (variable_effect_is text (scope_of n) (length (vars_of u n)) low high t) (variable_short (length (vars_of u n)) (spelling text t) (number_at text low) (number_at text high)) leaves
           (small_reading (reading u (n + 1) [] 0 None) (omega arith) (omega arith) refl);
       unsolved = refl;
@@ -255,6 +255,20 @@ pub order_leaves : (text : List ℕ) (u n k i j gap : ℕ) (cs : List Constraint
 order_leaves text u n k i j gap cs t one minus a b d w =
     ap (joined (reading u n cs k None)) (order_effect_is text n (length (vars_of u n)) i j gap t one minus a b d w) ∙ order_joins u n k i j gap cs
 
+-- its names are known, its literals small and its lists short
+order_names : (text : List ℕ) (n i j gap : ℕ) (t one minus a b d : Token) → IsOrderItem text n i j gap t one minus a b d
+    → list_any is_met (map (leaf_test text (scope_of n)) (leaves_of (order_what t one minus a b d))) ≡ false
+order_names text n i j gap t one minus a b d w =
+    let unknown : Token → Bool = λ u. not (is_some (meaning_of (scope_of n) (spelling text u))) in
+    let wide : Token → Bool = λ u. is_none (number_of (spelling text u)) in
+    ap (λ s. is_none (named s) || (false || (wide one || (wide minus || (false || (unknown a || (unknown b || (wide d || false)))))))) w.sum_is
+    ∙ (ap (λ o. is_none o || (false || (wide one || (wide minus || (false || (unknown a || (unknown b || (wide d || false)))))))) sum_named
+    ∙ (ap (λ o. is_none o || (wide minus || (false || (unknown a || (unknown b || (wide d || false)))))) w.one_is
+    ∙ (ap (λ o. is_none o || (false || (unknown a || (unknown b || (wide d || false))))) w.minus_is
+    ∙ (ap (λ o. not (is_some o) || (unknown b || (wide d || false))) w.first_is
+    ∙ (ap (λ o. not (is_some o) || (wide d || false)) w.second_is
+    ∙ ap (λ o. is_none o || false) w.gap_is)))))
+
 pub order_clean : (text : List ℕ) (u n k i j gap : ℕ) (cs : List Constraint) (t one minus a b d : Token) → n ≤ 2000 → k < 8000 → IsOrderItem text n i j gap t one minus a b d
     → IsClean text (reading u n cs k None) (order_what t one minus a b d)
 order_clean text u n k i j gap cs t one minus a b d few less w =
@@ -262,10 +276,7 @@ order_clean text u n k i j gap cs t one minus a b d few less w =
     let count : length (vars_of u n) ≡ n = length-map-range_with_len (variable_at u) 0 n in
     let args = Expr.Row (Elem.Int one ∷ Elem.Int minus ∷ []) ∷ Expr.Row (Elem.Name a ∷ Elem.Name b ∷ []) ∷ Expr.One (Elem.Int d) ∷ [] in
     record {
-      once = refl;
-      known = ap (λ o. (not (is_some o) || (not (is_some (meaning_of (scope_of n) (spelling text b))) || false)) || false) w.first_is
-          ∙ ap (λ o. (not (is_some o) || false) || false) w.second_is;
-      named = ap (λ s. is_none (named s)) w.sum_is ∙ ap is_none sum_named;
+      names = order_names text n i j gap t one minus a b d w;
       fits = ap (λ s. not (all_mean text (scope_of n) args && if_some (λ known. is_some (row_for known (meanings_of text (scope_of n) args))) (named s))) w.sum_is
           ∙ (ap (λ o. not (all_mean text (scope_of n) args && if_some (λ known. is_some (row_for known (meanings_of text (scope_of n) args))) o)) sum_named
           ∙ (ap (λ ms. not (all_mean text (scope_of n) args && is_some (row_for ConstraintName.IntLinLe ms))) (order_meanings text n i j gap t one minus a b d w)
@@ -273,9 +284,6 @@ order_clean text u n k i j gap cs t one minus a b d few less w =
           ∙ ap (λ x. not (x && true)) (all_three_mean text (scope_of n) _ _ _ coefficients (variables i j) (bound gap) (coefficients_mean text (scope_of n) one minus w.one_is w.minus_is)
           (variables_mean text (scope_of n) i j a b w.first_is w.second_is) (bound_means text (scope_of n) gap d w.gap_is)))));
       supported = refl;
-      narrow = ap (λ o. (is_none o || (is_none (number_of (spelling text minus)) || false)) || ((is_none (number_of (spelling text d)) || false) || false)) w.one_is
-          ∙ (ap (λ o. (is_none o || false) || ((is_none (number_of (spelling text d)) || false) || false)) w.minus_is
-          ∙ ap (λ o. (is_none o || false) || false) w.gap_is);
       few = few_of (reading u n cs k None) (reading u n (cs ++ order_constraint i j gap ∷ []) (k + 1) None) _ (constraint_alone (order_constraint i j gap))
           (order_effect_is text n (length (vars_of u n)) i j gap t one minus a b d w) refl leaves
           (small_reading (reading u n (cs ++ order_constraint i j gap ∷ []) (k + 1) None) (omega arith) (omega arith) refl);
@@ -333,12 +341,9 @@ goal_clean text u n k cs t few less is =
     let leaves = goal_leaves text u n k cs t is in
     let count : length (vars_of u n) ≡ n = length-map-range_with_len (variable_at u) 0 n in
     record {
-      once = refl;
-      known = ap (λ o. (not (is_some o) || false) || false) is;
-      named = refl;
+      names = ap (λ o. not (is_some o) || false) is;
       fits = ap (λ o. not (if_some (fits Letter.Integer) o)) (goal_means text n t is);
       supported = refl;
-      narrow = refl;
       few = few_of (reading u n cs k None) (reading u n cs k (Some (asked n))) _ (goal_adds (asked n)) (goal_effect_is text n (length (vars_of u n)) t is count) (goal_short (asked n)) leaves
           (small_reading (reading u n cs k (Some (asked n))) (omega arith) (omega arith) refl);
       unsolved = refl;

@@ -7,7 +7,7 @@ ghost use Rattle.made_model.specs.Made.{next_draw, order_of_draws};
 #[derive(Drop)]
 pub(crate) struct Draws {
     /// The draw before the next.
-    pub(crate) last: u32,
+    last: u32,
 }
 
 /// Which variable comes before which, both counted from 1, and the least gap between them.
@@ -28,7 +28,7 @@ impl Draws {
     }
 
     /// The next draw.
-    pub(crate) fn next_draw(&mut self) -> u32
+    fn next_draw(&mut self) -> u32
         requires { self.old.last < 65537 }
         ensures next { result ≡ next_draw self.old.last }
         ensures kept { self.new.last ≡ result }

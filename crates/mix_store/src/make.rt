@@ -19,7 +19,7 @@ pub(crate) struct Layout {
 }
 
 /// Appends the words of a domain.
-pub(crate) fn push_words(words: &mut Vec<u64>, dom: Dom) -> Result<(), AllocError>
+fn push_words(words: &mut Vec<u64>, dom: Dom) -> Result<(), AllocError>
     requires { IsDomInRange dom }
     ensures { IfOk result (λ _. words.new.items ≡ words.old.items ++ words_in dom) }
 {

@@ -9,10 +9,10 @@ use fzn_lexer::{Kind, Token, next_token};
 use fzn_model::Names;
 use memchr::{memchr, memchr3};
 
-/// The bytes of a token.
-fn spelling<'a>(text: &'a [u8], token: &Token) -> &'a [u8] {
-    if token.from <= token.to && token.to <= text.len() {
-        &text[token.from..token.to]
+/// The bytes of a word, and the byte behind it. A word that ends the text declares nothing, and has none.
+fn ended<'a>(text: &'a [u8], word: &Token) -> &'a [u8] {
+    if word.from <= word.to && word.to < text.len() {
+        &text[word.from..word.to + 1]
     } else {
         &[]
     }
@@ -30,7 +30,7 @@ fn behind_colon(text: &[u8], from: usize, names: &mut Names) -> usize
     match next_token(text, from) {
         Ok(Some(token)) => match token.kind {
             Kind::Word => {
-                names.add(spelling(text, &token));
+                names.add(ended(text, &token));
                 token.to
             }
             Kind::Int | Kind::Float | Kind::Text | Kind::Mark => from,

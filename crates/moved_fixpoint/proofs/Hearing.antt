@@ -1,12 +1,14 @@
 -- A box that hears a list of tells, one after another.
-use Rattle.std.proofs.Common.{◌≡◌, ◌≢◌, ℕ, ◌+◌, ◌<◌, ◌<ℤ◌, Bool, true, false, cond, List, [], ◌∷◌, ◌++◌, length, take, get_or, add-one, ◌⊎◌, inl, inr, sym, refl, ◌∙◌, subst, arith}
+use Rattle.std.proofs.Common.{◌≡◌, ◌≢◌, ℕ, ◌+◌, ◌<◌, ◌<ℤ◌, ℤ, Bool, true, false, cond, List, [], ◌∷◌, ◌++◌, length, take, get_or, add-one, ◌⊎◌, inl, inr, sym, refl, ◌∙◌, subst, arith}
 use Rattle.std.specs.List.{All, filter}
+use Rattle.std.proofs.lemmas.Bool.{cases_eq}
 use Rattle.std.proofs.lemmas.Int.{ints}
 use Rattle.std.proofs.Math.Seq.{take-suc}
 use Rattle.std.proofs.lemmas.List.Elements.{All-nil, All-cons, All-head, All-tail, All-filter}
-use Rattle.interval.specs.Boxes.{Bounds, IsInside, IsProper, IsCrossed, InsideOrder}
+use Rattle.interval.specs.Boxes.{Bounds, low_of, high_of, put_of, IsInside, IsProper, IsCrossed, InsideOrder}
 use Rattle.interval.specs.Limits.{IsBound}
-use Rattle.guarded_tell.specs.Words.{Tell}
+use Rattle.guarded_tell.specs.Words.{Tell, Side, Low, High}
+use Rattle.guarded_tell.specs.Sides.{SameSide}
 use Rattle.guarded_tell.specs.Words.{Keeps}
 use Rattle.guarded_tell.specs.Hearing.{HearsAll}
 use Rattle.fixpoint_laws.specs.Changes.{TightensOne}
@@ -15,7 +17,7 @@ use Rattle.tell_laws.specs.Narrowing.{narrows}
 use Rattle.moved_fixpoint.specs.declared.joiner.Progress.{Progress}
 use Rattle.moved_fixpoint.specs.declared.joiner.Progress.TheVariants.{Still, Moved, Crossed, Refused}
 use Rattle.moved_fixpoint.specs.Heard.{GoesOn, HasPut, told_low, told_high, IsHeard, Joined, Hears}
-use Rattle.moved_fixpoint.specs.Runs.{SameAt, Spares}
+use Rattle.moved_fixpoint.specs.Runs.{SameAt, Spares, SparesSide}
 use Rattle.moved_fixpoint.proofs.Telling.{told_box, same_elsewhere, keeps_or_narrows, tightening, told_holds, told_kept, told_moves, put_low, put_high, keeps_inside}
 
 -- what hearing tells makes of a box and of the progress: the box stays inside and keeps each box that no tell narrows;
@@ -25,6 +27,7 @@ pub record Effect (b : Bounds) (p : Progress) (ts us : List Tell) (after : Bound
   pub holds : (c : Bounds) → IsInside c b → All (Keeps c) ts → IsInside c after
   pub going : GoesOn p' → GoesOn p
   pub unmoved : GoesOn p' → (w : ℕ) → Spares us w → SameAt after b w
+  pub unread : GoesOn p' → (side : Side) (w : ℕ) → SparesSide us side w → SameSide side after b w
   pub heard : GoesOn p' → All (Keeps after) ts
   pub still : p' ≡ Still → (p ≡ Still) × (after ≡ b)
   pub moves : p' ≡ Moved → (p ≡ Moved) ⊎ (after ≢ b)
@@ -37,6 +40,29 @@ same_at_itself b w = record { low = refl; high = refl }
 pub same_at_through : (a b c : Bounds) (w : ℕ) → SameAt c b w → SameAt b a w → SameAt c a w
 same_at_through a b c w s r = record { low = s.low ∙ r.low; high = s.high ∙ r.high }
 
+pub same_side_itself : (side : Side) (b : Bounds) (w : ℕ) → SameSide side b b w
+same_side_itself Low b w = refl
+same_side_itself High b w = refl
+
+same_side_through : (side : Side) (a b c : Bounds) (w : ℕ) → SameSide side c b w → SameSide side b a w → SameSide side c a w
+same_side_through Low a b c w s r = s ∙ r
+same_side_through High a b c w s r = s ∙ r
+
+pub same_side_back : (side : Side) (a b : Bounds) (w : ℕ) → SameSide side a b w → SameSide side b a w
+same_side_back Low a b w s = sym s
+same_side_back High a b w s = sym s
+
+same_side_at : (side : Side) (a b : Bounds) (w : ℕ) → SameAt a b w → SameSide side a b w
+same_side_at Low a b w s = s.low
+same_side_at High a b w s = s.high
+
+-- the other bound of a tell's variable stays
+other_side : (b : Bounds) (v : ℕ) (z : ℤ) (s side : Side) → v < length b → (side ≡ s → ⊥) → SameSide side (put_of b v (told_low b s v z) (told_high b s v z)) b v
+other_side b v z Low Low h f = absurd (f refl)
+other_side b v z Low High h f = put_high b v z (high_of b v) h
+other_side b v z High Low h f = put_low b v (low_of b v) z h
+other_side b v z High High h f = absurd (f refl)
+
 -- a tell that isn't heard or narrows nothing leaves all as it is
 module _ (order : InsideOrder) where
   effect_none : (b : Bounds) (p : Progress) (ts us : List Tell) → (GoesOn p → All (Keeps b) ts) → Effect b p ts us b p
@@ -45,6 +71,7 @@ module _ (order : InsideOrder) where
     holds = λ c i a. i;
     going = λ g. g;
     unmoved = λ g w h. same_at_itself b w;
+    unread = λ g side w h. same_side_itself side b w;
     heard = k;
     still = λ e. (e, refl);
     moves = λ e. inl e;
@@ -62,6 +89,12 @@ module _ (order : InsideOrder) where
     told_same : (w : ℕ) → w ≢ t.var → SameAt (told_box b t) b w
     told_same w ne = same_elsewhere b t.var (told_low b t.side t.var t.bound) (told_high b t.side t.var t.bound) w ne
 
+    told_side_same : (side : Side) (w : ℕ) → (w ≡ t.var → side ≡ t.side → ⊥) → SameSide side (told_box b t) b w
+    told_side_same side w f = elim (cases_eq w t.var) [
+      | inl e ↦ subst (λ (x : ℕ). SameSide side (told_box b t) b x) (sym e) (other_side b t.var t.bound t.side side h (f e))
+      | inr ne ↦ same_side_at side (told_box b t) b w (told_same w ne)
+    ]
+
     narrowed : (p' : Progress) (after : Bounds) → HasPut p' b t.var (told_low b t.side t.var t.bound) (told_high b t.side t.var t.bound) after →
         Effect b p (t ∷ []) (t ∷ []) after p'
     narrowed Still after put = absurd put
@@ -70,6 +103,7 @@ module _ (order : InsideOrder) where
       holds = λ c i a. told_holds tightens b c t h i (All-head (Keeps c) t [] a);
       going = λ g. going;
       unmoved = λ g w f. told_same w (All-head (λ (u : Tell). w ≢ u.var) t [] f);
+      unread = λ g side w f. told_side_same side w (All-head (λ (u : Tell). w ≡ u.var → side ≡ u.side → ⊥) t [] f);
       heard = λ g. All-cons (Keeps (told_box b t)) t [] (told_kept b t h) (All-nil (Keeps (told_box b t)));
       still = λ e. absurd (cc);
       moves = λ e. inr (told_moves b t h narrows);
@@ -81,6 +115,7 @@ module _ (order : InsideOrder) where
       holds = λ c i a. told_holds tightens b c t h i (All-head (Keeps c) t [] a);
       going = λ g. absurd g;
       unmoved = λ g. absurd g;
+      unread = λ g. absurd g;
       heard = λ g. absurd g;
       still = λ e. absurd (cc);
       moves = λ e. absurd (cc);
@@ -99,6 +134,7 @@ module _ (order : InsideOrder) where
       holds = λ c i a. i;
       going = λ g. absurd g;
       unmoved = λ g. absurd g;
+      unread = λ g. absurd g;
       heard = λ g. absurd g;
       still = λ e. absurd (cc);
       moves = λ e. absurd (cc);
@@ -135,6 +171,8 @@ module _ (order : InsideOrder) (tightens : TightensOne) where
     going = λ g. e.going (f.going g);
     unmoved = λ g w out. same_at_through a b c w (f.unmoved g w (All-tail (λ (u : Tell). w ≢ u.var) t ts out))
         (e.unmoved (f.going g) w (All-cons (λ (u : Tell). w ≢ u.var) t [] (All-head (λ (u : Tell). w ≢ u.var) t ts out) (All-nil (λ (u : Tell). w ≢ u.var))));
+    unread = λ g side w out. same_side_through side a b c w (f.unread g side w (All-tail (λ (u : Tell). w ≡ u.var → side ≡ u.side → ⊥) t ts out))
+        (e.unread (f.going g) side w (All-cons (λ (u : Tell). w ≡ u.var → side ≡ u.side → ⊥) t [] (All-head (λ (u : Tell). w ≡ u.var → side ≡ u.side → ⊥) t ts out) (All-nil (λ (u : Tell). w ≡ u.var → side ≡ u.side → ⊥))));
     heard = λ g. All-cons (Keeps c) t ts (keeps_inside b c t h f.inside (All-head (Keeps b) t [] (e.heard (f.going g)))) (f.heard g);
     still = λ s. let q = f.still s in let r = e.still q.0 in (r.0, q.1 ∙ r.1);
     moves = λ s. elim (f.moves s) [
@@ -221,6 +259,7 @@ module _ (laws : (b : Bounds) (t : Tell) → narrows b t ≡ false → Keeps b t
     holds = λ c i a. e.holds c i (All-filter (narrows b) (Keeps c) ts a);
     going = e.going;
     unmoved = e.unmoved;
+    unread = e.unread;
     heard = λ g. kept_all after e.inside ts placed (e.heard g);
     still = e.still;
     moves = e.moves;

@@ -3,6 +3,7 @@ pub mod Telling
 pub mod Hearing
 pub mod Gathering
 pub mod RestLaws
+pub mod RestedLaws
 pub mod AskedLaws
 pub mod RunLemmas
 pub mod Rounding

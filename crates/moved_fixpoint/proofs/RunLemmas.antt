@@ -18,7 +18,8 @@ use Rattle.guarded_tell.specs.Hearing.{HearsAll}
 use Rattle.guarded_tell.specs.Kernels.{vars_of, tells, IsKernel, IsClosedUnder}
 use Rattle.tell_laws.specs.Narrowing.{narrows}
 use Rattle.guarded_tell.specs.Narrowing.{narrowing_tells}
-use Rattle.moved_set.specs.Sets.{IsIn, Naming, IsNaming, set_at}
+use Rattle.guarded_tell.specs.Sides.{AgreeInRead}
+use Rattle.moved_set.specs.Sets.{IsIn, Naming, IsNaming, set_at, side_set_at}
 use Rattle.fixpoint_laws.specs.Changes.{TightensOne}
 use Rattle.fixpoint_laws.specs.Rounds.{HasRun}
 use Rattle.moved_fixpoint.specs.declared.rests.Rests.{Rests}
@@ -31,7 +32,7 @@ use Rattle.moved_fixpoint.specs.Heard.{GoesOn, Hears, Joined, joined}
 use Rattle.moved_fixpoint.specs.Gathered.{SideLeavesNone, AreCut, AreGathered}
 use Rattle.moved_fixpoint.specs.Runs.{SameAt, HasVisited, KernelRuns}
 use Rattle.moved_fixpoint.proofs.RestLaws.{in_or_not, proper_of, entailed_here, quiet_here}
-use Rattle.moved_fixpoint.proofs.Hearing.{Effect, IsPlaced, effect, effect_of_all}
+use Rattle.moved_fixpoint.proofs.Hearing.{Effect, IsPlaced, effect, effect_of_all, same_side_back}
 
 -- the laws of the kernels, as their functions state them
 abbrev pub Monotone : Type 0
@@ -166,6 +167,7 @@ module _ (place : TellPlace) (k : Kernel) (b : Bounds) (kernel : IsKernel (lengt
         going = λ g. absurd (over g);
         kept = λ g. absurd (over g);
         unmoved = λ g. absurd (over g);
+        unread = λ g. absurd (over g);
         rested = λ g. absurd (over g);
         heard = λ g. absurd (over g);
         closed = λ g. absurd (over g);
@@ -185,6 +187,16 @@ module _ (place : TellPlace) (k : Kernel) (b : Bounds) (kernel : IsKernel (lengt
             e.unmoved g v (λ y t m same.
             let names : IsIn (set_at naming j) v = (named.each j d v h).1 (x, l, get_or_default (vars_of (get_or kernels j d)) x v w l) in
             none (asked.told j (omega arith) y t m (subst (λ (n : ℕ). IsIn (set_at naming j) n) same names) (subst (λ (n : ℕ). Heeds rests' after j n) same heeds)))
+
+        -- nor a bound that it reads, if it is alert
+        spared_read : GoesOn p' → (j : ℕ) (d : Kernel) → j < length kernels → (IsIn new j → ⊥) → IsIn rests'.alert.current j → AgreeInRead (get_or kernels j d) b after
+        spared_read g j d h none alert x side l reads =
+            let v : ℕ = get_or (vars_of (get_or kernels j d)) x 0 in
+            let len = length-set old i false in
+            let there : IsIn (side_set_at naming side j) v = named.reads j d x side h l reads in
+            same_side_back side after b v (e.unread g side v (λ y t m same_var same_side.
+            none (asked.read j (omega arith) y t m
+            (subst (λ (s : Side). IsIn (side_set_at naming s j) (get_or told y t).var) same_side (subst (λ (n : ℕ). IsIn (side_set_at naming side j) n) same_var there)) alert)))
 
         own_spared : GoesOn p' → (IsIn new i → ⊥) → IsIn rests'.open.current i → IsIn rests'.alert.current i → All (SameAt after b) (vars_of k)
         own_spared g none is_open alert = subst (λ (x : Kernel). All (SameAt after b) (vars_of x)) (sym here) (λ x w l. spared g i k i_in none x w l (is_open, inl alert))
@@ -212,9 +224,16 @@ module _ (place : TellPlace) (k : Kernel) (b : Bounds) (kernel : IsKernel (lengt
 
         closed_own : GoesOn p' → (IsIn new i → ⊥) → IsIn rests.open.current i → IsClosedUnder k after
         closed_own g none was_open = elim (in_or_not rests'.open.current i) [
-          | inr shut ↦ elim (rested.entailed shut) [
-            | inl was_shut ↦ absurd (was_shut was_open)
-            | inr entailed ↦ entailed_here order k after (proper_then g) entailed
+          | inr shut ↦ elim (in_or_not rests'.alert.current i) [
+            | inl alert ↦ elim (rested.sided shut) [
+              | inl was_shut ↦ absurd (was_shut was_open)
+              | inr sided ↦ sided b after (order.itself after) e.inside (proper_then g)
+                  (subst (λ (x : Kernel). AgreeInRead x b after) (sym here) (spared_read g i k i_in none alert)) (heard_all tighter after p' e g)
+            ]
+            | inr dozing ↦ elim (rested.entailed shut dozing) [
+              | inl was_shut ↦ absurd (was_shut.0 was_open)
+              | inr entailed ↦ entailed_here order k after (proper_then g) entailed
+            ]
           ]
           | inl is_open ↦ elim (in_or_not rests'.alert.current i) [
             | inl alert ↦ closed_alert g none is_open alert
@@ -229,6 +248,7 @@ module _ (place : TellPlace) (k : Kernel) (b : Bounds) (kernel : IsKernel (lengt
           going = e.going;
           kept = λ g j ne is_in. kept_set j ne is_in;
           unmoved = spared;
+          unread = spared_read;
           rested = λ g. rested;
           heard = heard_all tighter after p' e;
           closed = closed_own;
@@ -292,6 +312,7 @@ none_asked naming rests b ts set e = record {
   same_count = refl;
   kept = λ j h. h;
   told = λ j h i d inside. absurd (omega arith);
+  read = λ j h i d inside. absurd (omega arith);
   none = λ n. refl;
 }
 

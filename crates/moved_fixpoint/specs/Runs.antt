@@ -3,8 +3,9 @@ use Rattle.std.specs.Prelude.{ℕ, ◌≡◌, ◌≢◌, ◌<◌, ◌⊎◌, fal
 use Rattle.std.specs.List.{All}
 use Rattle.interval.specs.Boxes.{Bounds, low_of, high_of, IsProper, IsCrossed}
 use Rattle.guarded_tell.specs.declared.kernel.Kernel.{Kernel}
-use Rattle.guarded_tell.specs.Words.{Tell}
+use Rattle.guarded_tell.specs.Words.{Tell, Side}
 use Rattle.guarded_tell.specs.Kernels.{vars_of, IsClosedUnder}
+use Rattle.guarded_tell.specs.Sides.{AgreeInRead}
 use Rattle.fixpoint_laws.specs.Rounds.{HasRun}
 use Rattle.fixpoint_laws.specs.OneRound.{LeavesAlone}
 use Rattle.moved_set.specs.Sets.{IsIn}
@@ -24,8 +25,12 @@ pub record SameAt (a b : Bounds) (w : ℕ) : Type 0 where
 abbrev pub Spares : List Tell → ℕ → Type 0
 Spares ts w = All (λ t. w ≢ t.var) ts
 
+-- none of the tells is of this bound of variable w
+abbrev pub SparesSide : List Tell → Side → ℕ → Type 0
+SparesSide ts side w = All (λ t. w ≡ t.var → side ≡ t.side → ⊥) ts
+
 -- the kernel was run on a box: no closed box was lost; unless the round is over, the others that were asked still are, of one
--- that isn't asked then no variable moved of which it would heed that, no tell of the kernel on the box before narrows the one
+-- that isn't asked then no variable moved of which it would heed that, nor, if it is alert, a bound that it reads, no tell of the kernel on the box before narrows the one
 -- after, and if it isn't asked then and was open then it is quiet there; and it rests as long as it needs no visit
 pub record HasVisited (kernels : List Kernel) (i : ℕ) (kernel : Kernel) (before : Bounds) (asked : Set) (rests : Rests) (p : Progress)
     (after : Bounds) (asked_after : Set) (rests_after : Rests) (p_after : Progress) : Type 0 where
@@ -35,6 +40,8 @@ pub record HasVisited (kernels : List Kernel) (i : ℕ) (kernel : Kernel) (befor
   pub kept : GoesOn p_after → (j : ℕ) → j ≢ i → IsIn asked j → IsIn asked_after j
   pub unmoved : GoesOn p_after → (j : ℕ) (k : Kernel) → j < length kernels → (IsIn asked_after j → ⊥) →
       All (λ v. Heeds rests_after after j v → SameAt after before v) (vars_of (slice_index_or kernels j k))
+  pub unread : GoesOn p_after → (j : ℕ) (k : Kernel) → j < length kernels → (IsIn asked_after j → ⊥) → IsIn rests_after.alert.current j →
+      AgreeInRead (slice_index_or kernels j k) before after
   pub rested : GoesOn p_after → HasRested kernel i after rests rests_after
   pub heard : GoesOn p_after → LeavesAlone kernel before after
   pub closed : GoesOn p_after → (IsIn asked_after i → ⊥) → IsIn rests.open.current i → IsClosedUnder kernel after

@@ -1,5 +1,5 @@
-//! Propagation that asks what moved: a kernel is visited where one of its variables moved since its last visit, unless it
-//! rests.
+//! Propagation that asks what moved: a kernel is visited where one of its variables moved since its last visit, or a bound that
+//! it reads if it is one-sided, unless it rests.
 //!
 //! `settle_proper` and `settle_moved` end as propagation by one thread does: with the greatest closed box inside, or that there
 //! is none, or after as many rounds as the limit says; where memory is refused the box holds every closed box that it held. A

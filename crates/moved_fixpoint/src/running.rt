@@ -21,7 +21,7 @@ use interval::{BoxOf, law_inside_order};
 use moved_set::{AskedSet, Masks};
 use trailed_box::TrailedBox;
 
-/// Asks for each variable of these tells.
+/// Asks for the bound of each of these tells.
 fn ask_told(masks: &Masks, told: &[Tell], b: &BoxOf, rests: &Rests, asked: &mut AskedSet)
     requires variables { All (λ t. t.var < masks.now.count) told.now }
     requires length { masks.now.count ≡ length b.now }
@@ -30,7 +30,7 @@ fn ask_told(masks: &Masks, told: &[Tell], b: &BoxOf, rests: &Rests, asked: &mut 
     ensures { AreAsked masks.now rests.now b.now told.now asked.old asked.new }
 {
     for t in told {
-        ask(masks, t.var, b, rests, asked);
+        ask(masks, *t, b, rests, asked);
     }
 }
 
@@ -66,10 +66,12 @@ pub(crate) fn run_kernel(
     // its contract says that the bounds are in range
     let _length = b.len();
     let kernel = &kernels[place];
-    match seen_rest(kernel, masks.shape(place), b.current()) {
+    let shape = masks.shape(place);
+    let on = b.current();
+    match seen_rest(kernel, shape, on) {
         Some(rest) => {
             sets.asked.forget(place);
-            if sets.rest_for(place, rest).is_ok() {
+            if sets.rest_for(kernel, shape, place, on, rest).is_ok() {
                 progress
             } else {
                 Progress::Refused
@@ -112,8 +114,9 @@ fn run_unseen(
     let kernel = &kernels[place];
     sets.asked.forget(place);
     let shape = masks.shape(place);
-    if let Some(rest) = sets.visit(kernel, shape, place, b.current()) {
-        return if sets.rest_for(place, rest).is_ok() {
+    let on = b.current();
+    if let Some(rest) = sets.visit(kernel, shape, place, on) {
+        return if sets.rest_for(kernel, shape, place, on, rest).is_ok() {
             progress
         } else {
             Progress::Refused

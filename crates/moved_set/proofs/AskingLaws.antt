@@ -12,7 +12,7 @@ use Rattle.moved_set.specs.Sets.{Naming, set_at}
 use Rattle.moved_set.specs.Words.{names}
 use Rattle.moved_set.specs.Building.{AreWithin}
 use Rattle.moved_set.specs.Rows.{row_at}
-use Rattle.moved_set.specs.Asked.{IsUnited, IsUnitedIn}
+use Rattle.moved_set.specs.Asked.{are_both_in, IsUnited, IsUnitedIn}
 use Rattle.moved_set.specs.Asking.{masks_at, some_uses, asks, asked_sets, IsAsked}
 use Rattle.moved_set.proofs.AskedLaws.{or_false}
 
@@ -65,18 +65,17 @@ set_has own lists_of users count kernels j v h k =
     ∙ get_or-map-range_with_len (λ v. asks own lists_of users v j) 0 count v v false k (omega arith)
 
 -- all of them
-pub asked_all : (old new : List Bool) (own : List (List Mask)) (lists_of : List (Vec ℕ Global)) (users : List (List Mask)) (count kernels v : ℕ) (shapes : List Shape) (naming : Naming) (row : List Mask) (lists : List ℕ)
-    → record { count = count; sets = asked_sets own lists_of users count kernels; shapes = shapes } ≡ naming → v < count → length old ≡ length naming.sets
+pub asked_all : (old new : List Bool) (own : List (List Mask)) (lists_of : List (Vec ℕ Global)) (users : List (List Mask)) (count kernels v : ℕ) (sets : List (List Bool)) (row : List Mask) (lists : List ℕ)
+    → asked_sets own lists_of users count kernels ≡ sets → v < count → length old ≡ kernels
     → row ≡ masks_at own v → lists ≡ row_at lists_of v → IsAsked old (λ j. names row j || some_uses users j lists) new
-    → IsAsked old (λ j. get_or (set_at naming j) v false) new
-asked_all old new own lists_of users count kernels v shapes naming row lists is h len row_is lists_is asked = record {
+    → IsAsked old (λ j. get_or (get_or sets j []) v false) new
+asked_all old new own lists_of users count kernels v sets row lists is h len row_is lists_is asked = record {
   same_length = asked.same_length;
   each = λ j k.
-      let size : length naming.sets ≡ kernels = ap (λ (n : Naming). length n.sets) (sym is) ∙ sets_length own lists_of users count kernels in
       let one : (names row j || some_uses users j lists) ≡ asks own lists_of users v j =
       ap (λ (r : List Mask). names r j || some_uses users j lists) row_is ∙ ap (λ (ls : List ℕ). names (masks_at own v) j || some_uses users j ls) lists_is in
-      let two : asks own lists_of users v j ≡ get_or (set_at naming j) v false =
-      sym (set_has own lists_of users count kernels j v (omega arith) h) ∙ ap (λ (n : Naming). get_or (set_at n j) v false) is in
+      let two : asks own lists_of users v j ≡ get_or (get_or sets j []) v false =
+      sym (set_has own lists_of users count kernels j v (omega arith) h) ∙ ap (λ (s : List (List Bool)). get_or (get_or s j []) v false) is in
       asked.each j k ∙ ap (λ (b : Bool). get_or old j false || b) (one ∙ two);
 }
 
@@ -92,16 +91,16 @@ pub list_inside : (lists_of : List (Vec ℕ Global)) (count users v i : ℕ) (li
 list_inside lists_of count users v i lists h there is k =
     subst (λ (ls : List ℕ). get_or ls i 0 < users) (sym is) (there v h i 0 (subst (λ (ls : List ℕ). i < length ls) is k))
 
--- ---- the same of those in a wanted set
+-- ---- the same of those that a test takes
 
 or_none_of : (n : Bool) → n ≡ (n || false)
 or_none_of true = refl
 or_none_of false = refl
 
-pub asked_in_own : (old new : List Bool) (row : List Mask) (users : List (List Mask)) (wanted : List Bool) → IsUnitedIn old row wanted new → IsAsked old (λ j. (names row j || some_uses users j []) && get_or wanted j false) new
+pub asked_in_own : (old new : List Bool) (row : List Mask) (users : List (List Mask)) (wanted : ℕ → Bool) → IsUnitedIn old row wanted new → IsAsked old (λ j. (names row j || some_uses users j []) && wanted j) new
 asked_in_own old new row users wanted united = record {
   same_length = united.same_length;
-  each = λ j h. united.each j h ∙ ap (λ (b : Bool). get_or old j false || (b && get_or wanted j false)) (or_none_of (names row j));
+  each = λ j h. united.each j h ∙ ap (λ (b : Bool). get_or old j false || (b && wanted j)) (or_none_of (names row j));
 }
 
 or_and_more : (o a s n w : Bool) → ((o || ((a || s) && w)) || (n && w)) ≡ (o || ((a || (s || (n || false))) && w))
@@ -117,9 +116,9 @@ or_and_more false false false true false = refl
 or_and_more false false false false true = refl
 or_and_more false false false false false = refl
 
-pub asked_in_list : (old mid new : List Bool) (own : List Mask) (users : List (List Mask)) (lists : List ℕ) (wanted : List Bool) (i : ℕ) (row : List Mask) → i < length lists
-    → row ≡ masks_at users (get_or lists i 0) → IsAsked old (λ j. (names own j || some_uses users j (take i lists)) && get_or wanted j false) mid → IsUnitedIn mid row wanted new
-    → IsAsked old (λ j. (names own j || some_uses users j (take (i + 1) lists)) && get_or wanted j false) new
+pub asked_in_list : (old mid new : List Bool) (own : List Mask) (users : List (List Mask)) (lists : List ℕ) (wanted : ℕ → Bool) (i : ℕ) (row : List Mask) → i < length lists
+    → row ≡ masks_at users (get_or lists i 0) → IsAsked old (λ j. (names own j || some_uses users j (take i lists)) && wanted j) mid → IsUnitedIn mid row wanted new
+    → IsAsked old (λ j. (names own j || some_uses users j (take (i + 1) lists)) && wanted j) new
 asked_in_list old mid new own users lists wanted i row h row_is asked united = record {
   same_length = united.same_length ∙ asked.same_length;
   each = λ j k.
@@ -130,23 +129,42 @@ asked_in_list old mid new own users lists wanted i row h row_is asked united = r
       let one : names row j ≡ uses l = ap (λ (r : List Mask). names r j) row_is in
       let len = asked.same_length in
       united.each j (omega arith)
-      ∙ ap (λ (b : Bool). b || (names row j && get_or wanted j false)) (asked.each j k)
-      ∙ ap (λ (b : Bool). (get_or old j false || ((names own j || some_uses users j (take i lists)) && get_or wanted j false)) || (b && get_or wanted j false)) one
-      ∙ or_and_more (get_or old j false) (names own j) (some_uses users j (take i lists)) (uses l) (get_or wanted j false)
-      ∙ ap (λ (b : Bool). get_or old j false || ((names own j || b) && get_or wanted j false)) (sym more);
+      ∙ ap (λ (b : Bool). b || (names row j && wanted j)) (asked.each j k)
+      ∙ ap (λ (b : Bool). (get_or old j false || ((names own j || some_uses users j (take i lists)) && wanted j)) || (b && wanted j)) one
+      ∙ or_and_more (get_or old j false) (names own j) (some_uses users j (take i lists)) (uses l) (wanted j)
+      ∙ ap (λ (b : Bool). get_or old j false || ((names own j || b) && wanted j)) (sym more);
 }
 
-pub asked_in_all : (old new : List Bool) (own : List (List Mask)) (lists_of : List (Vec ℕ Global)) (users : List (List Mask)) (count kernels v : ℕ) (shapes : List Shape) (naming : Naming) (row : List Mask) (lists : List ℕ) (wanted : List Bool)
-    → record { count = count; sets = asked_sets own lists_of users count kernels; shapes = shapes } ≡ naming → v < count → length old ≡ length naming.sets
-    → row ≡ masks_at own v → lists ≡ row_at lists_of v → IsAsked old (λ j. (names row j || some_uses users j lists) && get_or wanted j false) new
-    → IsAsked old (λ j. get_or (set_at naming j) v false && get_or wanted j false) new
-asked_in_all old new own lists_of users count kernels v shapes naming row lists wanted is h len row_is lists_is asked = record {
+pub asked_in_all : (old new : List Bool) (own : List (List Mask)) (lists_of : List (Vec ℕ Global)) (users : List (List Mask)) (count kernels v : ℕ) (sets : List (List Bool)) (row : List Mask) (lists : List ℕ) (wanted : ℕ → Bool)
+    → asked_sets own lists_of users count kernels ≡ sets → v < count → length old ≡ kernels
+    → row ≡ masks_at own v → lists ≡ row_at lists_of v → IsAsked old (λ j. (names row j || some_uses users j lists) && wanted j) new
+    → IsAsked old (λ j. get_or (get_or sets j []) v false && wanted j) new
+asked_in_all old new own lists_of users count kernels v sets row lists wanted is h len row_is lists_is asked = record {
   same_length = asked.same_length;
   each = λ j k.
-      let size : length naming.sets ≡ kernels = ap (λ (n : Naming). length n.sets) (sym is) ∙ sets_length own lists_of users count kernels in
       let one : (names row j || some_uses users j lists) ≡ asks own lists_of users v j =
       ap (λ (r : List Mask). names r j || some_uses users j lists) row_is ∙ ap (λ (ls : List ℕ). names (masks_at own v) j || some_uses users j ls) lists_is in
-      let two : asks own lists_of users v j ≡ get_or (set_at naming j) v false =
-      sym (set_has own lists_of users count kernels j v (omega arith) h) ∙ ap (λ (n : Naming). get_or (set_at n j) v false) is in
-      asked.each j k ∙ ap (λ (b : Bool). get_or old j false || (b && get_or wanted j false)) (one ∙ two);
+      let two : asks own lists_of users v j ≡ get_or (get_or sets j []) v false =
+      sym (set_has own lists_of users count kernels j v (omega arith) h) ∙ ap (λ (s : List (List Bool)). get_or (get_or s j []) v false) is in
+      asked.each j k ∙ ap (λ (b : Bool). get_or old j false || (b && wanted j)) (one ∙ two);
 }
+
+-- both tests are one
+and_twice : (n w : Bool) → (n && (w && w)) ≡ (n && w)
+and_twice n true = refl
+and_twice n false = refl
+
+pub asked_twice : (old new wanted : List Bool) (test : ℕ → Bool) → IsAsked old (λ j. test j && are_both_in wanted wanted j) new → IsAsked old (λ j. test j && get_or wanted j false) new
+asked_twice old new wanted test asked = record {
+  same_length = asked.same_length;
+  each = λ j h. asked.each j h ∙ ap (λ (b : Bool). get_or old j false || b) (and_twice (test j) (get_or wanted j false));
+}
+
+-- the masks of all groups lie in the set
+pub rows_inside : (groups : List (List Mask)) (kernels len : ℕ) → All (AreWithin (kernels / 32 + 1)) groups → len ≡ kernels → All (All (λ m. m.place * 32 ≤ len)) groups
+rows_inside groups kernels len within same i d h k e l = let lt = within i d h k e l in omega arith
+
+-- the lists that the row of a variable names are there
+pub lists_inside : (lists_of : List (Vec ℕ Global)) (count users v : ℕ) (lists : List ℕ) → v < count
+    → ((v : ℕ) → v < count → All (λ l. l < users) (row_at lists_of v)) → lists ≡ row_at lists_of v → All (λ l. l < users) lists
+lists_inside lists_of count users v lists h there is = subst (All (λ l. l < users)) (sym is) (there v h)

@@ -3,6 +3,7 @@ pub mod GroupLaws
 pub mod FlatLaws
 pub mod ListedLaws
 pub mod PartLaws
+pub mod ReadLaws
 pub mod ShapeRows
 pub mod RowLaws
 pub mod NamingLaws

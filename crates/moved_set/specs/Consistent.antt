@@ -10,4 +10,8 @@ pub record IsConsistent (m : Inside) : Type 0 where
   pub lists_length : length m.lists_of.items ≡ m.count
   pub there : (v : ℕ) → v < m.count → All (λ l. l < length m.users) (row_at m.lists_of.items v)
   pub own_within : All (AreWithin (m.kernels / 32 + 1)) m.own
+  pub low_length : length m.low ≡ m.count
+  pub high_length : length m.high ≡ m.count
+  pub low_within : All (AreWithin (m.kernels / 32 + 1)) m.low
+  pub high_within : All (AreWithin (m.kernels / 32 + 1)) m.high
   pub users_within : All (AreWithin (m.kernels / 32 + 1)) m.users

@@ -1,12 +1,12 @@
 //! Kernels' variables in two parts: a list that a kernel may have with others, and those before and behind it, which are
 //! its own. What is kept for each variable of a list is then kept once, however many kernels have the list.
 
-ghost use Rattle.std.specs.Prelude.{ℕ, ◌≡◌, ◌≢◌, ◌<◌, ◌≤◌, ◌++◌, [], ◌∷◌, length, slice_index_or, slice_range, All, IsTrue, IfOk, OnOk, IfSome};
+ghost use Rattle.std.specs.Prelude.{ℕ, ◌≡◌, ◌≢◌, ◌<◌, ◌≤◌, ◌-◌, ◌++◌, [], ◌∷◌, length, slice_index_or, slice_range, All, IsTrue, IfOk, OnOk, IfSome};
 ghost use Rattle.clause_tells.specs.Clause.{clause_vars};
 ghost use Rattle.guarded_tell.specs.Kernels.{vars_of, IsKernel, HasNumbers};
-ghost use Rattle.moved_set.specs.Parts.{HasList, IsPart, AreLists, AreParts, own_at, Grows, GrowsBy};
+ghost use Rattle.moved_set.specs.Parts.{HasList, IsPart, AreLists, AreParts, own_at, own_reads_at, is_read, is_same_side, reads_from, Grows, GrowsBy};
 
-use guarded_tell::{Extended, Kernel, Literals};
+use guarded_tell::{Extended, Kernel, Literals, Side, side_at};
 use shared_list::SharedList;
 use std::alloc::{AllocError, Global};
 use std::collections::BTreeMap;
@@ -190,6 +190,80 @@ impl Parts {
         vars.clear();
         push_vars(vars, kernel, 0, part.before)?;
         push_vars(vars, kernel, behind, count)
+    }
+}
+
+impl Parts {
+    /// Makes the list of those own variables of the kernel at a place of which it reads the bound on a side.
+    #[tactic(auto, using(crate::proofs::PartLaws::part_within))]
+    pub(crate) fn own_reads(
+        &self,
+        vars: &mut Vec<u32>,
+        kernels: &[Kernel],
+        j: usize,
+        side: Side,
+    ) -> Result<(), AllocError>
+        requires numbers { All HasNumbers kernels.now }
+        requires place { j < length kernels.now }
+        requires parts { AreParts kernels.now (length kernels.now) self.now.lists.items self.now.of_kernels.items }
+        ensures { OnOk result (vars.new.items ≡ own_reads_at side kernels.now self.now.lists.items self.now.of_kernels.items j) }
+    {
+        let kernel = &kernels[j];
+        let part = self.of_kernels[j];
+        let count = kernel.var_count();
+        let behind = part.before + self.lists[part.list].len();
+        vars.clear();
+        push_reads(vars, kernel, side, 0, part.before)?;
+        push_reads(vars, kernel, side, behind, count)
+    }
+}
+
+/// Puts those of a kernel's variables from one place up to another behind a list of which it reads the bound on a side.
+fn push_reads(
+    vars: &mut Vec<u32>,
+    kernel: &Kernel,
+    side: Side,
+    from: usize,
+    to: usize,
+) -> Result<(), AllocError>
+    requires numbers { HasNumbers kernel.now }
+    requires order { from ≤ to }
+    requires end { to ≤ length (vars_of kernel.now) }
+    ensures { OnOk result (vars.new.items ≡ vars.old.items ++ reads_from kernel.now side from (to - from)) }
+{
+    for place in from..to {
+        if reads(kernel, side, place) {
+            vars.push(kernel.var_at(place))?;
+        }
+    }
+    Ok(())
+}
+
+/// Whether the kernel reads the bound on this side of the variable that it names at a place.
+fn reads(kernel: &Kernel, side: Side, place: usize) -> bool
+    requires numbers { HasNumbers kernel.now }
+    requires place { place < length (vars_of kernel.now) }
+    ensures { result ≡ is_read kernel.now side place }
+{
+    match side_at(kernel, place) {
+        Some(read) => is_same(side, read),
+        None => false,
+    }
+}
+
+/// Whether both sides are the same.
+fn is_same(side: Side, other: Side) -> bool
+    ensures { result ≡ is_same_side side other }
+{
+    match side {
+        Side::Low => match other {
+            Side::Low => true,
+            Side::High => false,
+        },
+        Side::High => match other {
+            Side::Low => false,
+            Side::High => true,
+        },
     }
 }
 

@@ -8,7 +8,7 @@ use list_of::ListOf;
 use std::alloc::Global;
 use std::sync::atomic::{AtomicBool, AtomicU64, Ordering};
 use std::test::Fail;
-use std::thread::Threads;
+use std::thread::{Threads, yield_now};
 
 /// Doubles numbers, and is refused memory at one of them.
 #[derive(Drop)]
@@ -244,12 +244,13 @@ impl Meet {
     }
 }
 
-/// Waits for the other worker, for so many turns.
+/// Waits for the other worker, for so many turns in which others may run.
 fn wait_for(flag: &AtomicBool, gave_up: &AtomicBool) {
-    for _ in 0..200_000_000u32 {
+    for _ in 0..20_000_000u32 {
         if flag.load(Ordering::SeqCst) {
             return;
         }
+        yield_now();
     }
     gave_up.store(true, Ordering::SeqCst);
 }

@@ -6,6 +6,7 @@ use fzn_print::Mark;
 use gate::{Gate, NoGate};
 use std::sync::atomic::{AtomicBool, Ordering};
 use std::test::Fail;
+use std::thread::yield_now;
 
 /// Holds worker 0's first pass until worker 1's first pass was called.
 #[derive(Drop)]
@@ -24,12 +25,13 @@ impl SecondFirst {
         }
     }
 
-    /// Waits for worker 1, for so many turns.
+    /// Waits for worker 1, for so many turns in which others may run.
     fn wait(&self) {
-        for _ in 0..200_000_000u32 {
+        for _ in 0..20_000_000u32 {
             if self.second.load(Ordering::SeqCst) {
                 return;
             }
+            yield_now();
         }
         self.gave_up.store(true, Ordering::SeqCst);
     }

@@ -105,6 +105,7 @@ fn tell_at_most<H: Hear>(
 }
 
 /// Tells the literal where the sums decide the inequality.
+#[inline(always)]
 pub fn narrow_literal<H: Hear>(lit: Lit, limit: i64, sums: Sums, b: &BoxOf, h: &mut H)
     requires variable { lit.var < length b.now }
     requires hearer { MayHearAll H.can_hear H.hears h.old (narrowing b.now (literal_tells lit limit sums.least sums.greatest)) }
@@ -284,6 +285,7 @@ fn tell_equation<H: Hear>(
 }
 
 /// Tells the literal where the sums decide the equation.
+#[inline(always)]
 pub fn narrow_equation_literal<H: Hear>(lit: Lit, limit: i64, sums: Sums, b: &BoxOf, h: &mut H)
     requires variable { lit.var < length b.now }
     requires hearer { MayHearAll H.can_hear H.hears h.old (narrowing b.now (equation_tells lit limit sums.least sums.greatest)) }

@@ -31,6 +31,7 @@ pub struct Room {
 }
 
 /// Tells of each term of a short sum that it keeps to the room, where that narrows the box and the hearer isn't done.
+#[inline(always)]
 pub fn narrow_terms<H: Hear>(coeffs: &[i64], vars: &[u32], room: Room, b: &BoxOf, h: &mut H)
     requires linear { IsLinear coeffs.now vars.now (pos 0) }
     requires variables { AreVariables (length b.now) vars.now }
@@ -46,6 +47,7 @@ pub fn narrow_terms<H: Hear>(coeffs: &[i64], vars: &[u32], room: Room, b: &BoxOf
 }
 
 /// The same, whether the hearer is done or not.
+#[inline(always)]
 fn narrow_terms_to<H: Hear>(coeffs: &[i64], vars: &[u32], room: Room, b: &BoxOf, h: &mut H)
     requires linear { IsLinear coeffs.now vars.now (pos 0) }
     requires variables { AreVariables (length b.now) vars.now }
@@ -80,6 +82,7 @@ fn least_slack(room: Room) -> Option<i64>
 }
 
 /// Tells of each term that it keeps to the room.
+#[inline(never)]
 fn narrow_all<H: Hear>(coeffs: &[i64], vars: &[u32], room: Room, b: &BoxOf, h: &mut H)
     requires linear { IsLinear coeffs.now vars.now (pos 0) }
     requires variables { AreVariables (length b.now) vars.now }
@@ -96,6 +99,7 @@ fn narrow_all<H: Hear>(coeffs: &[i64], vars: &[u32], room: Room, b: &BoxOf, h: &
 }
 
 /// The same where the room is at least the slack: only what grows by more is told.
+#[inline(always)]
 fn narrow_wide<H: Hear>(coeffs: &[i64], vars: &[u32], slack: i64, room: Room, b: &BoxOf, h: &mut H)
     requires linear { IsLinear coeffs.now vars.now (pos 0) }
     requires variables { AreVariables (length b.now) vars.now }
@@ -114,6 +118,7 @@ fn narrow_wide<H: Hear>(coeffs: &[i64], vars: &[u32], slack: i64, room: Room, b:
 }
 
 /// Tells of a term that it keeps to the room, which is at least the slack, unless it grows by no more.
+#[inline(always)]
 fn narrow_where_wide<H: Hear>(term: (i64, u32), slack: i64, room: &Room, b: &BoxOf, h: &mut H)
     requires coefficient { IsNumber term.0 }
     requires variable { term.1 < length b.now }
@@ -132,6 +137,7 @@ fn narrow_where_wide<H: Hear>(term: (i64, u32), slack: i64, room: &Room, b: &Box
 }
 
 /// Whether the term may grow by more than the slack.
+#[inline(always)]
 fn is_wide(term: (i64, u32), slack: i64, b: &BoxOf) -> bool
     requires variable { term.1 < length b.now }
     requires proper { low_of b.now term.1 ≤ℤ high_of b.now term.1 }

@@ -5,6 +5,7 @@ use crate::calls::{SOUND, assert_ended, run_gated};
 use solver_top::{Gate, Gates, NoGate, Status};
 use std::sync::atomic::{AtomicBool, AtomicU64, Ordering};
 use std::test::Fail;
+use std::thread::yield_now;
 
 /// Lets the turn 0 of number 1 end only after the turn 0 of number 0 was called, and that one only after the turn 1 of
 /// number 1 was called.
@@ -35,12 +36,13 @@ impl Meet {
     }
 }
 
-/// Waits for the other, for so many turns.
+/// Waits for the other, for so many turns in which others may run.
 fn wait_for(flag: &AtomicBool, gave_up: &AtomicBool) {
-    for _ in 0..200_000_000u32 {
+    for _ in 0..20_000_000u32 {
         if flag.load(Ordering::SeqCst) {
             return;
         }
+        yield_now();
     }
     gave_up.store(true, Ordering::SeqCst);
 }
@@ -126,12 +128,13 @@ impl AllMeet {
         self.have_all_begun() && !self.gave_up.load(Ordering::SeqCst)
     }
 
-    /// Waits for all eight, for so many turns.
+    /// Waits for all eight, for so many turns in which others may run.
     fn wait(&self) {
-        for _ in 0..200_000_000u32 {
+        for _ in 0..20_000_000u32 {
             if self.have_all_begun() {
                 return;
             }
+            yield_now();
         }
         self.gave_up.store(true, Ordering::SeqCst);
     }

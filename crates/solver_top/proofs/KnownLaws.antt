@@ -11,7 +11,7 @@ use Rattle.answer.specs.declared.options.Options.{Options as SearchOptions}
 use Rattle.answer.specs.Finished.{Gives, IsFinished, IsUnsatisfiable}
 use Rattle.answer.specs.Answers.{IsAnswer}
 use Rattle.answer.specs.Laws.{IsMarkedOpen, UnfinishedMarks}
-use Rattle.solver_top.specs.Answers.{IsAnswerWith, IsKnown, first_objective, known_at, known_objective, search_options}
+use Rattle.solver_top.specs.Answers.{IsAnswerWith, IsKnownObjective, first_objective, known_at, known_objective, search_options}
 
 -- by the mark
 known_by : (goal : Goal) (answer : Answer) (mark : Mark) → answer.mark ≡ mark → known_objective goal answer ≡ known_at mark (first_objective goal answer.solutions)
@@ -35,7 +35,7 @@ unknown goal answer [] is marked = known_by goal answer Mark.Unknown (marked.unk
 unknown goal answer (a ∷ others) is marked = known_by goal answer Mark.Plain (marked.plain (λ none. let bad : a ∷ others ≡ [] = sym is ∙ none in cc))
 
 pub objective_known : UnfinishedMarks → (model : FznModel) (options : Options) (answer : Answer) → IsAnswer model (search_options options) answer
-    → IsKnown model options answer (known_objective model.goal answer)
+    → IsKnownObjective model options answer (known_objective model.goal answer)
 objective_known marks model options answer (inl whole) = inl (whole, finished_known model options.all answer whole.finished)
 objective_known marks model options answer (inr left) = inr (left, unknown model.goal answer answer.solutions refl (marks model (search_options options) answer left))
 
@@ -52,6 +52,6 @@ answered_with options model (Ok a) o is ends whole solve =
     }
 
 -- what is said of the objective is what is known of it
-pub known_is : UnfinishedMarks → (model : FznModel) (options : Options) (answer : Answer) (objective : Option ℤ) → IsKnown model options answer objective → objective ≡ known_objective model.goal answer
+pub known_is : UnfinishedMarks → (model : FznModel) (options : Options) (answer : Answer) (objective : Option ℤ) → IsKnownObjective model options answer objective → objective ≡ known_objective model.goal answer
 known_is marks model options answer objective (inl (whole, is)) = is ∙ sym (finished_known model options.all answer whole.finished)
 known_is marks model options answer objective (inr (left, is)) = is ∙ sym (unknown model.goal answer answer.solutions refl (marks model (search_options options) answer left))

@@ -10,7 +10,7 @@ use Rattle.answer.specs.Finished.{Gives, IsFinished, IsOptimal}
 use Rattle.made_model.specs.Made.{made, summary}
 use Rattle.made_laws.specs.Models.{HasSolvedModel, MadeHasModel, spaced}
 use Rattle.model_text.specs.Texts.{IsFaultOf, IsTextOf}
-use Rattle.solver_top.specs.Answers.{IsKnown, first_objective, known_at, known_objective}
+use Rattle.solver_top.specs.Answers.{IsKnownObjective, first_objective, known_at, known_objective}
 use Rattle.solver_top.specs.MadeTexts.{MadeLinesSayLeast, MadeTextsHaveModels, MadeTextsHaveNoFault}
 
 text_of : (n : ℕ) (w : HasSolvedModel n (made n)) → IsTextOf (made n) w.model
@@ -38,7 +38,7 @@ given model t all answer a goal solves (inr gives) = subst (λ g. Gives g all mo
 
 -- the line of a made text says the least cost, where no limit is set
 pub lines_say : MadeHasModel → ((text : List ℕ) (m n : FznModel) → IsTextOf text m → IsTextOf text n → m ≡ n)
-    → ((model : FznModel) (options : Options) (answer : Answer) (objective : Option ℤ) → IsKnown model options answer objective → objective ≡ known_objective model.goal answer)
+    → ((model : FznModel) (options : Options) (answer : Answer) (objective : Option ℤ) → IsKnownObjective model options answer objective → objective ≡ known_objective model.goal answer)
     → MadeLinesSayLeast
 lines_say made_has one known options n bytes two few none line =
     let w = made_has n two few in

@@ -11,7 +11,7 @@ use Rattle.made_model.specs.Made.{made}
 use Rattle.model_text.specs.Texts.{IsTextOf, IsFaultOf, HasFaultOn, fault_line}
 use Rattle.model_text.specs.Files.{IsFaultOfTold, ToldHasFault, ToldHasModel}
 use Rattle.solver_top.specs.Answers.{AreDomainsOf, IsAnswerOf, IsLineOf}
-use Rattle.solver_top.specs.Outcome.{Asked, CanOpen, IsAnswerOfInput, IsAnswerOfWords, IsFileAlone, IsFileCause, IsFound, IsInputCause, IsRefused, IsTextCause, IsWordsCause, IsWritten, IsWrittenWhere, ReadsFile, Told, WroteAnswer, WroteFront, told_of, told_text}
+use Rattle.solver_top.specs.Outcome.{Asked, CanOpen, IsAnswerOfInput, IsAnswerOfWords, IsFileAlone, IsFileCause, IsFound, IsInputCause, IsRefused, IsTextCause, IsWordsCause, IsWritten, IsWrittenWhere, ReadsFile, Told, WroteAnswer, WroteFront, told_of_input, told_text}
 use Rattle.solver_top.specs.declared.status.Status.{Status}
 use Rattle.solver_top.specs.declared.status.Status.TheVariants.{Answered, Usage, Refused, ReadFault, WriteFault, NoMemory}
 
@@ -36,11 +36,11 @@ file_cause held text before after WriteFault told cause = absurd cause
 file_cause held text before after NoMemory told cause = tt
 
 -- and one of the text that is asked for
-input_cause : (held : Told) (input : InputOf) (text : List ℕ) (before after : ℕ) (status : Status) → IsHeld (told_of held input) text → IsTextCause text status → IsInputCause held input before after status
+input_cause : (held : Told) (input : InputOf) (text : List ℕ) (before after : ℕ) (status : Status) → IsHeld (told_of_input held input) text → IsTextCause text status → IsInputCause held input before after status
 input_cause held (file name) text before after status told cause = file_cause (held name) text before after status told cause
 input_cause held (made_of n) text before after status told cause = subst (λ t. IsTextCause t status) told cause
 
-pub input_cause_of_result : {V : Type 0} (held : Told) (input : InputOf) (text : List ℕ) (before after : ℕ) (result : Result V Status) → IsHeld (told_of held input) text → IfErr result (IsTextCause text)
+pub input_cause_of_result : {V : Type 0} (held : Told) (input : InputOf) (text : List ℕ) (before after : ℕ) (result : Result V Status) → IsHeld (told_of_input held input) text → IfErr result (IsTextCause text)
     → IfErr result (IsInputCause held input before after)
 input_cause_of_result held input text before after (Ok v) told cause = cause
 input_cause_of_result held input text before after (Err status) told cause = input_cause held input text before after status told cause
@@ -142,7 +142,7 @@ module _ (one_fault : (text : List ℕ) (k l at place : ℕ) → IsFaultOf text 
   no_answer held None kind line bytes fault answer = fault
   no_answer held (Some a) kind line bytes fault answer =
       let model = written_model a.0.domains a.0 a.1 answer.text bytes answer.written in
-      no_text_answer (told_of held a.1) answer.text kind line model.0 fault answer.told model.1
+      no_text_answer (told_of_input held a.1) answer.text kind line model.0 fault answer.told model.1
 
   pub no_written_fault : (result : Status) (held : Told) (asked : Option Asked) (kind line : ℕ) (bytes : List ℕ) → ToldHasFault (told_text held asked) kind line → IsAnswerOfWords held asked bytes
       → (result ≡ Refused kind line) ⊎ (result ≡ NoMemory)
@@ -197,17 +197,17 @@ pub made_found : (options : Options) (input : Input) (n : ℕ) (text bytes : Lis
 made_found options input n text bytes is line = subst (λ i. IsFound options (input_meant i) text bytes) (sym is) line
 
 -- a made text is held, and is refused for want of memory alone
-pub made_held : (held : Told) (input : Input) (n : ℕ) (text : List ℕ) → input ≡ Input.Made n → text ≡ made n → IsHeld (told_of held (input_meant input)) text
-made_held held input n text is same = subst (λ i. IsHeld (told_of held (input_meant i)) text) (sym is) same
+pub made_held : (held : Told) (input : Input) (n : ℕ) (text : List ℕ) → input ≡ Input.Made n → text ≡ made n → IsHeld (told_of_input held (input_meant input)) text
+made_held held input n text is same = subst (λ i. IsHeld (told_of_input held (input_meant i)) text) (sym is) same
 
 pub made_cause : (held : Told) (input : Input) (n : ℕ) (before after : ℕ) (status : Status) → input ≡ Input.Made n → status ≡ NoMemory → IsInputCause held (input_meant input) before after status
 made_cause held input n before after status is memory =
     subst (λ i. IsInputCause held (input_meant i) before after status) (sym is) (subst (λ s. IsTextCause (made n) s) (sym memory) tt)
 
-pub answer_of_held : (held : Told) (options : Options) (input : InputOf) (text shown bytes : List ℕ) → IsHeld (told_of held input) text → shown ≡ text → IsWritten options input shown bytes
+pub answer_of_held : (held : Told) (options : Options) (input : InputOf) (text shown bytes : List ℕ) → IsHeld (told_of_input held input) text → shown ≡ text → IsWritten options input shown bytes
     → IsAnswerOfInput held options input bytes
 answer_of_held held options input text shown bytes told same written =
-    record { text = shown; told = subst (λ t. IsHeld (told_of held input) t) (sym same) told; written = written }
+    record { text = shown; told = subst (λ t. IsHeld (told_of_input held input) t) (sym same) told; written = written }
 
 -- ---- what is reported
 

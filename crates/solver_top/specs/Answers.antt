@@ -77,8 +77,8 @@ known_objective goal answer = known_at answer.mark (first_objective goal answer.
 
 -- what is said of the objective: its number in the solution that is given, where no limit stopped a part of the search, and else
 -- nothing
-abbrev pub IsKnown : FznModel → Options → Answer → Option ℤ → Type 0
-IsKnown model options answer objective =
+abbrev pub IsKnownObjective : FznModel → Options → Answer → Option ℤ → Type 0
+IsKnownObjective model options answer objective =
     (IsWhole model (search_options options) answer × (objective ≡ first_objective model.goal answer.solutions))
     ⊎ (IsUnfinished model (search_options options) answer × (objective ≡ None))
 
@@ -89,5 +89,5 @@ pub record IsLineOf (options : Options) (n : ℕ) (text bytes : List ℕ) : Type
   pub answer : Answer
   pub is_answer : IsAnswerWith options model answer
   pub objective : Option ℤ
-  pub known : IsKnown model options answer objective
+  pub known : IsKnownObjective model options answer objective
   pub printed : bytes ≡ summary n objective

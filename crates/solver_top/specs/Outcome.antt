@@ -1,12 +1,13 @@
 -- What the top call owes: its statuses, each with its cause, and what it writes.
 --
 -- The statuses and their lines are this program's own.
-use Rattle.std.specs.Prelude.{◌≡◌, ℕ, ◌≤◌, List, [], ◌∷◌, ◌++◌, length, take, codes, Bool, true, false, Option, Some, None}
+use Rattle.std.specs.Prelude.{◌≡◌, ℕ, ◌≤◌, List, [], ◌∷◌, ◌++◌, length, take, codes, Bool, true, false, Option, Some, None, String}
+use Rattle.std.specs.declared.alloc.Global.{Global}
 use Rattle.fzn_io.specs.Faults.{CountRose}
 use Rattle.fzn_io.specs.Streams.{Adds, IsHeld}
 use Rattle.fzn_print.specs.AnswerText.{line_end}
 use Rattle.command_line.specs.declared.words.Options.{Options}
-use Rattle.command_line.specs.CommandLine.{InputOf, file, made as made_of}
+use Rattle.command_line.specs.CommandLine.{InputOf, file, made as made_of, config_of}
 use Rattle.made_model.specs.Made.{made}
 use Rattle.model_text.specs.Texts.{HasFaultOn}
 use Rattle.model_text.specs.Files.{IsFaultOfTold, refusal_line}
@@ -23,13 +24,17 @@ abbrev pub Told : Type 0
 Told = List ℕ → Option (Option (List ℕ))
 
 -- What is told of the text that is asked for. A made text is always known.
-abbrev pub told_of : Told → InputOf → Option (Option (List ℕ))
-told_of held (file name) = held name
-told_of held (made_of n) = Some (Some (made n))
+abbrev pub told_of_input : Told → InputOf → Option (Option (List ℕ))
+told_of_input held (file name) = held name
+told_of_input held (made_of n) = Some (Some (made n))
 
 abbrev pub told_text : Told → Option Asked → Option (Option (List ℕ))
 told_text held None = None
-told_text held (Some asked) = told_of held asked.1
+told_text held (Some asked) = told_of_input held asked.1
+
+-- The same of the text that the words ask for.
+abbrev pub asked_text : Told → List (String Global) → Option (Option (List ℕ))
+asked_text held words = told_text held (config_of words)
 
 -- These bytes are what the search gives of the text: of a file an answer, of a made text its line.
 abbrev pub IsFound : Options → InputOf → (text bytes : List ℕ) → Type 0
@@ -48,7 +53,7 @@ IsWritten options input text bytes = IsWrittenWhere options.domains options inpu
 -- The same of the text that is asked for.
 pub record IsAnswerOfInput (held : Told) (options : Options) (input : InputOf) (bytes : List ℕ) : Type 0 where
   pub text : List ℕ
-  pub told : IsHeld (told_of held input) text
+  pub told : IsHeld (told_of_input held input) text
   pub written : IsWritten options input text bytes
 
 abbrev pub IsAnswerOfWords : Told → Option Asked → List ℕ → Type 0

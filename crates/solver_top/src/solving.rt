@@ -7,7 +7,7 @@ ghost use Rattle.command_line.specs.CommandLine.{AreOptions, IsConfig, config_me
 ghost use Rattle.made_model.specs.Made.{made};
 ghost use Rattle.model_text.specs.Texts.{IsCause, IsTextOf};
 ghost use Rattle.solver_top.specs.Answers.{AreDomainsOf, IsAnswerOf, IsAnswerWith, IsLineOf, search_options};
-ghost use Rattle.solver_top.specs.Outcome.{CanOpen, IsAnswerOfInput, IsAnswerOfWords, IsFileAlone, IsFileCause, IsInputCause, IsTextCause, IsWordsCause, IsWritten, ReadsFile, told_of, told_text};
+ghost use Rattle.solver_top.specs.Outcome.{CanOpen, IsAnswerOfInput, IsAnswerOfWords, IsFileAlone, IsFileCause, IsInputCause, IsTextCause, IsWordsCause, IsWritten, ReadsFile, asked_text, told_of_input, told_text};
 ghost use Rattle.model_text.specs.Files.{WasAsked};
 
 use crate::printing::known_objective;
@@ -39,7 +39,7 @@ pub(crate) fn answer_of_words<R: Threads + Sync, S: Source, C: Gate + Sync, L: G
     ensures unread { (ReadsFile (config_of words.now) → ⊥) → files.new ≡ files.old }
     ensures held_kept { S.held files.new ≡ S.held files.old }
     ensures asked { ReadsFile (config_of words.now)
-        → ((files.new ≡ files.old) × IsErrOf result Status.NoMemory) ⊎ WasAsked (told_text (S.held files.old) (config_of words.now)) (S.names files.old) (S.names files.new) (S.left files.new) (S.is_open files.new) (IsErrOf result Status.ReadFault) }
+        → ((files.new ≡ files.old) × IsErrOf result Status.NoMemory) ⊎ WasAsked (asked_text (S.held files.old) words.now) (S.names files.old) (S.names files.new) (S.left files.new) (S.is_open files.new) (IsErrOf result Status.ReadFault) }
 {
     match read_words(alloc, words) {
         Ok(config) => answer_of_input(rt, alloc, &config, files, gates),
@@ -77,7 +77,7 @@ fn text_of_input<S: Source>(
 ) -> Result<Vec<u8>, Status>
     requires config { IsConfig config.now }
     requires open { CanOpen (S.names files.old) (Some (config_meant config.now)) }
-    ensures ok { IfOk result (λ text. IsHeld (told_of (S.held files.old) (input_meant config.now.input)) text.items) }
+    ensures ok { IfOk result (λ text. IsHeld (told_of_input (S.held files.old) (input_meant config.now.input)) text.items) }
     ensures cause { IfErr result (IsInputCause (S.held files.old) (input_meant config.now.input) (S.faults files.old) (S.faults files.new)) }
     ensures unread { (ReadsFile (Some (config_meant config.now)) → ⊥) → files.new ≡ files.old }
     ensures held_kept { S.held files.new ≡ S.held files.old }

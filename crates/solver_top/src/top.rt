@@ -5,7 +5,7 @@ ghost use Rattle.fzn_io.specs.Faults.{CountRose};
 ghost use Rattle.fzn_io.specs.Streams.{Adds, AddsFront};
 ghost use Rattle.command_line.specs.CommandLine.{config_of};
 ghost use Rattle.model_text.specs.Files.{IsFaultOfTold, ToldHasFault, ToldHasModel, WasAsked};
-ghost use Rattle.solver_top.specs.Outcome.{CanOpen, ReadsFile, WroteAnswer, WroteFront, status_line, told_text};
+ghost use Rattle.solver_top.specs.Outcome.{CanOpen, ReadsFile, WroteAnswer, WroteFront, asked_text, status_line};
 
 use crate::solving::answer_of_words;
 use crate::status::{Status, report};
@@ -33,7 +33,7 @@ pub fn solve_main<R: Threads + Sync, S: Source, K: Sink, E: Sink, C: Gate + Sync
     ensures not_taken { config_of words.now ≡ None → (result ≡ Status.Usage) ⊎ (result ≡ Status.NoMemory) }
     ensures answered { result ≡ Status.Answered
         → WroteAnswer (S.held files.old) (config_of words.now) (K.written out.old) (K.written out.new) }
-    ensures refused { (kind line : ℕ) → result ≡ Status.Refused kind line → IsFaultOfTold (told_text (S.held files.old) (config_of words.now)) kind line }
+    ensures refused { (kind line : ℕ) → result ≡ Status.Refused kind line → IsFaultOfTold (asked_text (S.held files.old) words.now) kind line }
     ensures read_fault { result ≡ Status.ReadFault → ReadsFile (config_of words.now) × CountRose (S.faults files.old) (S.faults files.new) }
     ensures write_fault { result ≡ Status.WriteFault → CountRose (K.faults out.old) (K.faults out.new) }
     ensures front { result ≡ Status.WriteFault
@@ -42,12 +42,12 @@ pub fn solve_main<R: Threads + Sync, S: Source, K: Sink, E: Sink, C: Gate + Sync
     ensures unread { (ReadsFile (config_of words.now) → ⊥) → files.new ≡ files.old }
     ensures held_kept { S.held files.new ≡ S.held files.old }
     ensures asked { ReadsFile (config_of words.now)
-        → ((files.new ≡ files.old) × (result ≡ Status.NoMemory)) ⊎ WasAsked (told_text (S.held files.old) (config_of words.now)) (S.names files.old) (S.names files.new) (S.left files.new) (S.is_open files.new) (result ≡ Status.ReadFault) }
-    ensures complete { ToldHasModel (told_text (S.held files.old) (config_of words.now))
+        → ((files.new ≡ files.old) × (result ≡ Status.NoMemory)) ⊎ WasAsked (asked_text (S.held files.old) words.now) (S.names files.old) (S.names files.new) (S.left files.new) (S.is_open files.new) (result ≡ Status.ReadFault) }
+    ensures complete { ToldHasModel (asked_text (S.held files.old) words.now)
         → (CountRose (S.faults files.old) (S.faults files.new) → ⊥)
         → (CountRose (K.faults out.old) (K.faults out.new) → ⊥)
         → (result ≡ Status.Answered) ⊎ (result ≡ Status.NoMemory) }
-    ensures every_fault { (kind line : ℕ) → ToldHasFault (told_text (S.held files.old) (config_of words.now)) kind line
+    ensures every_fault { (kind line : ℕ) → ToldHasFault (asked_text (S.held files.old) words.now) kind line
         → (CountRose (S.faults files.old) (S.faults files.new) → ⊥)
         → (result ≡ Status.Refused kind line) ⊎ (result ≡ Status.NoMemory) }
     ensures err_line { (CountRose (E.faults err.old) (E.faults err.new) → ⊥)

@@ -6,7 +6,7 @@ use list_of::ListOf;
 use std::alloc::Global;
 use std::sync::atomic::{AtomicBool, AtomicU64, Ordering};
 use std::test::Fail;
-use std::thread::Threads;
+use std::thread::{Threads, yield_now};
 
 /// Each run ends in how many runs were made before it.
 #[derive(Drop)]
@@ -51,13 +51,14 @@ impl FirstAlone {
         }
     }
 
-    /// Waits for worker 0, for so many turns, and notes that it came.
+    /// Waits for worker 0, for so many turns in which others may run, and notes that it came.
     fn wait(&self) {
-        for _ in 0..200_000_000u32 {
+        for _ in 0..20_000_000u32 {
             if self.fifth.load(Ordering::SeqCst) {
                 self.has_waited.store(true, Ordering::SeqCst);
                 return;
             }
+            yield_now();
         }
     }
 

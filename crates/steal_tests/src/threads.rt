@@ -6,7 +6,7 @@ ghost use Rattle.steal_crew.specs.Hands.{AreHandsOfOneDeal, IsSameHand};
 
 use std::sync::atomic::{AtomicBool, Ordering};
 use std::test::Fail;
-use std::thread::{Threads, for_each_mut};
+use std::thread::{Threads, for_each_mut, yield_now};
 use steal_crew::{Hand, deal, gather, law_hands};
 
 /// Holds hand 0 before its first draw until hand 1 has drawn so many numbers, and hand 1 before its first draw until hand 0
@@ -29,12 +29,13 @@ impl Meeting {
         }
     }
 
-    /// Waits for the other hand, for so many turns.
+    /// Waits for the other hand, for so many turns in which others may run.
     fn wait_for(&self, flag: &AtomicBool) {
-        for _ in 0..200_000_000u32 {
+        for _ in 0..20_000_000u32 {
             if flag.load(Ordering::SeqCst) {
                 return;
             }
+            yield_now();
         }
         self.gave_up.store(true, Ordering::SeqCst);
     }

@@ -1,8 +1,9 @@
 -- What a walk knows.
-use Rattle.std.proofs.Common.{◌≡◌, ℕ, suc, ◌^◌, ◌<◌, Option, Some, Bool, true, false, List, [], ◌∷◌, ◌++◌, length, refl, sym, ap, subst, ◌∙◌, ◌⊎◌, inl, inr}
+use Rattle.std.proofs.Common.{◌≡◌, ℕ, suc, ◌^◌, ◌<◌, Option, Some, Bool, true, false, List, [], ◌∷◌, ◌++◌, length, refl, sym, ap, subst, ◌∙◌, ◌⊎◌, inl, inr, arith}
 use Rattle.std.proofs.lemmas.List.{same_from_push}
-use Rattle.interval.specs.Boxes.{Bounds, IsProper}
+use Rattle.interval.specs.Boxes.{Bounds, low_of, high_of, put_of, IsProper}
 use Rattle.guarded_tell.specs.declared.kernel.Kernel.{Kernel}
+use Rattle.fixpoint_laws.specs.Fixpoints.{IsClosed}
 use Rattle.constraint_model.specs.declared.model.FznModel.{FznModel}
 use Rattle.branching.specs.declared.branch.Branching.{Branching}
 use Rattle.branching.specs.Fronts.{left_by, right_by}
@@ -105,6 +106,23 @@ goes_on_turn half number turn rest left right Way lower h k = (
   λ high. let t = h.upper high in
       (t.0, subst (λ (n : ℕ). Way right n lower) t.1 (subst (λ (x : Bool). Way (side_of x left right) rest lower) t.0 k)),
 )
+
+-- a closed box with its first pair put as it is
+pub first_put : (b : Bounds) → 0 < length b → b ≡ put_of b 0 (low_of b 0) (high_of b 0)
+first_put [] l = absurd (omega arith)
+first_put (x ∷ b) l = refl
+
+-- a closed box is made of itself
+pub made_of_itself : (kernels : List Kernel) (closed : Bounds) → IsClosed closed kernels → 0 < length closed → IsMadeAt kernels 0 closed
+made_of_itself kernels closed h l = record {
+  closed = closed;
+  is_closed = h;
+  in_box = l;
+  low = low_of closed 0;
+  high = high_of closed 0;
+  is_put = first_put closed l;
+  proper = h.proper;
+}
 
 -- the part on the side of a turn is made of the closed box by its pair
 pub made_part : (kernels : List Kernel) (closed : Bounds) (branching : Branching) (turn : Bool) (part : Part) → IsPartedBy kernels closed branching → part.var ≡ branching.pair →

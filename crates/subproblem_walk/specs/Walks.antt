@@ -1,5 +1,5 @@
 -- What a walk knows of the way to the number that it was asked for last.
-use Rattle.std.specs.Prelude.{◌≡◌, ℕ, zero, suc, ◌-◌, ◌^◌, ◌<◌, ◌≤◌, Bool, true, false, List, [], ◌∷◌, ◌++◌, length, Option, None, Some, IfSome}
+use Rattle.std.specs.Prelude.{◌≡◌, ◌≢◌, ℕ, zero, suc, ◌-◌, ◌^◌, ◌<◌, ◌≤◌, Bool, true, false, List, [], ◌∷◌, ◌++◌, length, Option, None, Some, IfSome}
 use Rattle.interval.specs.Boxes.{Bounds}
 use Rattle.guarded_tell.specs.declared.kernel.Kernel.{Kernel}
 use Rattle.constraint_model.specs.declared.model.FznModel.{FznModel}
@@ -50,6 +50,10 @@ box_of (Some found) = Some found.sub
 -- it is rightly told by which pair that box differs from a closed one
 abbrev pub IsMadeFrom : List Kernel → Option Found → Type 0
 IsMadeFrom kernels found = IfSome found (λ f. IsMadeBy f.changed kernels f.sub)
+
+-- some such pair is told
+abbrev pub IsTold : Option Found → Type 0
+IsTold found = IfSome found (λ f. f.changed ≢ None)
 
 -- how a way goes on below what the box is cut into, where `Way` says it of a part and half is how many numbers a part has:
 -- where the box is parted, the lower half of the numbers turns to the left part and the upper half to the right one

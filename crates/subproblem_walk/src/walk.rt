@@ -6,6 +6,7 @@ ghost use Rattle.guarded_tell.specs.declared.kernel.Kernel.{Kernel};
 ghost use Rattle.constraint_model.specs.declared.model.FznModel.{FznModel};
 ghost use Rattle.constraint_model.specs.Searches.{IsSearchOf};
 ghost use Rattle.decompose.specs.Program.{IsProgramOf};
+ghost use Rattle.fixpoint_laws.specs.Fixpoints.{IsClosed};
 ghost use Rattle.branching.specs.Fronts.{FitsBox, left_by, right_by};
 ghost use Rattle.trailed_box.specs.Trailed.{IsPart};
 ghost use Rattle.moved_fixpoint.specs.Made.{IsMadeBy};
@@ -13,7 +14,7 @@ ghost use Rattle.moved_fixpoint.specs.Moved.{AreMasksOf};
 ghost use Rattle.subproblems.specs.Cuts.{CanBeCut};
 ghost use Rattle.subproblems.specs.Paths.{LeadsTo};
 ghost use Rattle.subproblem_walk.specs.Nodes.{put_in, box_at, changed_at, HasPartIn, IsNodeOf, IsBenchFor, MayServe};
-ghost use Rattle.subproblem_walk.specs.Walks.{side_of, IsTurn, AreLevelsBelow, IsTop, IsWalkFrom, IsWayTo, box_of, IsMadeFrom};
+ghost use Rattle.subproblem_walk.specs.Walks.{side_of, IsTurn, AreLevelsBelow, IsTop, IsWalkFrom, IsWayTo, box_of, IsMadeFrom, IsTold};
 
 use crate::cutter::{Bench, Node, Spot, changed_by, cut, made};
 use crate::tree::Tree;
@@ -44,7 +45,7 @@ pub struct Walk {
 pub struct Found {
     /// The box.
     pub sub: BoxOf,
-    /// The pair whose bounds were put in a closed box, which made it; none: nothing is known of it.
+    /// A pair: the box is a closed one but for the bounds of that pair. None: nothing is known of it, as of the start.
     pub changed: Option<u32>,
 }
 
@@ -144,17 +145,19 @@ fn put(levels: &mut Vec<Level>, node: Node, goes_right: bool) -> Result<(), Allo
     Ok(())
 }
 
-/// A closed box that is a solution, which number 0 alone leads to.
+/// A closed box that is a solution, which number 0 alone leads to. It is made of itself: by any pair, put as it is.
 fn solution(alloc: Global, closed: &BoxOf, number: u32) -> Result<Option<Found>, NoMemory>
     ensures first { number ≡ 0 → IfOk result (λ found. box_of found ≡ Some closed.now) }
     ensures others { number ≢ 0 → IfOk result (λ found. box_of found ≡ None) }
-    ensures made { (kernels : List Kernel) → IfOk result (IsMadeFrom kernels) }
+    ensures made { (kernels : List Kernel) → IsClosed closed.now kernels → 0 < length closed.now → IfOk result (IsMadeFrom kernels) }
+    ensures told { IfOk result IsTold }
 {
     if number != 0 {
         return Ok(None);
     }
     let sub = closed.copy(alloc)?;
-    Ok(Some(Found { sub, changed: None }))
+    let changed = Some(0);
+    Ok(Some(Found { sub, changed }))
 }
 
 /// The box of a spot.
@@ -162,6 +165,7 @@ fn found_at(alloc: Global, spot: &Spot<'_>) -> Result<Option<Found>, NoMemory>
     requires { HasPartIn spot.now }
     ensures found { IfOk result (λ found. box_of found ≡ Some (box_at spot.now)) }
     ensures made { (kernels : List Kernel) → IsMadeBy (changed_at spot.now) kernels (box_at spot.now) → IfOk result (IsMadeFrom kernels) }
+    ensures told { changed_at spot.now ≢ None → IfOk result IsTold }
 {
     let sub = made(alloc, spot)?;
     let changed = changed_by(spot);
@@ -238,6 +242,7 @@ fn lead(
     requires levels { AreLevelsBelow tree.now.model.now tree.now.program.now.kernels (box_at spot.now) levels.old.items }
     ensures path { IfOk result (λ found. LeadsTo tree.now.model.now tree.now.program.now.kernels address.depth (box_at spot.now) address.number (box_of found)) }
     ensures made { IfOk result (IsMadeFrom tree.now.program.now.kernels) }
+    ensures told { (address.depth ≡ 0 → changed_at spot.now ≢ None) → IfOk result IsTold }
     ensures bench { MayServe bench.new tree.now.program.now.kernels (length (box_at spot.now)) }
     ensures levels { OnOk result (AreLevelsBelow tree.now.model.now tree.now.program.now.kernels (box_at spot.now) levels.new.items) }
     ensures kept { OnOk result (IsWayTo tree.now.model.now tree.now.program.now.kernels address.depth (box_at spot.now) address.number levels.new.items) }
@@ -302,6 +307,7 @@ impl Walk {
         ensures path { IfOk result (λ found. LeadsTo tree.now.model.now tree.now.program.now.kernels tree.now.depth tree.now.start.now number (box_of found)) }
         ensures inside { IfOk result (λ found. IfSome (box_of found) (λ b. IsInside b tree.now.start.now)) }
         ensures made { IfOk result (IsMadeFrom tree.now.program.now.kernels) }
+        ensures told { tree.now.depth ≢ 0 → IfOk result IsTold }
         ensures walk { IsWalkFrom tree.now.model.now tree.now.program.now.kernels tree.now.start.now self.new }
         ensures kept { OnOk result (IsWayTo tree.now.model.now tree.now.program.now.kernels tree.now.depth tree.now.start.now number self.new.levels.items) }
     {

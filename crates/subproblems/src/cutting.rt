@@ -25,7 +25,7 @@ pub enum Cut {
 }
 
 /// Cuts a box.
-pub fn cut_box(
+pub(crate) fn cut_box(
     alloc: Global,
     model: &FznModel,
     kernels: &[Kernel],

@@ -10,7 +10,7 @@ mod expansion;
 mod laws;
 mod path;
 
-pub use cutting::{Cut, cut_box};
+pub use cutting::Cut;
 pub use expansion::expand;
 pub use laws::{law_cuts, law_paths, law_subproblems};
 pub use path::path_box;

@@ -12,6 +12,7 @@ use interval::BoxOf;
 use tells::{Hear, Side, Tell};
 
 /// Gives the tell to `h` where it narrows the box.
+#[inline(always)]
 pub fn tell_narrowing<H: Hear>(t: Tell, b: &BoxOf, h: &mut H)
     requires variable { t.var < length b.now }
     requires hearer { MayHearAll H.can_hear H.hears h.old (narrowing b.now (t ∷ [])) }

@@ -137,6 +137,61 @@ const TOKENS: &[TokenCase] = &[
         from: 8,
         answer: Ok(None),
     },
+    TokenCase {
+        text: b"0..9",
+        from: 0,
+        answer: Ok(Some((Kind::Int, 0, 1))),
+    },
+    TokenCase {
+        text: b"0",
+        from: 0,
+        answer: Ok(Some((Kind::Int, 0, 1))),
+    },
+    TokenCase {
+        text: b"0.x",
+        from: 0,
+        answer: Ok(Some((Kind::Int, 0, 1))),
+    },
+    TokenCase {
+        text: b"0.5",
+        from: 0,
+        answer: Ok(Some((Kind::Float, 0, 3))),
+    },
+    TokenCase {
+        text: b"00x1",
+        from: 0,
+        answer: Ok(Some((Kind::Int, 0, 2))),
+    },
+    TokenCase {
+        text: b"0o178",
+        from: 0,
+        answer: Ok(Some((Kind::Int, 0, 4))),
+    },
+    TokenCase {
+        text: b"0o8",
+        from: 0,
+        answer: Ok(Some((Kind::Int, 0, 1))),
+    },
+    TokenCase {
+        text: b"7.",
+        from: 0,
+        answer: Ok(Some((Kind::Int, 0, 1))),
+    },
+    TokenCase {
+        text: b"7.",
+        from: 1,
+        answer: Err(1),
+    },
+    TokenCase {
+        text: b":",
+        from: 0,
+        answer: Ok(Some((Kind::Mark, 0, 1))),
+    },
+    TokenCase {
+        text: b". .",
+        from: 0,
+        answer: Err(0),
+    },
 ];
 
 #[test]

@@ -6,6 +6,7 @@ use Rattle.guarded_tell.specs.Words.{Keeps, AreVariables, IsProperIn}
 use Rattle.guarded_tell.specs.Kernels.{vars_of, tells}
 use Rattle.guarded_tell.proofs.RestLaws.{literals_all}
 use Rattle.guarded_tell.proofs.SeenLaws.{until_fixed, clause_seen, open_rests}
+use Rattle.guarded_tell.proofs.FoundLaws.{clause_searched}
 use Rattle.guarded_tell.proofs.resting.listed_rest.Goals as goal
 
 pub clause_rest-requires : goal.clause_rest-requires
@@ -26,3 +27,6 @@ pub returns-then-is_open_sum : goal.returns-then-is_open_sum
 returns-then-is_open_sum c =
     until_fixed c.law_quotient_order.ensures c.law_clamp_order.ensures c.args.b.now c.args.k.now c.requires.kernel c.requires.proper
     (open_rests c.law_quotient_order.ensures c.law_clamp_order.ensures c.args.b.now c.args.k.now c.requires.kernel c.in-Eq.lit c.in-Eq.coeffs c.in-Eq.vars c.in-Eq.limit c.in-Eq.is c.if-is_open_sum.ensures)
+
+pub returns-else-is_clause_quiet : goal.returns-else-is_clause_quiet
+returns-else-is_clause_quiet c = clause_searched c.args.b.now c.args.k.now c.in-Clause.lits c.in-Clause.is c.if-is_clause_quiet.ensures

@@ -6,9 +6,9 @@ use Rattle.moved_fixpoint.proofs.drawing.ask_each.Goals as goal
 
 pub loop-v-preserved : goal.loop-v-preserved
 loop-v-preserved c = record {
-  count = c.ask.ensures.same_count ∙ c.loop-v.invariant.count;
-  kept = λ j is_in. c.ask.ensures.kept j (c.loop-v.invariant.kept j is_in);
-  asked = asked_for_more c.args.masks.now c.args.rests.now c.args.b.now c.args.variables.now c.loop-v.v-index c.loop-v.asked c.ask.new.asked c.loop-v-test.true c.loop-v.invariant.asked c.ask.ensures;
+  count = c.ask_either.ensures.same_count ∙ c.loop-v.invariant.count;
+  kept = λ j is_in. c.ask_either.ensures.kept j (c.loop-v.invariant.kept j is_in);
+  asked = asked_for_more c.args.masks.now c.args.rests.now c.args.b.now c.args.variables.now c.loop-v.v-index c.loop-v.asked c.ask_either.new.asked c.loop-v-test.true c.loop-v.invariant.asked c.ask_either.ensures;
 }
 
 pub returns-clause-asked : goal.returns-clause-asked

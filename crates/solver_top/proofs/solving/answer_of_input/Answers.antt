@@ -1,6 +1,6 @@
 use Rattle.std.proofs.Common.{ℕ, List, subst, sym}
 use Rattle.fzn_io.specs.Streams.{IsHeld}
-use Rattle.solver_top.specs.Outcome.{told_of}
+use Rattle.solver_top.specs.Outcome.{told_of_input}
 use Rattle.std.proofs.lemmas.Result.{IfOk-weaker}
 use Rattle.command_line.specs.CommandLine.{input_meant}
 use Rattle.solver_top.proofs.OutcomeLaws.{answer_of_held, input_cause_of_result}
@@ -15,6 +15,6 @@ returns-clause-ok g c =
 
 pub returns-clause-cause : goal.returns-clause-cause
 returns-clause-cause g c =
-    let held = told_of (g.S.Source.held c.args.files.now) (input_meant c.args.config.now.input) in
+    let held = told_of_input (g.S.Source.held c.args.files.now) (input_meant c.args.config.now.input) in
     let told = subst (λ (t : List ℕ). IsHeld held t) (sym c.deref.ensures.value) c.in_ok-text.ensures.ok in
     input_cause_of_result (g.S.Source.held c.args.files.now) (input_meant c.args.config.now.input) _ _ _ c.written_of_text.result told c.written_of_text.ensures.cause

@@ -136,3 +136,12 @@ returns-in_ok-put-in-Parted-clause-kept t c =
     (goes_on_turn (2 ^ above) c.args.address.number c.first_turn-turn.result.0 c.first_turn-turn.result.1.number (left_by c.in-Parted.closed c.in-Parted.branching) (right_by c.in-Parted.closed c.in-Parted.branching) (IsWayTo c.args.tree.now.model.now c.args.tree.now.program.now.kernels above) c.lead.new.levels.items c.first_turn-turn.ensures.turn
     (subst (λ (n : ℕ). IsWayTo c.args.tree.now.model.now c.args.tree.now.program.now.kernels n (side_of c.first_turn-turn.result.0 (left_by c.in-Parted.closed c.in-Parted.branching) (right_by c.in-Parted.closed c.in-Parted.branching)) c.first_turn-turn.result.1.number c.lead.new.levels.items) c.first_turn-turn.ensures.depth
     (subst (λ (x : Bounds). IsWayTo c.args.tree.now.model.now c.args.tree.now.program.now.kernels c.first_turn-turn.result.1.depth x c.first_turn-turn.result.1.number c.lead.new.levels.items) (c.part_on.ensures.part c.in-Parted.closed) c.in_ok-found-in-Parted.ensures.kept)))
+
+pub returns-in_ok-put-in-Fixed-clause-made : goal.returns-in_ok-put-in-Fixed-clause-made
+returns-in_ok-put-in-Fixed-clause-made t c =
+    let first = c.in_ok-node.node-is in
+    let second = c.in-Fixed.is in
+    let e : c.in_ok-node.field-0.node ≡ Node.Fixed c.in-Fixed.closed = cc in
+    let node = node_is c.args.tree.now.model.now c.args.tree.now.program.now.kernels (box_at c.args.spot.now) c.in_ok-node.field-0 c.top_level.new.levels.items _ c.in_ok-node.ensures.top e in
+    let kept = c.law_cuts.ensures.kept c.args.tree.now.model.now c.args.tree.now.program.now.kernels (box_at c.args.spot.now) c.in-Fixed.closed c.requires.cut node.is_cut in
+    c.in_ok-found-in-Fixed.ensures.made c.args.tree.now.program.now.kernels node.parts (let l = kept.1.long in omega (arith, l))

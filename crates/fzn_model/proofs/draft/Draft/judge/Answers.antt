@@ -2,11 +2,12 @@ use Rattle.std.proofs.Common.{◌≡◌, ◌∙◌, ap, sym, subst, ◌++◌, No
 use Rattle.fzn_parser.specs.Items.{what_tree}
 use Rattle.fzn_model.specs.declared.effect.Effect.{Effect}
 use Rattle.constraint_model.specs.Arrays.{HaveNumbers}
-use Rattle.fzn_model.specs.Drafts.{seen}
+use Rattle.fzn_model.specs.Drafts.{seen, first_kind, own_kinds}
 use Rattle.fzn_model.specs.Effects.{effect_of}
-use Rattle.fzn_model.specs.Faults.{fault_of, own_tests, place_tests, first_kind, Refuses}
+use Rattle.fzn_model.specs.Faults.{fault_of, place_tests, Refuses}
 use Rattle.fzn_model.proofs.ArrayLaws.{effect_numbered}
-use Rattle.fzn_model.proofs.FaultLaws.{refused_own, refused_place}
+use Rattle.fzn_model.proofs.FaultLaws.{first_place, refused_own, refused_place}
+use Rattle.fzn_model.proofs.KindLaws.{least_is_first}
 use Rattle.fzn_model.proofs.draft.Draft.judge.Goals as goal
 
 pub place-requires-clause-numbers : goal.place-requires-clause-numbers
@@ -20,17 +21,33 @@ unfolding fault_of
 returns-in-Err-place-clause-fault c =
     let before = seen c.args.self.now in
     let what = what_tree c.args.what.now in
-    let own = own_tests c.args.text.now before.scope what in
-    let P : Effect → Type 0 = λ more. Refuses (first_kind (own ++ place_tests before what more)) c.in-Err-place.stop in
-    let f : Refuses (first_kind (place_tests before what c.in-Ok.effect)) c.in-Err-place.stop = c.in-Err-place.ensures.fault in
+    let own = own_kinds c.args.text.now before.scope what in
+    let stop = c.in-Err-place.stop in
+    let P : Effect → Type 0 = λ more. Refuses (first_kind (own ++ place_tests before more)) stop in
+    let f : Refuses (first_kind (place_tests before c.read_item.new.effect)) stop = c.in-Err-place.ensures.fault in
     let l : first_kind own ≡ None = c.in-Ok.ensures.lawful in
-    let e : c.in-Ok.effect ≡ effect_of c.args.text.now before.scope (length before.vars) what =
+    let e : c.read_item.new.effect ≡ effect_of c.args.text.now before.scope (length before.vars) what =
     c.in-Ok.ensures.effect ∙ ap (λ n. effect_of c.args.text.now before.scope n what) c.len-count.ensures in
-    subst P e (refused_place own (place_tests before what c.in-Ok.effect) c.in-Err-place.stop l f)
+    subst (λ o. Refuses o stop) (sym (least_is_first c.args.text.now before what (effect_of c.args.text.now before.scope (length before.vars) what)))
+    (subst P e (refused_place own (place_tests before c.read_item.new.effect) stop l f))
 
 pub returns-in-Err-clause-fault : goal.returns-in-Err-clause-fault
 unfolding fault_of
 returns-in-Err-clause-fault c =
     let before = seen c.args.self.now in
     let what = what_tree c.args.what.now in
-    refused_own (own_tests c.args.text.now before.scope what) (place_tests before what (effect_of c.args.text.now before.scope (length before.vars) what)) c.in-Err.stop c.in-Err.ensures.fault
+    let more = effect_of c.args.text.now before.scope (length before.vars) what in
+    subst (λ o. Refuses o c.in-Err.stop) (sym (least_is_first c.args.text.now before what more))
+    (refused_own (own_kinds c.args.text.now before.scope what) (place_tests before more) c.in-Err.stop c.in-Err.ensures.fault)
+
+pub returns-in-Ok-place-clause-lawful : goal.returns-in-Ok-place-clause-lawful
+unfolding fault_of
+returns-in-Ok-place-clause-lawful c =
+    let before = seen c.args.self.now in
+    let what = what_tree c.args.what.now in
+    let own = own_kinds c.args.text.now before.scope what in
+    let P : Effect → Type 0 = λ more. first_kind (own ++ place_tests before more) ≡ None in
+    let e : c.read_item.new.effect ≡ effect_of c.args.text.now before.scope (length before.vars) what =
+    c.in-Ok.ensures.effect ∙ ap (λ n. effect_of c.args.text.now before.scope n what) c.len-count.ensures in
+    least_is_first c.args.text.now before what (effect_of c.args.text.now before.scope (length before.vars) what)
+    ∙ subst P e (first_place own (place_tests before c.read_item.new.effect) c.in-Ok.ensures.lawful ∙ c.in-Ok-place.ensures.lawful)

@@ -22,5 +22,5 @@ invariant_of-self-2 c =
     let hints = c.make.new.self.hints.items in
     let named = subst (λ n. IfSome c.of-hint.result (λ h. (name_in h ≡ n) × (meaning_in h ≡ c.args.meaning))) c.as_slice.ensures.value c.of-hint.ensures in
     c.put.ensures (declared_in c.insert.new.self.entries)
-    (subst (λ s. AreRight s hints) (sym more) (hints_stay scope (name, c.args.meaning) hints (subst (AreRight scope) (sym c.make.ensures) c.self.invariant)))
+    (subst (λ s. AreRight s hints) (sym more) (hints_stay scope (name, c.args.meaning) hints (c.make.ensures scope c.self.invariant)))
     (subst (λ s. IfSome c.of-hint.result (IsRight s)) (sym more) (hint_right scope name c.args.meaning c.of-hint.result absent named))

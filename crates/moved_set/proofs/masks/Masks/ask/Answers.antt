@@ -52,6 +52,7 @@ returns c =
     let lists : c.deref-list-items.result.now ≡ row_at c.self.inside.lists_of.items c.args.v =
     row_lent c.self.inside.lists_of.items c.args.v c.index.result.now c.deref-list-items.result.now there c.index.ensures c.deref-list-items.ensures.value in
     let all : take c.loop-list.list-index c.deref-list-items.result.now ≡ c.deref-list-items.result.now = take_all c.loop-list.list-index c.deref-list-items.result.now (omega (arith, c.loop-list-test.false)) in
-    asked_all c.args.asked.now c.loop-list.asked c.self.inside.own c.self.inside.lists_of.items c.self.inside.users c.self.inside.count c.self.inside.kernels c.args.v c.self.inside.shapes.items c.args.self.now
-    (masks_at c.self.inside.own c.args.v) c.deref-list-items.result.now c.self.view_is within c.requires.set refl lists
+    asked_all c.args.asked.now c.loop-list.asked c.self.inside.own c.self.inside.lists_of.items c.self.inside.users c.self.inside.count c.self.inside.kernels c.args.v c.args.self.now.sets
+    (masks_at c.self.inside.own c.args.v) c.deref-list-items.result.now (ap (λ (n : Naming). n.sets) c.self.view_is) within
+    (c.requires.set ∙ ap (λ (n : Naming). length n.sets) (sym c.self.view_is) ∙ sets_length _ _ _ _ _) refl lists
     (subst (λ (ls : List ℕ). IsAsked c.args.asked.now (λ j. names (masks_at c.self.inside.own c.args.v) j || some_uses c.self.inside.users j ls) c.loop-list.asked) all c.loop-list.invariant)

@@ -1,11 +1,15 @@
 -- One run of a job.
-use Rattle.std.proofs.Common.{◌≡◌, ℕ, ◌<◌, ◌^◌, ℤ, List, [], ◌∷◌, ◌++◌, length, Option, None, Some, refl, sym, subst, inr}
-use Rattle.std.specs.Prelude.{slice_index_or}
+use Rattle.std.proofs.Common.{◌≡◌, ℕ, ◌<◌, ◌^◌, ℤ, List, [], ◌∷◌, ◌++◌, length, Option, None, Some, refl, sym, ◌∙◌, subst, inr}
+use Rattle.std.specs.Prelude.{slice_index_or, IfSome}
 use Rattle.interval.specs.Boxes.{Bounds, IsInside, IsInRange, InsideOrder}
 use Rattle.guarded_tell.specs.declared.kernel.Kernel.{Kernel}
 use Rattle.constraint_model.specs.declared.model.FznModel.{FznModel}
 use Rattle.decompose.specs.Kernels.{kernels_of}
 use Rattle.best_bound.specs.Lists.{Among, with_seen}
+use Rattle.trailed_box.specs.Trailed.{Trailed, IsOver}
+use Rattle.subproblem_walk.specs.declared.cutter.Subproblem.{Subproblem}
+use Rattle.subproblem_walk.specs.declared.walk.Walk.{Walk}
+use Rattle.subproblem_walk.specs.Walks.{IsOnWay, StandsUnder, box_of}
 use Rattle.subproblems.specs.Cuts.{CanBeCut}
 use Rattle.subproblems.specs.Paths.{LeadsTo, PathLaws}
 use Rattle.search.specs.declared.kind.Kind.{Kind}
@@ -116,3 +120,19 @@ kept_inside kernels b start kept inside h = subst (λ (n : ℕ). IsKeptFor kerne
 
 pub kept_around : (kernels : List Kernel) (b start : Bounds) (kept : Kept) → IsInside b start → IsKeptFor kernels (length b) kept → IsKeptFor kernels (length start) kept
 kept_around kernels b start kept inside h = subst (λ (n : ℕ). IsKeptFor kernels n kept) inside.same_length h
+
+-- a walk takes the box back that it gave out, whatever was left above the way
+pub taken_back : {L : Type 0} (plan : Plan L) → IsPlan plan → (walk : Walk) (found : Subproblem) (boxes : Trailed) →
+    StandsUnder (model_of plan) (kernels_in plan) plan.start.now walk (Some found) → IsInside found.boxes.current plan.run.now.program.now.start →
+    IsOver found.boxes.stack boxes.stack → length boxes.current ≡ length found.boxes.current → IsOnWay (model_of plan) (kernels_in plan) plan.start.now walk boxes
+taken_back plan is walk found boxes stands inside over same = record {
+  way = found.boxes.stack;
+  stands = stands;
+  over = over;
+  same_length = same ∙ inside.same_length ∙ sym is.inside.same_length;
+}
+
+-- what lies in the box that is parted lies in the start
+pub inside_more : InsideOrder → (found : Option Subproblem) (b start : Bounds) → IfSome (box_of found) (λ x. IsInside x b) → IsInside b start → IfSome (box_of found) (λ x. IsInside x start)
+inside_more order None b start h outer = tt
+inside_more order (Some sub) b start h outer = order.through sub.boxes.current b start h outer

@@ -1,6 +1,6 @@
 //! The search of all subproblems for all solutions.
 
-ghost use Rattle.std.specs.Prelude.{◌≡◌, ◌<◌, [], IfOk};
+ghost use Rattle.std.specs.Prelude.{◌<◌, [], IfOk};
 ghost use Rattle.crew.specs.AtWork.{IsRun};
 ghost use Rattle.crew.specs.Ends.{AreEndsOf};
 ghost use Rattle.answer.specs.Plans.{IsPlan, IsCrewFor, model_of};
@@ -8,7 +8,7 @@ ghost use Rattle.answer.specs.Places.{AreResults};
 ghost use Rattle.answer.specs.Results.{IsAllResult};
 ghost use Rattle.answer.specs.Jobs.{numbers_of, Owns, AllFits, AllParts, AllStands};
 
-use crate::plan::{Own, Plan, numbers_to, subproblem};
+use crate::plan::{Own, Plan, subproblem};
 use crew::{Gate as CrewGate, Job, Workers, run_numbers};
 use interval::NoMemory;
 use list_of::ListOf;
@@ -16,6 +16,7 @@ use rounds::Gate;
 use search::{AllEnd, Start, run_all_from};
 use std::alloc::Global;
 use std::thread::Threads;
+use subproblems::numbers_to;
 
 /// The runs share nothing.
 #[derive(Drop)]
@@ -64,11 +65,12 @@ fn run_number<R: Threads + Sync, L: Gate + Sync>(
         None => Ok(AllEnd::Done(ListOf::new(alloc))),
         Some(found) => {
             let start = Start {
-                sub: &found.sub,
+                boxes: found.boxes,
                 changed: found.changed,
             };
-            let end = run_all_from(rt, alloc, job.plan.run, &start, &mut own.kept)?;
-            Ok(end)
+            let over = run_all_from(rt, alloc, job.plan.run, start, &mut own.kept)?;
+            own.walk.take_back(over.boxes);
+            Ok(over.end)
         }
     }
 }

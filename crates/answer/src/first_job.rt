@@ -1,27 +1,27 @@
 //! The search of all subproblems for the first solution.
 
-ghost use Rattle.std.specs.Prelude.{◌≡◌, ◌<◌, ◌≤◌, ◌↔◌, ℕ, [], Some, None, IfOk, IfSome};
+ghost use Rattle.std.specs.Prelude.{◌≡◌, ◌<◌, ◌↔◌, ℕ, [], IfOk};
 ghost use Rattle.crew.specs.AtWork.{IsRun};
 ghost use Rattle.crew.specs.Ends.{AreEndsOf};
-ghost use Rattle.best_bound.specs.Lists.{Among, IsLeastNumber};
-ghost use Rattle.best_bound.specs.Seats.{IsFoundSeatOf, found_parts, numbers_seen, numbers_posted};
+ghost use Rattle.best_bound.specs.Lists.{Among};
+ghost use Rattle.best_bound.specs.Seats.{numbers_seen};
 ghost use Rattle.search.specs.Ends.{IsCut};
 ghost use Rattle.answer.specs.Plans.{IsPlan, IsCrewFor, model_of};
 ghost use Rattle.answer.specs.Results.{AreFirstResults};
 ghost use Rattle.answer.specs.Runs.{HasSolution};
 ghost use Rattle.answer.specs.Jobs.{numbers_of, Owns, FirstFits, FirstParts, FirstStands};
 
-use crate::plan::{Own, Plan, numbers_to, subproblem};
+use crate::plan::{Own, Plan, subproblem};
 use best_bound::{Found, FoundSeat, Numbers};
 use crew::{Gate as CrewGate, Job, Workers, run_numbers};
 use interval::{NoMemory, law_inside_order};
 use list_of::ListOf;
 use rounds::Gate;
-use search::{FirstEnd, Start, run_first_from};
+use search::{FirstEnd, Start, lesser_seen, run_first_from};
 use std::alloc::Global;
 use std::marker::{Brand, PhantomData};
 use std::thread::Threads;
-use subproblems::law_paths;
+use subproblems::{law_paths, numbers_to};
 
 /// Which numbers lead to a solution, for contracts alone.
 pub(crate) trait OfParts {
@@ -79,23 +79,6 @@ impl<L, M: OfParts> Job<FoundSeat, Own, FirstEnd> for FirstJob<'_, L, M> {
     }
 }
 
-/// The least number that has a solution of those that the seat then sees, if it is below `number`.
-fn lesser_seen<N: Numbers>(found: &Found<N>, seat: &mut FoundSeat, number: u32) -> Option<u32>
-    requires seat { IsFoundSeatOf found.now seat.old }
-    ensures seat { IsFoundSeatOf found.now seat.new }
-    ensures parts { found_parts seat.new ≡ found_parts seat.old }
-    ensures posted { numbers_posted seat.new ≡ numbers_posted seat.old }
-    ensures seen { (n : ℕ) → Among (numbers_seen seat.old) n → Among (numbers_seen seat.new) n }
-    ensures below { IfSome result (λ n. n < number) }
-    ensures least { IfSome result (λ n. IsLeastNumber (numbers_seen seat.new) (Some n)) }
-    ensures none { result ≡ None → (n : ℕ) → Among (numbers_seen seat.new) n → number ≤ n }
-{
-    match found.seen(seat) {
-        Some(n) if n < number => Some(n),
-        _ => None,
-    }
-}
-
 /// Goes to the subproblem of a number, and searches it for its first solution.
 fn run_there<R: Threads + Sync, L: Gate + Sync, M: OfParts>(
     rt: &R,
@@ -115,20 +98,21 @@ fn run_there<R: Threads + Sync, L: Gate + Sync, M: OfParts>(
         None => Ok(FirstEnd::Done(None)),
         Some(found) => {
             let start = Start {
-                sub: &found.sub,
+                boxes: found.boxes,
                 changed: found.changed,
             };
-            let end = run_first_from(
+            let over = run_first_from(
                 rt,
                 alloc,
                 job.plan.run,
-                &start,
+                start,
                 &mut own.kept,
                 number,
                 job.found,
                 seat,
             )?;
-            Ok(end)
+            own.walk.take_back(over.boxes);
+            Ok(over.end)
         }
     }
 }

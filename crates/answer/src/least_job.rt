@@ -10,7 +10,7 @@ ghost use Rattle.answer.specs.Plans.{IsPlan, IsCrewFor, model_of};
 ghost use Rattle.answer.specs.Runs.{AreWholeEnds};
 ghost use Rattle.answer.specs.Jobs.{numbers_of, Owns, LeastFits, LeastParts, LeastStands};
 
-use crate::plan::{Own, Plan, numbers_to, subproblem};
+use crate::plan::{Own, Plan, subproblem};
 use best_bound::{Best, BestSeat, Costs};
 use branching::law_every_list;
 use crew::{Gate as CrewGate, Job, Workers, run_numbers};
@@ -22,7 +22,7 @@ use solution_lists::law_solutions_listed;
 use std::alloc::Global;
 use std::marker::{Brand, PhantomData};
 use std::thread::Threads;
-use subproblems::{law_cuts, law_paths};
+use subproblems::{law_cuts, law_paths, numbers_to};
 use tickets::law_counting;
 
 /// The costs of a model's solutions, for contracts alone.
@@ -105,21 +105,22 @@ fn run_number<R: Threads + Sync, L: Gate + Sync, M: OfModel>(
         None => Ok(LeastEnd::Done(None)),
         Some(found) => {
             let start = Start {
-                sub: &found.sub,
+                boxes: found.boxes,
                 changed: found.changed,
             };
             // its contract says that the bounds are in range
-            let _length = found.sub.len();
-            let end = run_least_from(
+            let _length = start.boxes.len();
+            let over = run_least_from(
                 rt,
                 alloc,
                 job.plan.run,
-                &start,
+                start,
                 &mut own.kept,
                 job.best,
                 seat,
             )?;
-            Ok(end)
+            own.walk.take_back(over.boxes);
+            Ok(over.end)
         }
     }
 }

@@ -1,30 +1,20 @@
 //! Solutions and boxes by the objective.
 
-ghost use Rattle.std.specs.Prelude.{◌≡◌, ◌≢◌, ◌<◌, ◌+◌, ◌++◌, ℤ, List, [], ◌∷◌, length, flat_map, All, Some};
+ghost use Rattle.std.specs.Prelude.{◌≡◌, ◌≢◌, ◌<◌, ◌++◌, ℤ, List, [], ◌∷◌, length, flat_map, All, Some};
 ghost use Rattle.std.specs.Bool.{OnTrue, OnFalse};
 ghost use Rattle.interval.specs.Limits.{IsBound};
 ghost use Rattle.constraint_model.specs.declared.model.Goal.TheVariants.{Satisfy};
-ghost use Rattle.constraint_model.specs.Relations.{value, cost_of};
-ghost use Rattle.search.specs.Costs.{IsTermIn, IsObjectiveIn};
+ghost use Rattle.constraint_model.specs.Relations.{cost_of};
+ghost use Rattle.search.specs.Costs.{IsObjectiveIn};
 ghost use Rattle.answer.specs.Cuts.{at_value, cut_to};
 ghost use Rattle.answer.specs.Results.{listed, least_collected};
 ghost use Rattle.answer.specs.Unfinished.{CostsMore, CostsAsMuch, IsBestOf};
 
+use branching::pair_of;
 use constraint_model::{Goal, Term};
 use interval::BoxOf;
 use list_of::ListOf;
-use search::LeastEnd;
-
-/// The number of a term in an assignment.
-fn value(a: &[i64], term: Term) -> i64
-    requires { IsTermIn (length a.now) term }
-    ensures { result ≡ value a.now term }
-{
-    match term {
-        Term::Number(n) => n,
-        Term::Var(v) => a[v as usize],
-    }
-}
+use search::{LeastEnd, value};
 
 /// Whether the first assignment costs less than the second.
 fn costs_less(goal: Goal, a: &[i64], b: &[i64]) -> bool
@@ -95,17 +85,6 @@ fn keep_at(b: &mut BoxOf, pair: u32, z: i64)
     let low = b.low(pair).max(z);
     let high = b.high(pair).min(z);
     b.put(pair, low, high);
-}
-
-/// The pair of a declared variable.
-#[tactic(auto, unfolding(interval::specs::Limits::box_limit))]
-fn pair_of(b: &BoxOf, var: u32) -> u32
-    requires { var + 1 < length b.now }
-    ensures { result ≡ var + 1 }
-{
-    // its contract says that there are few pairs
-    let _length = b.len();
-    var + 1
 }
 
 /// Cuts the objective of a box to its value in an assignment.

@@ -1,11 +1,11 @@
 //! What all runs of one job share.
 
-ghost use Rattle.std.specs.Prelude.{◌≡◌, ◌<◌, ◌≤◌, ◌^◌, ℕ, List, IfOk, IfSome};
+ghost use Rattle.std.specs.Prelude.{◌<◌, ◌^◌, ℕ, List, IfOk, IfSome};
 ghost use Rattle.interval.specs.Boxes.{Bounds, IsInside};
 ghost use Rattle.guarded_tell.specs.declared.kernel.Kernel.{Kernel};
 ghost use Rattle.constraint_model.specs.declared.model.FznModel.{FznModel};
 ghost use Rattle.subproblems.specs.Paths.{LeadsTo};
-ghost use Rattle.subproblem_walk.specs.Walks.{IsWalkFrom, box_of, IsMadeFrom};
+ghost use Rattle.subproblem_walk.specs.Walks.{IsWalkFrom, StandsUnder, box_of, IsMadeFrom};
 ghost use Rattle.answer.specs.Owned.{IsOwnFrom};
 ghost use Rattle.answer.specs.Plans.{IsPlan, model_of, kernels_in};
 
@@ -13,7 +13,7 @@ use crate::options::Options;
 use interval::{BoxOf, NoMemory, law_inside_order};
 use search::{Kept, Run};
 use std::alloc::Global;
-use subproblem_walk::{Found, Tree, Walk};
+use subproblem_walk::{Subproblem, Tree, Walk};
 
 /// What is searched, and from where.
 #[derive(Drop)]
@@ -52,7 +52,7 @@ pub(crate) fn subproblem<L>(
     plan: &Plan<'_, L>,
     walk: &mut Walk,
     number: u32,
-) -> Result<Option<Found>, NoMemory>
+) -> Result<Option<Subproblem>, NoMemory>
     requires plan { IsPlan plan.now }
     requires number { number < 2 ^ plan.now.options.depth }
     requires walk { IsWalkFrom (model_of plan.now) (kernels_in plan.now) plan.now.start.now walk.old }
@@ -60,6 +60,7 @@ pub(crate) fn subproblem<L>(
     ensures inside { IfOk result (λ found. IfSome (box_of found) (λ b. IsInside b plan.now.run.now.program.now.start)) }
     ensures made { IfOk result (IsMadeFrom (kernels_in plan.now)) }
     ensures walk { IsWalkFrom (model_of plan.now) (kernels_in plan.now) plan.now.start.now walk.new }
+    ensures under { IfOk result (StandsUnder (model_of plan.now) (kernels_in plan.now) plan.now.start.now walk.new) }
 {
     law_inside_order();
     let tree = Tree {
@@ -71,12 +72,4 @@ pub(crate) fn subproblem<L>(
     };
     let found = walk.path_box(alloc, &tree, number)?;
     Ok(found)
-}
-
-/// How many numbers there are to a depth.
-pub(crate) fn numbers_to(depth: u32) -> u32
-    requires { depth ≤ 16 }
-    ensures { result ≡ 2 ^ depth }
-{
-    1 << depth
 }

@@ -1,17 +1,19 @@
--- A product whose corners leave room narrows nothing.
-use Rattle.std.proofs.Common.{◌≡◌, ℕ, ◌++◌, ℤ, pos, ◌*ℤ◌, ◌≤ℤ◌, ◌<ℤ◌, ⊎_elim, sym, subst, arith, FitsSigned, to_z, of_z}
+-- A factor that reaches the product is told nothing that narrows.
+use Rattle.std.proofs.Common.{◌≡◌, ◌∙◌, ℕ, [], ◌∷◌, ◌++◌, ℤ, pos, ◌*ℤ◌, ◌≤ℤ◌, ◌<ℤ◌, ⊎_elim, sym, subst, arith, FitsSigned, to_z, of_z}
 use Rattle.std.proofs.lemmas.Int.{ints, clamps, to_z-of_z}
 use mir.Syntax.{w64}
-use Rattle.std.proofs.lemmas.List.Elements.{All-append}
+use Rattle.std.proofs.lemmas.List.Elements.{filter-append}
+use Rattle.tells.specs.declared.tell.Tell.{Tell}
 use Rattle.std.specs.Int.RustNames.{int_le}
 use Rattle.std.specs.List.{All}
 use Rattle.interval.specs.Limits.{IsBound, ClampOrder}
 use Rattle.interval.specs.Quotients.{QuotientOrder}
-use Rattle.interval.specs.Corners.{Range, least_product, greatest_product, least_ceiling, greatest_floor}
+use Rattle.interval.specs.Corners.{Range, least_ceiling, greatest_floor}
 use Rattle.interval.specs.Boxes.{Bounds, low_of, high_of}
 use Rattle.tells.specs.Words.{low_tell, high_tell, Keeps}
 use Rattle.arithmetic_tells.specs.Times.{range_of, excludes_zero, product_tells, quotient_tells, factor_tells, times_tells}
-use Rattle.arithmetic_tells.specs.Products.{IsUnderOne, IsOverOne, IsFactorQuiet, IsProductQuiet}
+use Rattle.arithmetic_tells.specs.Products.{IsUnderOne, IsOverOne, IsFactorQuiet}
+use Rattle.tell_laws.specs.Narrowing.{narrows, narrowing}
 use Rattle.arithmetic_tells.proofs.Lists.{All-two, All-when}
 use Rattle.arithmetic_tells.proofs.LiteralLaws.{by_bool}
 use Rattle.arithmetic_tells.proofs.TimesLaws.{one_sided}
@@ -84,24 +86,22 @@ module _ (quotients : QuotientOrder) (clamped : ClampOrder) (b : Bounds) where
       (keeps_to clamped b x own _ (floor_below quotients (range_of b z) (range_of b y) proper (high_of b x) s (q.high_below_zero s))))
       (one_sided (range_of b y) e))
 
-  product_quiet : (x y z : ℕ) → HasBounds b x → HasBounds b y → HasBounds b z → low_of b x ≤ℤ high_of b x → low_of b y ≤ℤ high_of b y
-      → IsProductQuiet (range_of b x) (range_of b y) (range_of b z) → All (Keeps b) (times_tells x y z b)
-  unfolding times_tells
-  product_quiet x y z own_x own_y own_z proper_x proper_y q =
-      All-append (Keeps b) (product_tells x y z b) (factor_tells x y z b ++ factor_tells y x z b)
-      (All-two (Keeps b) (low_tell z (least_product (range_of b x) (range_of b y))) (high_tell z (greatest_product (range_of b x) (range_of b y)))
-      (keeps_from clamped b z own_z _ q.low) (keeps_to clamped b z own_z _ q.high))
-      (All-append (Keeps b) (factor_tells x y z b) (factor_tells y x z b)
-      (factor_quiet x y z own_x proper_y q.first) (factor_quiet y x z own_y proper_x q.second))
-
   -- the same for ranges that were read from the box
   pub ranges_quiet : (x y z : ℕ) (rx ry rz : Range) → rx ≡ range_of b x → ry ≡ range_of b y → rz ≡ range_of b z
-      → IsBound rx.0 → IsBound rx.1 → IsBound ry.0 → IsBound ry.1 → IsBound rz.0 → IsBound rz.1
-      → low_of b x ≤ℤ high_of b x → low_of b y ≤ℤ high_of b y → IsProductQuiet rx ry rz → All (Keeps b) (times_tells x y z b)
-  ranges_quiet x y z rx ry rz ex ey ez xl xh yl yh zl zh proper_x proper_y q =
-      let Q : Range → Range → Range → Type 0 = λ r s t. IsProductQuiet r s t in
+      → IsBound rx.0 → IsBound rx.1 → low_of b y ≤ℤ high_of b y → IsFactorQuiet rx ry rz → All (Keeps b) (factor_tells x y z b)
+  ranges_quiet x y z rx ry rz ex ey ez xl xh proper q =
+      let Q : Range → Range → Range → Type 0 = λ r s t. IsFactorQuiet r s t in
       let R : Range → Type 0 = λ r. IsBound r.0 in
       let S : Range → Type 0 = λ r. IsBound r.1 in
-      product_quiet x y z (record { low = subst R ex xl; high = subst S ex xh }) (record { low = subst R ey yl; high = subst S ey yh })
-      (record { low = subst R ez zl; high = subst S ez zh }) proper_x proper_y
+      factor_quiet x y z (record { low = subst R ex xl; high = subst S ex xh }) proper
       (subst (λ t. Q (range_of b x) (range_of b y) t) ez (subst (λ s. Q (range_of b x) s rz) ey (subst (λ r. Q r ry rz) ex q)))
+
+-- what narrows, of two tells and of three lists
+pub two_parts : (b : Bounds) (t u : Tell) → narrowing b (t ∷ u ∷ []) ≡ narrowing b (t ∷ []) ++ narrowing b (u ∷ [])
+two_parts b t u = filter-append (narrows b) (t ∷ []) (u ∷ [])
+
+pub times_parts : (b : Bounds) (x y z : ℕ) → narrowing b (times_tells x y z b) ≡ narrowing b (product_tells x y z b) ++ (narrowing b (factor_tells x y z b) ++ narrowing b (factor_tells y x z b))
+unfolding times_tells
+times_parts b x y z =
+    filter-append (narrows b) (product_tells x y z b) (factor_tells x y z b ++ factor_tells y x z b)
+    ∙ (λ i. narrowing b (product_tells x y z b) ++ filter-append (narrows b) (factor_tells x y z b) (factor_tells y x z b) i)

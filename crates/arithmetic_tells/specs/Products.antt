@@ -1,7 +1,7 @@
--- What the products of the bounds of two factors say of the tells of a product, without a division.
+-- What the products of the bounds of a factor say of the tells of the other, without a division.
 use Rattle.std.specs.Prelude.{ℤ, pos, ◌*ℤ◌, ◌≤ℤ◌, ◌<ℤ◌}
 use Rattle.std.specs.Int.{int_min, int_max}
-use Rattle.interval.specs.Corners.{Range, least_product, greatest_product}
+use Rattle.interval.specs.Corners.{Range}
 
 -- z is at most one of the products of a factor with the two bounds of a range, or at least one of them
 abbrev pub IsUnderOne : ℤ → ℤ → Range → Type 0
@@ -17,10 +17,3 @@ pub record IsFactorQuiet (x y z : Range) : Type 0 where
   pub high_above_zero : pos 0 <ℤ y.0 → IsOverOne z.1 x.1 y
   pub low_below_zero : y.1 <ℤ pos 0 → IsOverOne z.1 x.0 y
   pub high_below_zero : y.1 <ℤ pos 0 → IsUnderOne z.0 x.1 y
-
--- z lies between the corner products, and each factor reaches it, so that the product narrows nothing
-pub record IsProductQuiet (x y z : Range) : Type 0 where
-  pub low : least_product x y ≤ℤ z.0
-  pub high : z.1 ≤ℤ greatest_product x y
-  pub first : IsFactorQuiet x y z
-  pub second : IsFactorQuiet y x z

@@ -1,9 +1,9 @@
 //! The bounds that products, quotients, remainders and absolute values tell.
 //!
-//! Exactly the tells of the definitions, in order (`visit_times`, `visit_div`, `visit_mod`, `visit_abs`), and a test
-//! without a division which sees that a product narrows nothing (`is_product_quiet`); monotone, exact at a point, on their
-//! own variables alone (`src/laws.rt`). It stands on `tells`; `guarded_tell` has the four as kernels. Begin with
-//! `specs/Times.antt`. All are on bounds: that the test sees each product which narrows nothing isn't claimed.
+//! Exactly the tells of the definitions, in order (`visit_times`, `visit_div`, `visit_mod`, `visit_abs`), and of a product
+//! those that narrow, with a division only where a test hasn't seen that it tells nothing (`narrow_times`); monotone, exact at
+//! a point, on their own variables alone (`src/laws.rt`). It stands on `tells` and `tell_laws`; `guarded_tell` has the four as
+//! kernels. Begin with `specs/Times.antt`. All are on bounds: how seldom is divided isn't claimed.
 #![tactic(auto)]
 
 mod absolute;
@@ -21,6 +21,6 @@ pub use laws::{
     law_quotient_local, law_quotient_monotone, law_quotient_place, law_quotient_point,
     law_remainder_local, law_remainder_monotone, law_remainder_place, law_remainder_point,
 };
-pub use products::is_product_quiet;
+pub use products::narrow_times;
 pub use remainder::visit_mod;
 pub use times::visit_times;

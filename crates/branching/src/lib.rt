@@ -14,4 +14,4 @@ mod select;
 pub use branch::{Branching, branch_from, choose};
 pub use fronts::{Front, law_fronts};
 pub use laws::{law_branches, law_each_once, law_every_list, law_one_list, law_points};
-pub use select::are_fixed;
+pub use select::{are_fixed, pair_of};

@@ -41,7 +41,7 @@ fn rank(selection: VarSel, low: i64, high: i64) -> i64
 
 /// The pair of a declared variable.
 #[tactic(auto, unfolding(interval::specs::Limits::box_limit))]
-pub(crate) fn pair_of(b: &BoxOf, var: u32) -> u32
+pub fn pair_of(b: &BoxOf, var: u32) -> u32
     requires { var + 1 < length b.now }
     ensures { result ≡ var + 1 }
 {

@@ -1,7 +1,8 @@
 -- An array whose constants are all there adds none.
 use Rattle.std.proofs.Common.{◌≡◌, ◌<◌, ℕ, zero, suc, ℤ, List, [], ◌∷◌, ◌++◌, Bool, true, false, cond, length, take, drop, fold, All, Contains, Some, slice_get, refl, ap, ◌∙◌, sym, subst, arith}
 use Rattle.std.specs.Prelude.{flat_map, Option, None, IfSome}
-use Rattle.std.specs.BTreeMap.{BTreeMap, is_at}
+use Rattle.std.specs.BTreeMap.{is_at}
+use Rattle.constraint_model.specs.declared.places.Places.{Places}
 use Rattle.std.specs.BTreeSet.{BTreeSet, contains, Updates}
 use Rattle.std.specs.List.{list_any}
 use Rattle.std.specs.Ordering.{int_eq, nat_cmp}
@@ -137,7 +138,7 @@ rows_unchanged xs arrays old new e all = record { inside = λ k m. all.inside k 
     was k = sym (ap (λ ks. list_any (is_at (nat_cmp k)) ks) e)
 
 -- with no array counted
-pub none_counted : (places : BTreeMap ℤ ℕ) (xs : List ℤ) (arrays : List (List Term)) (marked : BTreeSet ℕ) → marked.keys ≡ [] → Finds places xs → AreConstants places xs arrays marked
+pub none_counted : (places : Places) (xs : List ℤ) (arrays : List (List Term)) (marked : BTreeSet ℕ) → marked.keys ≡ [] → Finds places xs → AreConstants places xs arrays marked
 none_counted places xs arrays marked e found = record {
   found = found;
   counted = record {

@@ -1,11 +1,12 @@
 -- Numbers that are found by their value stay found.
-use Rattle.std.proofs.Common.{◌≡◌, ℕ, zero, suc, ◌+◌, ◌<◌, ◌≤◌, not, slice_get, ℤ, List, [], ◌∷◌, ◌++◌, length, take, Bool, true, false, ◌||◌, cond, Option, Some, None, refl, ap, ◌∙◌, sym, subst, arith}
+use Rattle.std.proofs.Common.{◌≡◌, ℕ, zero, suc, ◌+◌, ◌<◌, ◌≤◌, not, slice_get, ℤ, List, [], ◌∷◌, ◌++◌, length, take, Bool, true, false, ◌||◌, cond, Some, None, refl, ap, ◌∙◌, sym, subst, arith}
 use Rattle.std.specs.List.{list_any, position_or_len}
-use Rattle.std.specs.Ordering.{int_eq, int_cmp}
-use Rattle.std.specs.BTreeMap.{BTreeMap, get, Updates}
+use Rattle.std.specs.Ordering.{int_eq}
 use Rattle.std.proofs.lemmas.Bool.Decides.{Decides-int_eq}
 use Rattle.std.proofs.lemmas.List.Sums.{prefix_len-le-length}
 use Rattle.constraint_model.specs.Fits.{add_once}
+use Rattle.constraint_model.specs.declared.places.Places.{Places}
+use Rattle.constraint_model.specs.Places.{found_in, Puts}
 use Rattle.constraint_model.specs.Found.{Finds}
 
 absurd_bool : {A : Type 0} → true ≡ false → A
@@ -88,18 +89,18 @@ module _ (p : ℤ → Bool) where
 same : (a b : ℤ) → int_eq a b ≡ true → a ≡ b
 same a b e = (Decides-int_eq a b).0 e
 
-pub finds_none : (m : BTreeMap ℤ ℕ) → Finds m []
+pub finds_none : (m : Places) → Finds m []
 finds_none m = record { at_first = λ n h. absurd_bool (sym h) }
 
-pub finds_front : (m : BTreeMap ℤ ℕ) (xs : List ℤ) (k : ℕ) → Finds m xs → Finds m (take k xs)
+pub finds_front : (m : Places) (xs : List ℤ) (k : ℕ) → Finds m xs → Finds m (take k xs)
 finds_front m xs k f =
     record { at_first = λ n h. f.at_first n (front_there (int_eq n) k xs h) ∙ ap Some (front_place (int_eq n) k xs h) }
 
 -- a number that isn't there may be put anywhere
-pub finds_stale : (m n : BTreeMap ℤ ℕ) (xs : List ℤ) (x : ℤ) (w : Option ℕ) → Finds m xs → list_any (int_eq x) xs ≡ false → Updates int_cmp m n x w → Finds n xs
-finds_stale m n xs x w f lacks u = record { at_first = λ q h. (u.0 q) ∙ by q h (int_eq x q) refl }
+pub finds_stale : (m n : Places) (xs : List ℤ) (x : ℤ) (k : ℕ) → Finds m xs → list_any (int_eq x) xs ≡ false → Puts m x k n → Finds n xs
+finds_stale m n xs x k f lacks u = record { at_first = λ q h. (u q) ∙ by q h (int_eq x q) refl }
   where
-    by : (q : ℤ) → list_any (int_eq q) xs ≡ true → (b : Bool) → int_eq x q ≡ b → cond b w (get int_cmp m q) ≡ Some (position_or_len (int_eq q) xs)
+    by : (q : ℤ) → list_any (int_eq q) xs ≡ true → (b : Bool) → int_eq x q ≡ b → cond b (Some k) (found_in m q) ≡ Some (position_or_len (int_eq q) xs)
     by q h true e = absurd_bool (sym h ∙ ap (λ y. list_any (int_eq y) xs) (sym (same x q e)) ∙ lacks)
     by q h false e = f.at_first q h
 
@@ -111,13 +112,13 @@ other x q e = by (int_eq q x) refl
     by false d = d
 
 -- put at the end, it is found there
-pub finds_more : (m n : BTreeMap ℤ ℕ) (xs : List ℤ) (x : ℤ) (k : ℕ) → k ≡ length xs → Finds m xs → list_any (int_eq x) xs ≡ false → Updates int_cmp m n x (Some k) → Finds n (xs ++ x ∷ [])
-finds_more m n xs x k last f lacks u = record { at_first = λ q h. (u.0 q) ∙ by q h (int_eq x q) refl }
+pub finds_more : (m n : Places) (xs : List ℤ) (x : ℤ) (k : ℕ) → k ≡ length xs → Finds m xs → list_any (int_eq x) xs ≡ false → Puts m x k n → Finds n (xs ++ x ∷ [])
+finds_more m n xs x k last f lacks u = record { at_first = λ q h. (u q) ∙ by q h (int_eq x q) refl }
   where
     there : (q : ℤ) → list_any (int_eq q) (xs ++ x ∷ []) ≡ true → int_eq x q ≡ false → list_any (int_eq q) xs ≡ true
     there q h e = was_there (int_eq q) xs x (other x q e) h
 
-    by : (q : ℤ) → list_any (int_eq q) (xs ++ x ∷ []) ≡ true → (b : Bool) → int_eq x q ≡ b → cond b (Some k) (get int_cmp m q) ≡ Some (position_or_len (int_eq q) (xs ++ x ∷ []))
+    by : (q : ℤ) → list_any (int_eq q) (xs ++ x ∷ []) ≡ true → (b : Bool) → int_eq x q ≡ b → cond b (Some k) (found_in m q) ≡ Some (position_or_len (int_eq q) (xs ++ x ∷ []))
     by q h true e = ap Some (last ∙ sym (comes_last (int_eq q) xs x (subst (λ y. list_any (int_eq y) xs ≡ false) (same x q e) lacks) ((Decides-int_eq q x).1 (sym (same x q e)))))
     by q h false e = f.at_first q (there q h e) ∙ ap Some (sym (has_more (int_eq q) xs (x ∷ []) (there q h e)))
 
@@ -150,22 +151,22 @@ at_first_place n (x ∷ xs) h = step_first n x xs (int_eq n x) (position_or_len 
 one_some : (i j : ℕ) → Some i ≡ Some j → i ≡ j
 one_some i j h = cc
 
-pub stands_first : (m : BTreeMap ℤ ℕ) (xs : List ℤ) (z n : ℤ) (i : ℕ) → z ≡ n → Finds m xs → Some i ≡ get int_cmp m z → slice_get xs i ≡ Some n → i ≡ position_or_len (int_eq n) xs
+pub stands_first : (m : Places) (xs : List ℤ) (z n : ℤ) (i : ℕ) → z ≡ n → Finds m xs → Some i ≡ found_in m z → slice_get xs i ≡ Some n → i ≡ position_or_len (int_eq n) xs
 stands_first m xs z n i e f g s =
-    one_some i (position_or_len (int_eq n) xs) (g ∙ ap (get int_cmp m) e ∙ f.at_first n (standing n xs i s))
+    one_some i (position_or_len (int_eq n) xs) (g ∙ ap (found_in m) e ∙ f.at_first n (standing n xs i s))
 
-pub absent_last : (m : BTreeMap ℤ ℕ) (xs : List ℤ) (z n : ℤ) → z ≡ n → Finds m xs → None ≡ get int_cmp m z → length xs ≡ position_or_len (int_eq n) xs
+pub absent_last : (m : Places) (xs : List ℤ) (z n : ℤ) → z ≡ n → Finds m xs → None ≡ found_in m z → length xs ≡ position_or_len (int_eq n) xs
 absent_last m xs z n e f g = by (list_any (int_eq n) xs) refl
   where
     by : (b : Bool) → list_any (int_eq n) xs ≡ b → length xs ≡ position_or_len (int_eq n) xs
-    by true h = absurd (let k : None ≡ Some (position_or_len (int_eq n) xs) = g ∙ ap (get int_cmp m) e ∙ f.at_first n h in cc)
+    by true h = absurd (let k : None ≡ Some (position_or_len (int_eq n) xs) = g ∙ ap (found_in m) e ∙ f.at_first n h in cc)
     by false h = sym (none_there (int_eq n) xs h)
 
-pub strayed_last : (m : BTreeMap ℤ ℕ) (xs : List ℤ) (z n : ℤ) (i : ℕ) → z ≡ n → Finds m xs → Some i ≡ get int_cmp m z → (slice_get xs i ≡ Some n → ⊥) → length xs ≡ position_or_len (int_eq n) xs
+pub strayed_last : (m : Places) (xs : List ℤ) (z n : ℤ) (i : ℕ) → z ≡ n → Finds m xs → Some i ≡ found_in m z → (slice_get xs i ≡ Some n → ⊥) → length xs ≡ position_or_len (int_eq n) xs
 strayed_last m xs z n i e f g s = by (list_any (int_eq n) xs) refl
   where
     by : (b : Bool) → list_any (int_eq n) xs ≡ b → length xs ≡ position_or_len (int_eq n) xs
-    by true h = absurd (s (subst (λ j. slice_get xs j ≡ Some n) (sym (one_some i (position_or_len (int_eq n) xs) (g ∙ ap (get int_cmp m) e ∙ f.at_first n h))) (at_first_place n xs h)))
+    by true h = absurd (s (subst (λ j. slice_get xs j ≡ Some n) (sym (one_some i (position_or_len (int_eq n) xs) (g ∙ ap (found_in m) e ∙ f.at_first n h))) (at_first_place n xs h)))
     by false h = sym (none_there (int_eq n) xs h)
 
 pub place_within : (s : List ℤ) (n : ℤ) (place : ℕ) → place ≡ position_or_len (int_eq n) s → place ≤ length s

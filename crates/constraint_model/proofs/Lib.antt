@@ -1,5 +1,6 @@
 pub mod ConstantLaws
 pub mod CountedLaws
+pub mod EntryLaws
 pub mod Finds
 pub mod FitLaws
 pub mod FoundLaws

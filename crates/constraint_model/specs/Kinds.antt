@@ -1,5 +1,5 @@
 -- What the entries of an array are alike in.
-use Rattle.std.specs.Prelude.{pos, List, Bool, true, false, not, ◌&&◌, int_le}
+use Rattle.std.specs.Prelude.{pos, List, Bool, true, false, not, ◌&&◌, int_le, map, cond}
 use Rattle.std.specs.List.{list_all}
 use Rattle.constraint_model.specs.declared.model.Term.{Term}
 use Rattle.constraint_model.specs.declared.meanings.Scalar.{Scalar}
@@ -35,3 +35,11 @@ kinds_of entries =
       all_constants = list_all is_constant entries;
       all_amounts = list_all is_amount entries;
     }
+
+-- the entries of these terms, each a boolean or none
+abbrev pub entries_on : Bool → List Term → List Scalar
+entries_on is_bool terms = map (λ t. record { is_bool = is_bool; term = t }) terms
+
+-- the entries of these terms where they are alike, else those that stand beside
+abbrev pub scalars_of : Kinds → List Term → List Scalar → List Scalar
+scalars_of kinds terms mixed = cond kinds.all_integers (entries_on false terms) (cond kinds.all_booleans (entries_on true terms) mixed)

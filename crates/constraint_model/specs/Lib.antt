@@ -2,6 +2,7 @@ pub mod Fits
 pub mod Found
 pub mod Limits
 pub mod Numbers
+pub mod Places
 pub mod Ranges
 pub mod Relations
 pub mod Searches

@@ -8,10 +8,11 @@ ghost use Rattle.constraint_model.specs.Arrays.{IsNumbered};
 ghost use Rattle.constraint_model.specs.Found.{HasConstants};
 
 use crate::model::{ArrayTerms, Term};
+use crate::places::Places;
 use list_of::ListOf;
 use shared_list::SharedList;
 use std::alloc::{AllocError, Global};
-use std::collections::{BTreeMap, BTreeSet};
+use std::collections::BTreeSet;
 use std::marker::Model;
 
 /// Numbers, each once, in the order in which they were added, and beside them the declared arrays whose constants they may be.
@@ -21,7 +22,7 @@ pub struct Constants {
     /// The numbers in their order.
     numbers: Vec<i64>,
     /// The place of each. A number that was taken out again may still stand here.
-    places: BTreeMap<i64, usize>,
+    places: Places,
     /// The terms of the declared arrays.
     arrays: ListOf<SharedList<Term>>,
     /// The places of those whose constants are all among the numbers, so that they needn't be looked up again.
@@ -52,7 +53,7 @@ impl Constants {
     {
         Constants {
             numbers: Vec::new(alloc),
-            places: BTreeMap::new(alloc),
+            places: Places::new(alloc),
             arrays: ListOf::new(alloc),
             counted: BTreeSet::new(alloc),
         }
@@ -106,11 +107,11 @@ impl Constants {
         ensures place { result ≡ position_or_len (int_eq number) self.now.numbers }
         ensures within { result ≤ length self.now.numbers }
     {
-        let Some(place) = self.places.get(&number) else {
+        let Some(place) = self.places.get(number) else {
             return self.len();
         };
-        if stands_at(self.numbers.as_slice(), *place, number) {
-            *place
+        if stands_at(self.numbers.as_slice(), place, number) {
+            place
         } else {
             self.len()
         }
@@ -126,7 +127,7 @@ impl Constants {
         if self.place_of(number) < count {
             return Ok(());
         }
-        self.places.insert(number, count)?;
+        self.places.put(number, count)?;
         self.numbers.push(number)?;
         Ok(())
     }

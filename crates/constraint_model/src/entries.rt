@@ -3,37 +3,39 @@
 ghost use Rattle.std.specs.Prelude.{◌≡◌, length, map, IfOk};
 ghost use Rattle.std.specs.List.{list_all};
 ghost use Rattle.constraint_model.specs.Entries.{variables_in};
-ghost use Rattle.constraint_model.specs.Kinds.{is_amount, is_constant, is_integer, is_boolean};
+ghost use Rattle.constraint_model.specs.Kinds.{is_amount, is_constant, is_integer, is_boolean, kinds_of, scalars_of};
 
 use crate::kinds::Kinds;
 use crate::meanings::Scalar;
 use crate::model::Term;
+use list_of::ListOf;
 use shared_list::SharedList;
 use std::alloc::{AllocError, Global};
 use std::marker::Model;
 
-/// The entries of an array, seen by contracts as the list of their meanings. Beside them stand their terms alone,
-/// which the constraints that name the array share, their variables, which search annotations share, and what each of them
-/// is, so that a constraint that names the array needn't go through them.
+/// The entries of an array, seen by contracts as the list of their meanings. Their terms stand alone, since the constraints that
+/// name the array share them; so do their variables, which search annotations share, and what each of them is, so that a
+/// constraint that names the array needn't go through them. Of entries that are neither all integers nor all booleans, which no
+/// declared array has, the meanings stand beside.
 #[derive(Drop)]
 pub struct Entries {
-    scalars: SharedList<Scalar>,
     terms: SharedList<Term>,
     variables: SharedList<u32>,
     kinds: Kinds,
+    mixed: ListOf<Scalar>,
 }
 
 impl Model for Entries {
     ghost use Rattle.std.specs.Prelude.{◌≡◌, List, map};
     ghost use Rattle.constraint_model.specs.declared.meanings.Scalar.{Scalar};
     ghost use Rattle.constraint_model.specs.Entries.{variables_in};
-    ghost use Rattle.constraint_model.specs.Kinds.{kinds_of};
+    ghost use Rattle.constraint_model.specs.Kinds.{kinds_of, scalars_of};
 
     ghost Value = { List Scalar };
 
-    ghost view = { λ e. e.scalars };
+    ghost view = { λ e. scalars_of e.kinds e.terms e.mixed };
 
-    ghost invariant = { λ e. (e.terms ≡ map (λ s. s.term) e.scalars) × (e.variables ≡ variables_in e.scalars) × (e.kinds ≡ kinds_of e.scalars) };
+    ghost invariant = { λ e. (e.terms ≡ map (λ s. s.term) (scalars_of e.kinds e.terms e.mixed)) × (e.variables ≡ variables_in (scalars_of e.kinds e.terms e.mixed)) × (e.kinds ≡ kinds_of (scalars_of e.kinds e.terms e.mixed)) };
 }
 
 /// The terms of scalars.
@@ -53,6 +55,20 @@ fn variables_of(alloc: Global, scalars: &[Scalar]) -> Result<Vec<u32>, AllocErro
         .collect(alloc)
 }
 
+/// The scalars, where they aren't told by their terms alone.
+#[tactic(auto, using(crate::proofs::EntryLaws::told_alike, crate::proofs::EntryLaws::told_mixed))]
+fn not_told(alloc: Global, kinds: Kinds, terms: &[Term], scalars: Vec<Scalar>) -> ListOf<Scalar>
+    requires kinds { kinds ≡ kinds_of scalars.items }
+    requires terms { terms.now ≡ map (λ s. s.term) scalars.items }
+    ensures { scalars_of kinds terms.now result ≡ scalars.items }
+{
+    if kinds.are_alike() {
+        ListOf::new(alloc)
+    } else {
+        ListOf::from_vec(scalars)
+    }
+}
+
 impl Entries {
     /// These entries.
     pub fn new(alloc: Global, scalars: Vec<Scalar>) -> Result<Entries, AllocError>
@@ -61,26 +77,21 @@ impl Entries {
         let terms = SharedList::from_vec(terms_of(alloc, scalars.as_slice())?)?;
         let variables = SharedList::from_vec(variables_of(alloc, scalars.as_slice())?)?;
         let kinds = Kinds::of(scalars.as_slice());
+        let mixed = not_told(alloc, kinds, terms.as_slice(), scalars);
         Ok(Entries {
-            scalars: SharedList::from_vec(scalars)?,
             terms,
             variables,
             kinds,
+            mixed,
         })
     }
 
-    /// Their meanings.
-    pub fn as_slice(&self) -> &[Scalar]
-        ensures { result.now ≡ self.now }
-    {
-        self.scalars.as_slice()
-    }
-
     /// How many there are.
+    #[tactic(auto, using(crate::proofs::EntryLaws::as_many))]
     pub fn len(&self) -> usize
         ensures { result ≡ length self.now }
     {
-        self.scalars.len()
+        self.terms.len()
     }
 
     /// The same entries for another owner. Of a long array none is copied.
@@ -88,29 +99,29 @@ impl Entries {
         ensures { IfOk result (λ entries. entries ≡ self.now) }
     {
         Ok(Entries {
-            scalars: self.scalars.share(alloc)?,
             terms: self.terms.share(alloc)?,
             variables: self.variables.share(alloc)?,
             kinds: self.kinds,
+            mixed: ListOf::from_vec(Vec::from_slice(alloc, self.mixed.as_slice())?),
         })
     }
 
     /// Whether each is an integer.
-    pub(crate) fn are_integers(&self) -> bool
+    pub fn are_integers(&self) -> bool
         ensures { result ≡ list_all is_integer self.now }
     {
         self.kinds.all_integers
     }
 
     /// Whether each is a boolean.
-    pub(crate) fn are_booleans(&self) -> bool
+    pub fn are_booleans(&self) -> bool
         ensures { result ≡ list_all is_boolean self.now }
     {
         self.kinds.all_booleans
     }
 
     /// Whether each is a constant.
-    pub(crate) fn are_constants(&self) -> bool
+    pub fn are_constants(&self) -> bool
         ensures { result ≡ list_all is_constant self.now }
     {
         self.kinds.all_constants
@@ -142,10 +153,10 @@ impl Entries {
         ensures { result ≡ map (λ s. s.term) self }
     {
         let Entries {
-            scalars: _,
             terms,
             variables: _,
             kinds: _,
+            mixed: _,
         } = self;
         terms
     }

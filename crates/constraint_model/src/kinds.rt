@@ -1,6 +1,6 @@
 //! What the entries of an array are alike in.
 
-ghost use Rattle.std.specs.Prelude.{◌≡◌};
+ghost use Rattle.std.specs.Prelude.{◌≡◌, ◌||◌};
 ghost use Rattle.std.specs.List.{list_all};
 ghost use Rattle.constraint_model.specs.Kinds.{is_amount, is_constant, is_integer, is_boolean, kinds_of};
 
@@ -62,6 +62,13 @@ fn are_amounts(entries: &[Scalar]) -> bool
 }
 
 impl Kinds {
+    /// Whether all are integers, or all booleans.
+    pub(crate) fn are_alike(self) -> bool
+        ensures { result ≡ (self.all_integers || self.all_booleans) }
+    {
+        self.all_integers || self.all_booleans
+    }
+
     /// What each of these entries is.
     pub(crate) fn of(entries: &[Scalar]) -> Kinds
         ensures { result ≡ kinds_of entries.now }

@@ -14,6 +14,7 @@ mod kinds;
 pub mod meanings;
 pub mod model;
 mod numbers;
+mod places;
 mod ranges;
 pub mod table;
 

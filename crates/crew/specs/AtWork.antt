@@ -1,7 +1,8 @@
 -- A worker before, between and after its runs, and who hired it. Each definition takes what the job says of seats (`fits`,
 -- `has_parts`), of what a worker keeps (`owns`) and of runs (`stands`), and what the source of the numbers says of rights
 -- (`is_right`, `drawn`, `has_passed`).
-use Rattle.std.specs.Prelude.{ℕ, ◌≡◌, ◌≤◌, ◌+◌, List, [], ◌∷◌, ◌++◌, true, Result, IfOk, OnErr}
+use Rattle.std.specs.Prelude.{ℕ, ◌≡◌, ◌<◌, ◌≤◌, ◌+◌, List, [], ◌∷◌, ◌++◌, true, Result, IfOk, OnErr}
+use denote.Ref.{MutBor}
 use Rattle.interval.specs.declared.NoMemory.{NoMemory}
 use Rattle.tickets.specs.Counting.{times}
 use Rattle.crew.specs.declared.worker.Worker.{Worker}
@@ -66,3 +67,21 @@ pub record IsRun {S W E : Type 0} (fits : S → Type 0) (has_parts : S → ℕ �
 -- a run that was refused leaves standing what stood of the runs before it
 abbrev pub KeepsRuns : {S E : Type 0} → (S → List (ℕ × E) → Type 0) → S → S → Result E NoMemory → Type 0
 KeepsRuns stands before after result = (runs : List (ℕ × _)) → stands before runs → OnErr result (stands after runs)
+
+-- a worker may call this for each number below the count, with what it may keep and a seat
+abbrev pub CanRun : {S W : Type 0} → ℕ → (W → Type 0) → (S → Type 0) → (MutBor W → MutBor S → ℕ → Type 0) → Type 0
+CanRun {S} {W} count owns fits pre = (own : MutBor W) (seat : MutBor S) (number : ℕ) → number < count → owns own.now → fits seat.now → pre own seat number
+
+-- such a call is a run of the number
+abbrev pub Runs : {S W E : Type 0} → ℕ → (W → Type 0) → (S → Type 0) → (S → ℕ → Type 0) → (S → List (ℕ × E) → Type 0) →
+    (MutBor W → MutBor S → ℕ → Result E NoMemory → MutBor W → MutBor S → Type 0) → Type 0
+Runs {S} {W} {E} count owns fits has_parts stands post =
+    (own : MutBor W) (seat : MutBor S) (number : ℕ) (r : Result E NoMemory) (own2 : MutBor W) (seat2 : MutBor S) → number < count → owns own.now → fits seat.now →
+    post own seat number r own2 seat2 → IsRun fits has_parts owns stands own2.now seat.now seat2.now number r
+
+-- where such a call is refused memory, what stood of the runs before it still stands
+abbrev pub KeepRuns : {S W E : Type 0} → ℕ → (W → Type 0) → (S → Type 0) → (S → List (ℕ × E) → Type 0) →
+    (MutBor W → MutBor S → ℕ → Result E NoMemory → MutBor W → MutBor S → Type 0) → Type 0
+KeepRuns {S} {W} {E} count owns fits stands post =
+    (own : MutBor W) (seat : MutBor S) (number : ℕ) (r : Result E NoMemory) (own2 : MutBor W) (seat2 : MutBor S) → number < count → owns own.now → fits seat.now →
+    post own seat number r own2 seat2 → KeepsRuns stands seat.now seat2.now r

@@ -4,7 +4,7 @@ ghost use Rattle.std.specs.Prelude.{◌≡◌, ◌<◌, ◌≤◌, ◌+◌, ◌+
 ghost use Rattle.std.specs.Bool.{OnTrue};
 ghost use Rattle.std.specs.List.{All};
 ghost use Rattle.crew.specs.Rights.{KeepsSame};
-ghost use Rattle.crew.specs.AtWork.{HaveRun, HaveRunSome, HasSeat, IsFirstSeat, MayStart, IsHired, IsBack, IsRun, KeepsRuns};
+ghost use Rattle.crew.specs.AtWork.{HaveRun, HaveRunSome, HasSeat, IsFirstSeat, MayStart, IsHired, IsBack, CanRun, Runs, KeepRuns};
 ghost use Rattle.crew.specs.Crews.{HasAsked};
 ghost use Rattle.crew.specs.declared.worker.Worker.{Worker};
 
@@ -92,15 +92,15 @@ pub(crate) fn work_all<
     F: Fn(&mut W, &mut S, u32) -> Result<E, NoMemory> + Sync,
 >(rt: &R, source: &Q, job: &J, run: &F, gate: &C, workers: &mut [Worker<N, S, W, E>])
     requires some { 0 < length workers.old }
-    requires can { (own : _) (seat : _) (number : ℕ) → number < J.count job.now → J.owns job.now own.now → J.fits job.now seat.now → F.pre run.now own seat number }
-    requires does { (own : _) (seat : _) (number : ℕ) (r : _) (own2 : _) (seat2 : _) → number < J.count job.now → J.owns job.now own.now → J.fits job.now seat.now → F.post run.now own seat number r own2 seat2 → IsRun (J.fits job.now) J.has_parts (J.owns job.now) (J.stands job.now) own2.now seat.now seat2.now number r }
+    requires can { CanRun (J.count job.now) (J.owns job.now) (J.fits job.now) (F.pre run.now) }
+    requires does { Runs (J.count job.now) (J.owns job.now) (J.fits job.now) J.has_parts (J.stands job.now) (F.post run.now) }
     requires count { Q.count source.now ≡ J.count job.now }
     requires hired { All (IsHired (J.fits job.now) J.has_parts (J.owns job.now) (J.stands job.now)) workers.old }
     requires may_start { All (MayStart (Q.is_right source.now) Q.drawn) workers.old }
     ensures back { (i : ℕ) (d : Worker N S W E) → i < length workers.old → IsBack (Q.is_right source.now) Q.drawn (Q.has_passed source.now) (J.fits job.now) J.has_parts (J.stands job.now) (slice_index_or workers.new i d) }
     ensures asked { (i : ℕ) (d : Worker N S W E) → i < length workers.old → HasAsked (slice_index_or workers.old i d).turn (slice_index_or workers.new i d).turn }
     ensures same { (i : ℕ) (d : Worker N S W E) → i < length workers.old → KeepsSame Q.same (slice_index_or workers.old i d).right (slice_index_or workers.new i d).right }
-    ensures made { ((own : _) (seat : _) (number : ℕ) (r : _) (own2 : _) (seat2 : _) → number < J.count job.now → J.owns job.now own.now → J.fits job.now seat.now → F.post run.now own seat number r own2 seat2 → KeepsRuns (J.stands job.now) seat.now seat2.now r) → (i : ℕ) (d : Worker N S W E) → i < length workers.old → HaveRunSome (J.stands job.now) (Q.drawn (slice_index_or workers.new i d).right) (slice_index_or workers.new i d).seat }
+    ensures made { KeepRuns (J.count job.now) (J.owns job.now) (J.fits job.now) (J.stands job.now) (F.post run.now) → (i : ℕ) (d : Worker N S W E) → i < length workers.old → HaveRunSome (J.stands job.now) (Q.drawn (slice_index_or workers.new i d).right) (slice_index_or workers.new i d).seat }
 {
     if workers.len() == 1 {
         work(source, job, run, gate, &mut workers[0]);
@@ -112,11 +112,11 @@ pub(crate) fn work_all<
         workers,
         threads,
         &|_, worker: &mut Worker<N, S, W, E>|
-            requires { (Q.count source.now ≡ J.count job.now) × ((own : _) (seat : _) (number : ℕ) → number < J.count job.now → J.owns job.now own.now → J.fits job.now seat.now → F.pre run.now own seat number) × ((own : _) (seat : _) (number : ℕ) (r : _) (own2 : _) (seat2 : _) → number < J.count job.now → J.owns job.now own.now → J.fits job.now seat.now → F.post run.now own seat number r own2 seat2 → IsRun (J.fits job.now) J.has_parts (J.owns job.now) (J.stands job.now) own2.now seat.now seat2.now number r) × IsHired (J.fits job.now) J.has_parts (J.owns job.now) (J.stands job.now) worker.now × MayStart (Q.is_right source.now) Q.drawn worker.now }
+            requires { (Q.count source.now ≡ J.count job.now) × CanRun (J.count job.now) (J.owns job.now) (J.fits job.now) (F.pre run.now) × Runs (J.count job.now) (J.owns job.now) (J.fits job.now) J.has_parts (J.stands job.now) (F.post run.now) × IsHired (J.fits job.now) J.has_parts (J.owns job.now) (J.stands job.now) worker.now × MayStart (Q.is_right source.now) Q.drawn worker.now }
             ensures back { IsBack (Q.is_right source.entry.now) Q.drawn (Q.has_passed source.entry.now) (J.fits job.entry.now) J.has_parts (J.stands job.entry.now) worker.exit.now }
             ensures asked { HasAsked worker.entry.now.turn worker.exit.now.turn }
             ensures same { KeepsSame Q.same worker.entry.now.right worker.exit.now.right }
-            ensures made { ((own : _) (seat : _) (number : ℕ) (r : _) (own2 : _) (seat2 : _) → number < J.count job.entry.now → J.owns job.entry.now own.now → J.fits job.entry.now seat.now → F.post run.entry.now own seat number r own2 seat2 → KeepsRuns (J.stands job.entry.now) seat.now seat2.now r) → HaveRunSome (J.stands job.entry.now) (Q.drawn worker.exit.now.right) worker.exit.now.seat }
+            ensures made { KeepRuns (J.count job.entry.now) (J.owns job.entry.now) (J.fits job.entry.now) (J.stands job.entry.now) (F.post run.entry.now) → HaveRunSome (J.stands job.entry.now) (Q.drawn worker.exit.now.right) worker.exit.now.seat }
         { work(source, job, run, gate, worker) },
     );
 }

@@ -4,7 +4,7 @@ ghost use Rattle.std.specs.Prelude.{◌≡◌, ◌<◌, ℕ, [], IfOk, OnOk, OnE
 ghost use Rattle.std.specs.List.{AllZip};
 ghost use Rattle.crew.specs.Ends.{AreEndsOf, AreSomeRuns};
 ghost use Rattle.crew.specs.Crews.{workers_of, turns_of, steals_of, HasAsked};
-ghost use Rattle.crew.specs.AtWork.{IsRun, KeepsRuns};
+ghost use Rattle.crew.specs.AtWork.{CanRun, Runs, KeepRuns};
 
 use crate::hand_source::deal_hands;
 use crate::job::Job;
@@ -40,14 +40,14 @@ pub fn run_numbers<
     gate: &C,
     seat: &mut S,
 ) -> Result<ListOf<E>, NoMemory>
-    requires can { (own : _) (seat : _) (number : ℕ) → number < J.count job.now → J.owns job.now own.now → J.fits job.now seat.now → F.pre run.now own seat number }
-    requires does { (own : _) (seat : _) (number : ℕ) (r : _) (own2 : _) (seat2 : _) → number < J.count job.now → J.owns job.now own.now → J.fits job.now seat.now → F.post run.now own seat number r own2 seat2 → IsRun (J.fits job.now) J.has_parts (J.owns job.now) (J.stands job.now) own2.now seat.now seat2.now number r }
+    requires can { CanRun (J.count job.now) (J.owns job.now) (J.fits job.now) (F.pre run.now) }
+    requires does { Runs (J.count job.now) (J.owns job.now) (J.fits job.now) J.has_parts (J.stands job.now) (F.post run.now) }
     requires count { count ≡ J.count job.now }
     requires fits { J.fits job.now seat.old }
     requires parts { J.has_parts seat.old 1024 }
     requires none { J.stands job.now seat.old [] }
     ensures ends { IfOk result (AreEndsOf count (J.stands job.now seat.new)) }
-    ensures made { ((own : _) (seat : _) (number : ℕ) (r : _) (own2 : _) (seat2 : _) → number < J.count job.now → J.owns job.now own.now → J.fits job.now seat.now → F.post run.now own seat number r own2 seat2 → KeepsRuns (J.stands job.now) seat.now seat2.now r) → OnErr result (AreSomeRuns count (J.stands job.now seat.new)) }
+    ensures made { KeepRuns (J.count job.now) (J.owns job.now) (J.fits job.now) (J.stands job.now) (F.post run.now) → OnErr result (AreSomeRuns count (J.stands job.now seat.new)) }
     ensures fits { J.fits job.now seat.new }
     ensures parts { J.has_parts seat.new 1024 }
     ensures crew { workers_of crew.new ≡ workers_of crew.old }

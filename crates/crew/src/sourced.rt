@@ -6,7 +6,7 @@ ghost use Rattle.tickets.specs.Counting.{IsEachOnce};
 ghost use Rattle.crew.specs.Ends.{AreEndsOf, AreSomeRuns, numbers_of};
 ghost use Rattle.crew.specs.Crews.{workers_of, turns_of, steals_of, HasAsked};
 ghost use Rattle.crew.specs.Rights.{AreDrawn};
-ghost use Rattle.crew.specs.AtWork.{HaveRunSome, IsFirstSeat, IsBack, IsRun, KeepsRuns};
+ghost use Rattle.crew.specs.AtWork.{HaveRunSome, IsFirstSeat, IsBack, CanRun, Runs, KeepRuns};
 
 use crate::ends::in_order;
 use crate::hiring::{hire_all, take_all, work_all};
@@ -75,8 +75,8 @@ pub(crate) fn run_from<
     seat: &mut S,
     dealt: Dealt<Q, N>,
 ) -> Result<ListOf<E>, NoMemory>
-    requires can { (own : _) (seat : _) (number : ℕ) → number < J.count job.now → J.owns job.now own.now → J.fits job.now seat.now → F.pre run.now own seat number }
-    requires does { (own : _) (seat : _) (number : ℕ) (r : _) (own2 : _) (seat2 : _) → number < J.count job.now → J.owns job.now own.now → J.fits job.now seat.now → F.post run.now own seat number r own2 seat2 → IsRun (J.fits job.now) J.has_parts (J.owns job.now) (J.stands job.now) own2.now seat.now seat2.now number r }
+    requires can { CanRun (J.count job.now) (J.owns job.now) (J.fits job.now) (F.pre run.now) }
+    requires does { Runs (J.count job.now) (J.owns job.now) (J.fits job.now) J.has_parts (J.stands job.now) (F.post run.now) }
     requires job_count { dealt.count ≡ J.count job.now }
     requires count { Q.count dealt.source ≡ dealt.count }
     requires fits { J.fits job.now seat.old }
@@ -87,7 +87,7 @@ pub(crate) fn run_from<
     requires idle { All (λ right. Q.drawn right ≡ []) dealt.rights.items }
     requires workers { length dealt.rights.items ≡ workers_of crew.old }
     ensures ends { IfOk result (AreEndsOf dealt.count (J.stands job.now seat.new)) }
-    ensures made { ((own : _) (seat : _) (number : ℕ) (r : _) (own2 : _) (seat2 : _) → number < J.count job.now → J.owns job.now own.now → J.fits job.now seat.now → F.post run.now own seat number r own2 seat2 → KeepsRuns (J.stands job.now) seat.now seat2.now r) → OnErr result (AreSomeRuns dealt.count (J.stands job.now seat.new)) }
+    ensures made { KeepRuns (J.count job.now) (J.owns job.now) (J.fits job.now) (J.stands job.now) (F.post run.now) → OnErr result (AreSomeRuns dealt.count (J.stands job.now seat.new)) }
     ensures fits { J.fits job.now seat.new }
     ensures parts { J.has_parts seat.new 1024 }
     ensures crew { workers_of crew.new ≡ workers_of crew.old }

@@ -4,7 +4,7 @@ ghost use Rattle.std.specs.Prelude.{◌≡◌, ◌<◌, ℕ, ◌≤◌, [], IfOk
 ghost use Rattle.std.specs.Bool.{OnTrue, OnFalse};
 ghost use Rattle.crew.specs.Rights.{KeepsSame};
 ghost use Rattle.crew.specs.Crews.{HasAsked};
-ghost use Rattle.crew.specs.AtWork.{HasSeat, HaveRun, HaveRunSome, MayStart, MayDraw, IsHired, IsBack, IsRun, KeepsRuns};
+ghost use Rattle.crew.specs.AtWork.{HasSeat, HaveRun, HaveRunSome, MayStart, MayDraw, IsHired, IsBack, CanRun, Runs, KeepRuns};
 
 use crate::job::Job;
 use crate::source::Source;
@@ -41,8 +41,8 @@ fn run_next<
     J: Job<S, W, E>,
     F: Fn(&mut W, &mut S, u32) -> Result<E, NoMemory>,
 >(source: &Q, job: &J, run: &F, gate: &C, worker: &mut Worker<N, S, W, E>) -> Result<bool, NoMemory>
-    requires can { (own : _) (seat : _) (number : ℕ) → number < J.count job.now → J.owns job.now own.now → J.fits job.now seat.now → F.pre run.now own seat number }
-    requires does { (own : _) (seat : _) (number : ℕ) (r : _) (own2 : _) (seat2 : _) → number < J.count job.now → J.owns job.now own.now → J.fits job.now seat.now → F.post run.now own seat number r own2 seat2 → IsRun (J.fits job.now) J.has_parts (J.owns job.now) (J.stands job.now) own2.now seat.now seat2.now number r }
+    requires can { CanRun (J.count job.now) (J.owns job.now) (J.fits job.now) (F.pre run.now) }
+    requires does { Runs (J.count job.now) (J.owns job.now) (J.fits job.now) J.has_parts (J.stands job.now) (F.post run.now) }
     requires count { Q.count source.now ≡ J.count job.now }
     requires seat { HasSeat (J.fits job.now) J.has_parts worker.old }
     requires may_draw { MayDraw (Q.is_right source.now) Q.drawn (J.owns job.now) (J.stands job.now) worker.old }
@@ -52,7 +52,7 @@ fn run_next<
     ensures same { KeepsSame Q.same worker.old.right worker.new.right }
     ensures may_draw { IfOk result (λ _. MayDraw (Q.is_right source.now) Q.drawn (J.owns job.now) (J.stands job.now) worker.new) }
     ensures went_on { IfOk result (λ went_on. OnTrue went_on (Q.most_left source.now worker.new.right < Q.most_left source.now worker.old.right)) }
-    ensures made { ((own : _) (seat : _) (number : ℕ) (r : _) (own2 : _) (seat2 : _) → number < J.count job.now → J.owns job.now own.now → J.fits job.now seat.now → F.post run.now own seat number r own2 seat2 → KeepsRuns (J.stands job.now) seat.now seat2.now r) → OnErr result (HaveRunSome (J.stands job.now) (Q.drawn worker.new.right) worker.new.seat) }
+    ensures made { KeepRuns (J.count job.now) (J.owns job.now) (J.fits job.now) (J.stands job.now) (F.post run.now) → OnErr result (HaveRunSome (J.stands job.now) (Q.drawn worker.new.right) worker.new.seat) }
     ensures ended { IfOk result (λ went_on. OnFalse went_on (Q.has_passed source.now worker.new.right)) }
 {
     gate.pass(worker.number, worker.turn);
@@ -78,8 +78,8 @@ fn run_all<
     J: Job<S, W, E>,
     F: Fn(&mut W, &mut S, u32) -> Result<E, NoMemory>,
 >(source: &Q, job: &J, run: &F, gate: &C, worker: &mut Worker<N, S, W, E>) -> Result<(), NoMemory>
-    requires can { (own : _) (seat : _) (number : ℕ) → number < J.count job.now → J.owns job.now own.now → J.fits job.now seat.now → F.pre run.now own seat number }
-    requires does { (own : _) (seat : _) (number : ℕ) (r : _) (own2 : _) (seat2 : _) → number < J.count job.now → J.owns job.now own.now → J.fits job.now seat.now → F.post run.now own seat number r own2 seat2 → IsRun (J.fits job.now) J.has_parts (J.owns job.now) (J.stands job.now) own2.now seat.now seat2.now number r }
+    requires can { CanRun (J.count job.now) (J.owns job.now) (J.fits job.now) (F.pre run.now) }
+    requires does { Runs (J.count job.now) (J.owns job.now) (J.fits job.now) J.has_parts (J.stands job.now) (F.post run.now) }
     requires count { Q.count source.now ≡ J.count job.now }
     requires seat { HasSeat (J.fits job.now) J.has_parts worker.old }
     requires may_draw { MayDraw (Q.is_right source.now) Q.drawn (J.owns job.now) (J.stands job.now) worker.old }
@@ -89,7 +89,7 @@ fn run_all<
     ensures same { KeepsSame Q.same worker.old.right worker.new.right }
     ensures passed { OnOk result (Q.has_passed source.now worker.new.right) }
     ensures run { OnOk result (HaveRun (J.stands job.now) (Q.drawn worker.new.right) worker.new.seat worker.new.runs.items) }
-    ensures made { ((own : _) (seat : _) (number : ℕ) (r : _) (own2 : _) (seat2 : _) → number < J.count job.now → J.owns job.now own.now → J.fits job.now seat.now → F.post run.now own seat number r own2 seat2 → KeepsRuns (J.stands job.now) seat.now seat2.now r) → OnErr result (HaveRunSome (J.stands job.now) (Q.drawn worker.new.right) worker.new.seat) }
+    ensures made { KeepRuns (J.count job.now) (J.owns job.now) (J.fits job.now) (J.stands job.now) (F.post run.now) → OnErr result (HaveRunSome (J.stands job.now) (Q.drawn worker.new.right) worker.new.seat) }
 {
     'draws: while run_next(source, job, run, gate, worker)? {}
     Ok(())
@@ -106,15 +106,15 @@ pub(crate) fn work<
     J: Job<S, W, E>,
     F: Fn(&mut W, &mut S, u32) -> Result<E, NoMemory>,
 >(source: &Q, job: &J, run: &F, gate: &C, worker: &mut Worker<N, S, W, E>)
-    requires can { (own : _) (seat : _) (number : ℕ) → number < J.count job.now → J.owns job.now own.now → J.fits job.now seat.now → F.pre run.now own seat number }
-    requires does { (own : _) (seat : _) (number : ℕ) (r : _) (own2 : _) (seat2 : _) → number < J.count job.now → J.owns job.now own.now → J.fits job.now seat.now → F.post run.now own seat number r own2 seat2 → IsRun (J.fits job.now) J.has_parts (J.owns job.now) (J.stands job.now) own2.now seat.now seat2.now number r }
+    requires can { CanRun (J.count job.now) (J.owns job.now) (J.fits job.now) (F.pre run.now) }
+    requires does { Runs (J.count job.now) (J.owns job.now) (J.fits job.now) J.has_parts (J.stands job.now) (F.post run.now) }
     requires count { Q.count source.now ≡ J.count job.now }
     requires hired { IsHired (J.fits job.now) J.has_parts (J.owns job.now) (J.stands job.now) worker.old }
     requires may_start { MayStart (Q.is_right source.now) Q.drawn worker.old }
     ensures back { IsBack (Q.is_right source.now) Q.drawn (Q.has_passed source.now) (J.fits job.now) J.has_parts (J.stands job.now) worker.new }
     ensures asked { HasAsked worker.old.turn worker.new.turn }
     ensures same { KeepsSame Q.same worker.old.right worker.new.right }
-    ensures made { ((own : _) (seat : _) (number : ℕ) (r : _) (own2 : _) (seat2 : _) → number < J.count job.now → J.owns job.now own.now → J.fits job.now seat.now → F.post run.now own seat number r own2 seat2 → KeepsRuns (J.stands job.now) seat.now seat2.now r) → HaveRunSome (J.stands job.now) (Q.drawn worker.new.right) worker.new.seat }
+    ensures made { KeepRuns (J.count job.now) (J.owns job.now) (J.fits job.now) (J.stands job.now) (F.post run.now) → HaveRunSome (J.stands job.now) (Q.drawn worker.new.right) worker.new.seat }
 {
     let ended = run_all(source, job, run, gate, worker);
     worker.is_done = ended.is_ok();

@@ -7,13 +7,14 @@ use Rattle.std.specs.Prelude.{◌||◌, ◌==◌, get_or}
 use Rattle.std.proofs.lemmas.Bool.{eqb-true, or_cases}
 use Rattle.std.proofs.lemmas.List.{drop_more}
 use Rattle.fzn_lexer.specs.Bytes.{is_blank_byte}
-use Rattle.fzn_lexer.specs.Machine.{step, accepted, later, found_as, longest_found}
+use Rattle.fzn_lexer.specs.Machine.{step, start_step, accepted, later, found_as, longest_found}
 use Rattle.fzn_lexer.specs.declared.PieceKind.TheVariants as piece_kind
 use Rattle.fzn_lexer.specs.declared.machine.State.{State}
 use Rattle.fzn_lexer.proofs.Longest.{longest_cons, none_behind_last}
 use Rattle.fzn_lexer.specs.declared.Token.{Token}
 use Rattle.fzn_lexer.specs.declared.machine.Found.{Found}
-use Rattle.fzn_lexer.specs.declared.machine.State.TheVariants.{Start, BlankEnd}
+use Rattle.fzn_lexer.specs.declared.machine.State.TheVariants.{Start, BlankEnd, MarkEnd}
+use Rattle.fzn_lexer.specs.declared.Kind.TheVariants as kinds
 use Rattle.fzn_lexer.proofs.Cuts.{IsFound, some_found, found_after, after_is, none_stuck, end_stuck, one_cut, IsStuck}
 
 pub nothing : (text : List ℕ) (at : ℕ) → at ≤ length text → LexesTo text at at []
@@ -141,3 +142,16 @@ blank_more text from at h e l =
     let found : longest_found Start at (drop at text) ≡ Some (record { piece = piece_kind.Blank; to = at + 1 })
     = ap (λ u. longest_found Start at u) (drop_more text at 0 h) ∙ blank_found at (get_or text at 0) (drop (at + 1) text) e in
     (found_behind text from at (record { piece = piece_kind.Blank; to = at + 1 }) found l).1
+
+mark_found : (at b : ℕ) (bs : List ℕ) → start_step b ≡ MarkEnd → longest_found Start at (b ∷ bs) ≡ Some (record { piece = piece_kind.Token kinds.Mark; to = at + 1 })
+mark_found at b bs e =
+    longest_cons Start at b bs ∙ (ap (λ (q : State). later (found_as (accepted q) (at + 1)) (longest_found q (at + 1) bs)) e
+    ∙ ap (λ o. later (Some (record { piece = piece_kind.Token kinds.Mark; to = at + 1 })) o) (none_behind_last MarkEnd (at + 1) bs refl))
+
+-- a mark with which no other piece begins, behind blanks
+pub mark_next : (text : List ℕ) (from at : ℕ) → at < length text → start_step (get_or text at 0) ≡ MarkEnd → LexesTo text from at []
+    → IsNext text from (Some (record { kind = kinds.Mark; from = at; to = at + 1 }))
+mark_next text from at h e l =
+    let found : longest_found Start at (drop at text) ≡ Some (record { piece = piece_kind.Token kinds.Mark; to = at + 1 })
+    = ap (λ u. longest_found Start at u) (drop_more text at 0 h) ∙ mark_found at (get_or text at 0) (drop (at + 1) text) e in
+    found_behind text from at (record { piece = piece_kind.Token kinds.Mark; to = at + 1 }) found l

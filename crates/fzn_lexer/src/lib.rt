@@ -8,12 +8,12 @@
 
 mod machine;
 
-ghost use Rattle.std.specs.Prelude.{◌≡◌, ◌≤◌, ℕ, List, [], All, length, MatchResult, OnOk, IfErr, IfSome, option_to_list, ◌++◌, ◌⊎◌};
+ghost use Rattle.std.specs.Prelude.{◌≡◌, ◌≤◌, ℕ, List, [], All, length, MatchResult, OnOk, IfErr, IfSome, Some, option_to_list, ◌++◌, ◌⊎◌};
 ghost use Rattle.fzn_lexer.specs.Lexing.{LexesAs, LexesTo, FaultsAt, LacksPiece, LacksToken, IsCause, IsNext, LiesIn, RiseFrom, token_of};
 ghost use Rattle.fzn_lexer.specs.declared.Token.{Token};
 ghost use Rattle.fzn_lexer.specs.declared.LexError.TheVariants.{NoMemory};
 
-use machine::{Found, after_blanks, longest_piece};
+use machine::{Found, after_blanks, is_mark_byte, longest_piece};
 use std::alloc::{AllocError, AllocFailed, Global};
 use thiserror::Error;
 
@@ -147,6 +147,24 @@ pub fn next_token(text: &[u8], from: usize) -> Result<Option<Token>, NoToken>
         at = after_blanks(text, found.to);
     }
     Ok(None)
+}
+
+/// The first token behind the byte `from`, where it is a mark with which no other piece begins: most of them are found so in
+/// fewer steps. Else none, and `next_token` finds what stands there.
+#[inline(always)]
+pub fn next_mark(text: &[u8], from: usize) -> Option<Token>
+    requires { from ≤ length text.now }
+    ensures { IfSome result (λ t. IsNext text.now from (Some t)) }
+{
+    let at = after_blanks(text, from);
+    if at < text.len() && is_mark_byte(text[at]) {
+        return Some(Token {
+            kind: Kind::Mark,
+            from: at,
+            to: at + 1,
+        });
+    }
+    None
 }
 
 /// What is read of a text token by token is what is read of it whole.

@@ -106,6 +106,17 @@ fn start_step(b: u8) -> State
     }
 }
 
+/// Whether this byte is a mark with which no other piece begins.
+#[inline(always)]
+pub fn is_mark_byte(b: u8) -> bool
+    ensures { result ≡ true → machine.start_step b ≡ States.MarkEnd }
+{
+    matches!(
+        b,
+        b'(' | b')' | b'[' | b']' | b'{' | b'}' | b',' | b';' | b'='
+    )
+}
+
 fn minus_step(b: u8) -> State
     ensures { result ≡ machine.minus_step b }
 {

@@ -1,6 +1,7 @@
 pub mod AddedLaws
 pub mod ArrayLaws
 pub mod EffectLaws
+pub mod EntryLaws
 pub mod FaultLaws
 pub mod HintLaws
 pub mod KnownLaws

@@ -7,7 +7,7 @@ ghost use Rattle.fzn_model.specs.Effects as effects;
 ghost use Rattle.fzn_model.specs.Faults as faults;
 ghost use Rattle.constraint_model.specs.Fits as fitting;
 
-use constraint_model::{ConstraintName, Meaning, Scalar, Term};
+use constraint_model::{ConstraintName, Entries, Meaning, Scalar, Term};
 use fzn_parser::tree::{Shape, What};
 
 /// Whether it is a boolean's type.
@@ -94,10 +94,20 @@ pub(crate) fn fits_scalar_type(shape: &Shape, meaning: &Meaning) -> bool
     }
 }
 
-fn all_scalars_fit(shape: &Shape, entries: &[Scalar]) -> bool
+/// Whether each entry of an array may be one of an array of this type.
+fn all_scalars_fit(shape: &Shape, entries: &Entries) -> bool
     ensures { result ≡ list_all (faults.scalar_fits shape.now) entries.now }
 {
-    entries.iter().all(|entry| scalar_fits(shape, *entry))
+    match shape {
+        Shape::Bool => entries.are_booleans() && entries.are_constants(),
+        Shape::Int => entries.are_integers() && entries.are_constants(),
+        Shape::VarBool => entries.are_booleans(),
+        Shape::VarInt | Shape::VarIn(_) => entries.are_integers(),
+        Shape::Float | Shape::SetOfInt | Shape::VarFloat | Shape::VarFloats(_, _) => {
+            entries.len() == 0
+        }
+        Shape::VarSet | Shape::VarSetIn(_) => entries.len() == 0,
+    }
 }
 
 /// Whether a value is an array of such elements.
@@ -105,7 +115,7 @@ pub(crate) fn fits_array_type(shape: &Shape, meaning: &Meaning) -> bool
     ensures { result ≡ faults.fits_array_type shape.now meaning.now }
 {
     match meaning {
-        Meaning::Row(array) => all_scalars_fit(shape, array.entries.as_slice()),
+        Meaning::Row(array) => all_scalars_fit(shape, &array.entries),
         Meaning::One(_) | Meaning::Set(_) => false,
     }
 }

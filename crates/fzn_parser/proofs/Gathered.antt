@@ -1,19 +1,27 @@
 -- The tokens of a stretch, gathered one by one.
-use Rattle.std.proofs.Common.{◌≡◌, ◌<◌, ◌≤◌, ℕ, List, [], ◌∷◌, ◌++◌, length, map, true, false, Some, None, inl, inr, suc, refl, sym, ◌∙◌, ap, subst, arith, append_assoc, append-nil}
+use Rattle.std.proofs.Common.{◌≡◌, ◌<◌, ◌≤◌, ℕ, List, [], ◌∷◌, ◌++◌, length, map, true, false, Option, Some, None, inl, inr, zero, suc, refl, sym, ◌∙◌, ap, subst, arith, append_assoc, append-nil, true≢false}
 use Rattle.std.specs.Prelude.{slice_index_or, drop}
+use Rattle.std.specs.Prelude.{Bool, ◌==◌, cond, option_map}
+use Rattle.std.proofs.lemmas.Bool.Decides.{nat_tests}
+use Rattle.std.proofs.lemmas.List.{length-map}
 use Rattle.std.proofs.lemmas.List.Elements.{All-push}
 use Rattle.fzn_lexer.specs.declared.Token.{Token}
 use Rattle.fzn_lexer.specs.Lexing.{LexesTo, LacksToken as IsStuck}
 use Rattle.fzn_parser.specs.declared.cursor.Symbol.{Symbol}
 use Rattle.fzn_parser.specs.declared.cursor.Lexeme.{Lexeme}
 use Rattle.fzn_parser.specs.Texts.{is_at, lexeme_of, first_stretch}
-use Rattle.fzn_parser.specs.Parsing.{ItemTree, FaultsAt, BeginsAt}
+use Rattle.fzn_parser.specs.Parsing.{ItemTree, FaultsAt, BeginsAt, placed, max_depth}
+use Rattle.fzn_parser.specs.Items.{WhatTree, whole_at}
+use Rattle.fzn_parser.specs.Terminals.{begins}
+use Rattle.fzn_parser.specs.declared.stream.Stretch.{Stretch}
+use Rattle.fzn_parser.specs.Gathering.{LeadsIn, IsGathered}
 use Rattle.fzn_parser.specs.Stretches.{item_at}
 use Rattle.fzn_parser.specs.Stream.{GoesOn, ClosesAt, IsStretch, IsItemTo, LacksItem, LacksToken, RunsOnTo, LacksNext}
 use Rattle.fzn_parser.proofs.Trees.{map_push}
 use Rattle.fzn_parser.proofs.Stretches.{first_at, first_not}
 use Rattle.fzn_parser.proofs.Existing.{fault_here}
 use Rattle.fzn_parser.proofs.Progress.{first_of}
+use Rattle.fzn_parser.proofs.Whole.{begins_first, item_other}
 use Rattle.fzn_parser.proofs.ItemForms.{read_is_written, written_is_read}
 
 -- the lexer's laws of a text
@@ -22,40 +30,38 @@ pub record TurnLaws (text : List ℕ) : Type 0 where
   pub joined : (from at to : ℕ) (ts us : List Token) → LexesTo text from at ts → LexesTo text at to us → LexesTo text from to (ts ++ us)
   pub one_rest : (from : ℕ) (ts us : List Token) → LexesTo text from (length text) ts → LexesTo text from (length text) us → ts ≡ us
 
--- these tokens and lexemes stand behind `from`, up to `at`, and no semicolon is among them
-pub record AreGathered (text : List ℕ) (from at : ℕ) (tokens : List Token) (lexemes : List Lexeme) : Type 0 where
+-- these tokens stand behind `from`, up to `at`, and no semicolon is among them
+pub record AreGathered (text : List ℕ) (from at : ℕ) (tokens : List Token) : Type 0 where
   pub laws : TurnLaws text
   pub lexed : LexesTo text from at tokens
   pub goes : GoesOn text tokens
   pub onward : 0 < length tokens → from < at
-  pub same : lexemes ≡ map (lexeme_of text) tokens
 
-pub gathered_none : (text : List ℕ) (from : ℕ) (laws : TurnLaws text) → from ≤ length text → AreGathered text from from [] []
-gathered_none text from laws h = record { laws = laws; lexed = laws.nothing from h; goes = λ k d h. absurd (omega arith); onward = λ n. absurd (omega arith); same = refl }
+pub gathered_none : (text : List ℕ) (from : ℕ) (laws : TurnLaws text) → from ≤ length text → AreGathered text from from []
+gathered_none text from laws h = record { laws = laws; lexed = laws.nothing from h; goes = λ k d h. absurd (omega arith); onward = λ n. absurd (omega arith) }
 
-pub gathered_more : (text : List ℕ) (from at : ℕ) (ts : List Token) (ls : List Lexeme) (t : Token) → AreGathered text from at ts ls
-    → (at < t.to) × LexesTo text at t.to (t ∷ []) → is_at Symbol.Semicolon text t ≡ false → AreGathered text from t.to (ts ++ t ∷ []) (ls ++ lexeme_of text t ∷ [])
-gathered_more text from at ts ls t g n e = record {
+pub gathered_more : (text : List ℕ) (from at : ℕ) (ts : List Token) (t : Token) → AreGathered text from at ts
+    → (at < t.to) × LexesTo text at t.to (t ∷ []) → is_at Symbol.Semicolon text t ≡ false → AreGathered text from t.to (ts ++ t ∷ [])
+gathered_more text from at ts t g n e = record {
   laws = g.laws;
   lexed = g.laws.joined from at t.to ts (t ∷ []) g.lexed n.1;
   goes = All-push (λ t. is_at Symbol.Semicolon text t ≡ false) ts t g.goes e;
   onward = λ some. omega (arith, n.0, g.lexed.rises);
-  same = ap (λ ms. ms ++ lexeme_of text t ∷ []) g.same ∙ sym (map_push (lexeme_of text) ts t);
 }
 
 -- the stretch ends with a semicolon
-pub stretch_here : (text : List ℕ) (from at : ℕ) (ts : List Token) (ls : List Lexeme) (t : Token) → AreGathered text from at ts ls
+pub stretch_here : (text : List ℕ) (from at : ℕ) (ts : List Token) (t : Token) → AreGathered text from at ts
     → (at < t.to) × LexesTo text at t.to (t ∷ []) → is_at Symbol.Semicolon text t ≡ true → IsStretch text from t.to (ts ++ t ∷ [])
-stretch_here text from at ts ls t g n e = record {
+stretch_here text from at ts t g n e = record {
   lexed = g.laws.joined from at t.to ts (t ∷ []) g.lexed n.1;
   ends = inl (record { front = ts; last = t; cut = refl; goes = g.goes; semicolon = e; place = refl });
   onward = λ some. omega (arith, n.0, g.lexed.rises);
 }
 
 -- the stretch ends with the text
-pub stretch_end : (text : List ℕ) (from at : ℕ) (ts : List Token) (ls : List Lexeme) → AreGathered text from at ts ls → LexesTo text at (length text) []
+pub stretch_end : (text : List ℕ) (from at : ℕ) (ts : List Token) → AreGathered text from at ts → LexesTo text at (length text) []
     → IsStretch text from (length text) ts
-stretch_end text from at ts ls g n =
+stretch_end text from at ts g n =
     let lexed : LexesTo text from (length text) ts = subst (λ (us : List Token). LexesTo text from (length text) us) (append-nil ts) (g.laws.joined from at (length text) ts [] g.lexed n) in
     record {
       lexed = lexed;
@@ -63,24 +69,24 @@ stretch_end text from at ts ls g n =
       onward = λ some. omega (arith, g.onward some, g.lexed.inside);
     }
 
-pub stretch_out : (text : List ℕ) (from at : ℕ) (ts : List Token) (ls : List Lexeme) → AreGathered text from at ts ls → length text ≤ at → IsStretch text from at ts
-stretch_out text from at ts ls g h =
+pub stretch_out : (text : List ℕ) (from at : ℕ) (ts : List Token) → AreGathered text from at ts → length text ≤ at → IsStretch text from at ts
+stretch_out text from at ts g h =
     let end : at ≡ length text = omega (arith, g.lexed.inside) in
     subst (λ (n : ℕ). IsStretch text from n ts) (sym end)
-    (stretch_end text from at ts ls g (subst (λ (n : ℕ). LexesTo text n (length text) []) (sym end) (g.laws.nothing (length text) (omega arith))))
+    (stretch_end text from at ts g (subst (λ (n : ℕ). LexesTo text n (length text) []) (sym end) (g.laws.nothing (length text) (omega arith))))
 
 -- no token begins behind what was gathered
-pub stuck_behind : (text : List ℕ) (from at place : ℕ) (ts : List Token) (ls : List Lexeme) → AreGathered text from at ts ls → IsStuck text at place
+pub stuck_behind : (text : List ℕ) (from at place : ℕ) (ts : List Token) → AreGathered text from at ts → IsStuck text at place
     → LacksToken text from place
-stuck_behind text from at place ts ls g s = record {
+stuck_behind text from at place ts g s = record {
   tokens = ts;
   lexed = subst (λ (us : List Token). LexesTo text from place us) (append-nil ts) (g.laws.joined from at place ts [] g.lexed s.0);
   stuck = s.1;
 }
 
-pub stuck_next : (text : List ℕ) (from at place : ℕ) (ts : List Token) (ls : List Lexeme) → AreGathered text from at ts ls → IsStuck text at place
+pub stuck_next : (text : List ℕ) (from at place : ℕ) (ts : List Token) → AreGathered text from at ts → IsStuck text at place
     → RunsOnTo text from place
-stuck_next text from at place ts ls g s = record {
+stuck_next text from at place ts g s = record {
   tokens = ts;
   lexed = subst (λ (us : List Token). LexesTo text from place us) (append-nil ts) (g.laws.joined from at place ts [] g.lexed s.0);
   goes = g.goes;
@@ -151,3 +157,102 @@ lacks_next text from to ts d s h e = record {
   first = subst (BeginsAt (slice_index_or ts 0 d).from) (sym (first_of ts d h)) refl;
   refused = λ item r. none_and_some item (sym e ∙ written_is_read text ts item r);
 }
+
+-- ---- lexemes in place of the tokens
+
+-- these are the lexemes of tokens that stand behind `from`, up to `at`; no semicolon is among them
+pub record HaveLexemes (text : List ℕ) (from at : ℕ) (lexemes : List Lexeme) (first : Token) : Type 0 where
+  pub tokens : List Token
+  pub gathered : AreGathered text from at tokens
+  pub same : lexemes ≡ map (lexeme_of text) tokens
+  pub leads : LeadsIn first tokens
+
+pub lexemes_none : (text : List ℕ) (from : ℕ) (first : Token) (laws : TurnLaws text) → from ≤ length text → HaveLexemes text from from [] first
+lexemes_none text from first laws h = record { tokens = []; gathered = gathered_none text from laws h; same = refl; leads = tt }
+
+more_than_none : (n : ℕ) → (suc n == 0) ≡ false
+more_than_none n = grind (arith, nat_tests)
+
+leads_more : (first t : Token) (ts : List Token) (none : Bool) → none ≡ (length ts == 0) → LeadsIn first ts → LeadsIn (cond none t first) (ts ++ t ∷ [])
+leads_more first t [] none e l = ap (λ (b : Bool). cond b t first) e
+leads_more first t (u ∷ us) none e l = ap (λ (b : Bool). cond b t first) (e ∙ more_than_none (length us)) ∙ l
+
+leads_on : (text : List ℕ) (from at : ℕ) (ls : List Lexeme) (first t : Token) (none : Bool) (h : HaveLexemes text from at ls first) → none ≡ (length ls == 0)
+    → LeadsIn (cond none t first) (h.tokens ++ t ∷ [])
+leads_on text from at ls first t none h e =
+    leads_more first t h.tokens none (e ∙ ap (λ (n : ℕ). n == 0) (ap length h.same ∙ length-map h.tokens (lexeme_of text))) h.leads
+
+pushed : (text : List ℕ) (ts : List Token) (ls : List Lexeme) (t : Token) → ls ≡ map (lexeme_of text) ts → ls ++ lexeme_of text t ∷ [] ≡ map (lexeme_of text) (ts ++ t ∷ [])
+pushed text ts ls t e = ap (λ ms. ms ++ lexeme_of text t ∷ []) e ∙ sym (map_push (lexeme_of text) ts t)
+
+pub lexemes_more : (text : List ℕ) (from at : ℕ) (ls : List Lexeme) (first t : Token) (none : Bool) → HaveLexemes text from at ls first → none ≡ (length ls == 0)
+    → (at < t.to) × LexesTo text at t.to (t ∷ []) → is_at Symbol.Semicolon text t ≡ false → HaveLexemes text from t.to (ls ++ lexeme_of text t ∷ []) (cond none t first)
+lexemes_more text from at ls first t none h e n s = record {
+  tokens = h.tokens ++ t ∷ [];
+  gathered = gathered_more text from at h.tokens t h.gathered n s;
+  same = pushed text h.tokens ls t h.same;
+  leads = leads_on text from at ls first t none h e;
+}
+
+pub lexemes_here : (text : List ℕ) (from at : ℕ) (ls : List Lexeme) (first t : Token) (none : Bool) → HaveLexemes text from at ls first → none ≡ (length ls == 0)
+    → (at < t.to) × LexesTo text at t.to (t ∷ []) → is_at Symbol.Semicolon text t ≡ true → IsGathered text from (ls ++ lexeme_of text t ∷ []) (record { first = cond none t first; to = t.to })
+lexemes_here text from at ls first t none h e n s = record {
+  tokens = h.tokens ++ t ∷ [];
+  is_stretch = stretch_here text from at h.tokens t h.gathered n s;
+  same = pushed text h.tokens ls t h.same;
+  leads = leads_on text from at ls first t none h e;
+}
+
+pub lexemes_end : (text : List ℕ) (from at : ℕ) (ls : List Lexeme) (first : Token) → HaveLexemes text from at ls first → LexesTo text at (length text) []
+    → IsGathered text from ls (record { first = first; to = length text })
+lexemes_end text from at ls first h n = record { tokens = h.tokens; is_stretch = stretch_end text from at h.tokens h.gathered n; same = h.same; leads = h.leads }
+
+pub lexemes_out : (text : List ℕ) (from at : ℕ) (ls : List Lexeme) (first : Token) → HaveLexemes text from at ls first → length text ≤ at
+    → IsGathered text from ls (record { first = first; to = at })
+lexemes_out text from at ls first h n = record { tokens = h.tokens; is_stretch = stretch_out text from at h.tokens h.gathered n; same = h.same; leads = h.leads }
+
+-- what the lexemes of a stretch are read as
+item_is : (text : List ℕ) (first : Token) (ts : List Token) (ls : List Lexeme) → ls ≡ map (lexeme_of text) ts → LeadsIn first ts → 0 < length ts → begins Symbol.Predicate ls ≡ false
+    → item_at text ts ≡ option_map (λ what. placed first what) (whole_at max_depth ls)
+item_is text first [] ls e l h b = absurd (omega arith)
+item_is text first (t ∷ ts) ls e l h b =
+    let other : is_at Symbol.Predicate text t ≡ false = begins_first Symbol.Predicate text t (t ∷ ts) ts ls refl e ∙ b in
+    item_other text t (t ∷ ts) ts ls (whole_at max_depth ls) other refl e refl
+    ∙ ap (λ (u : Token). option_map (λ what. placed u what) (whole_at max_depth ls)) (sym l)
+
+first_is : (first d : Token) (ts : List Token) → LeadsIn first ts → 0 < length ts → slice_index_or ts 0 d ≡ first
+first_is first d [] l h = absurd (omega arith)
+first_is first d (t ∷ ts) l h = sym l
+
+some_tokens : (text : List ℕ) (from : ℕ) (ls : List Lexeme) (st : Stretch) (g : IsGathered text from ls st) → (length ls == 0) ≡ false → 0 < length g.tokens
+some_tokens text from ls st g h =
+    let same : length ls ≡ length g.tokens = ap length g.same ∙ length-map g.tokens (lexeme_of text) in
+    let some : 0 < length ls = by (length ls) h in
+    omega (arith, same, some)
+  where
+    by : (n : ℕ) → (n == 0) ≡ false → 0 < n
+    by zero e = absurd (true≢false e)
+    by (suc n) e = omega arith
+
+pub gathered_item : (text : List ℕ) (from : ℕ) (ls : List Lexeme) (st : Stretch) (item : ItemTree) → IsGathered text from ls st → (length ls == 0) ≡ false → begins Symbol.Predicate ls ≡ false
+    → option_map (λ what. placed st.first what) (whole_at max_depth ls) ≡ Some item → IsItemTo text from st.to item
+gathered_item text from ls st item g h b e =
+    item_to text from st.to g.tokens item g.is_stretch (some_tokens text from ls st g h)
+    (item_is text st.first g.tokens ls g.same g.leads (some_tokens text from ls st g h) b ∙ e)
+
+no_item : (text : List ℕ) (from : ℕ) (ls : List Lexeme) (st : Stretch) (g : IsGathered text from ls st) → (length ls == 0) ≡ false → begins Symbol.Predicate ls ≡ false
+    → whole_at max_depth ls ≡ None → item_at text g.tokens ≡ None
+no_item text from ls st g h b e =
+    item_is text st.first g.tokens ls g.same g.leads (some_tokens text from ls st g h) b ∙ ap (λ (o : Option WhatTree). option_map (λ what. placed st.first what) o) e
+
+pub gathered_lacks : (text : List ℕ) (laws : TurnLaws text) (from : ℕ) (ls : List Lexeme) (st : Stretch) → IsGathered text from ls st → (length ls == 0) ≡ false → begins Symbol.Predicate ls ≡ false
+    → whole_at max_depth ls ≡ None → LacksItem text from st.first.from st.to
+gathered_lacks text laws from ls st g h b e =
+    subst (λ (t : Token). LacksItem text from t.from st.to) (first_is st.first st.first g.tokens g.leads (some_tokens text from ls st g h))
+    (lacks_item text laws from st.to g.tokens st.first g.is_stretch (some_tokens text from ls st g h) (no_item text from ls st g h b e))
+
+pub gathered_lacks_next : (text : List ℕ) (from : ℕ) (ls : List Lexeme) (st : Stretch) → IsGathered text from ls st → (length ls == 0) ≡ false → begins Symbol.Predicate ls ≡ false
+    → whole_at max_depth ls ≡ None → LacksNext text from st.first.from st.to
+gathered_lacks_next text from ls st g h b e =
+    subst (λ (t : Token). LacksNext text from t.from st.to) (first_is st.first st.first g.tokens g.leads (some_tokens text from ls st g h))
+    (lacks_next text from st.to g.tokens st.first g.is_stretch (some_tokens text from ls st g h) (no_item text from ls st g h b e))

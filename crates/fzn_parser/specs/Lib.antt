@@ -1,3 +1,4 @@
+pub mod Gathering
 pub mod Grammar
 pub mod Items
 pub mod Notes

@@ -72,7 +72,7 @@ fn read_predicate(alloc: Global, text: &[u8], first: Token, more: &[Token]) -> R
 }
 
 /// The item that these lexemes are, where it is no predicate; `first` is the first of their tokens.
-fn read_other(alloc: Global, first: Token, lexemes: &[Lexeme]) -> Result<Item, Stop>
+pub(crate) fn read_other(alloc: Global, first: Token, lexemes: &[Lexeme]) -> Result<Item, Stop>
     ensures read { IfOk result (λ i. option_map (λ what. placed first what) (whole_at max_depth lexemes.now) ≡ Some (item_tree i)) }
     ensures refused { result ≡ Err Stop.Refused → whole_at max_depth lexemes.now ≡ None }
 {
@@ -107,7 +107,7 @@ fn read_stretch(
 }
 
 /// The item that these tokens are.
-fn read_item(alloc: Global, text: &[u8], stretch: &[Token]) -> Result<Item, Stop>
+pub(crate) fn read_item(alloc: Global, text: &[u8], stretch: &[Token]) -> Result<Item, Stop>
     ensures read { IfOk result (λ i. item_at text.now stretch.now ≡ Some (item_tree i)) }
     ensures refused { result ≡ Err Stop.Refused → item_at text.now stretch.now ≡ None }
 {

@@ -1,15 +1,16 @@
 //! Reads a text item by item.
 
-ghost use Rattle.std.specs.Prelude.{◌≡◌, ◌≤◌, ◌++◌, ◌∷◌, [], length, map, IfOk, OnOk, IfErr};
+ghost use Rattle.std.specs.Prelude.{◌≡◌, ◌≤◌, ◌++◌, ◌∷◌, [], length, map, cond, IfOk, OnOk, IfErr};
 ghost use Rattle.fzn_parser.specs.declared.cursor.Symbol.{Symbol as Sign};
 ghost use Rattle.fzn_parser.specs.Texts.{is_at, lexeme_of};
 ghost use Rattle.fzn_parser.specs.Stream.{IsStretch, IsNextItem, IsCause, TellsOfNext};
+ghost use Rattle.fzn_parser.specs.Gathering.{IsGathered};
 
-use crate::cursor::{Lexeme, Stop, Symbol, same_token};
-use crate::read_stretch;
-use crate::texts::lexeme_of;
+use crate::cursor::{Lexeme, Stop, Symbol, begins, same_token};
+use crate::texts::{is_at, lexeme_of};
 use crate::tree::Item;
-use fzn_lexer::{Token, law_tokens_in_turn, next_token};
+use crate::{read_item, read_other};
+use fzn_lexer::{Kind, Token, law_tokens_in_turn, next_mark, next_token};
 use std::alloc::{AllocError, AllocFailed, Global};
 use thiserror::Error;
 
@@ -38,10 +39,9 @@ impl From<AllocError> for ItemError {
     }
 }
 
-/// Room for the tokens of an item, which serves one item after the other.
+/// Room for the lexemes of an item, which serves one item after the other.
 #[derive(Drop)]
 pub struct Room {
-    tokens: Vec<Token>,
     lexemes: Vec<Lexeme>,
 }
 
@@ -49,27 +49,25 @@ impl Room {
     /// Room that takes no memory yet.
     pub fn new(alloc: Global) -> Room {
         Room {
-            tokens: Vec::new(alloc),
             lexemes: Vec::new(alloc),
         }
     }
 }
 
-/// Puts a token and its lexeme at the end, and tells whether it is a semicolon.
+/// A stretch of tokens: the first of them, where there is one, and the place behind them.
+#[derive(Clone, Copy)]
+pub struct Stretch {
+    pub(crate) first: Token,
+    pub(crate) to: usize,
+}
+
+/// Puts a token's lexeme at the end, and tells whether it is a semicolon.
 #[inline(always)]
-fn keep(
-    text: &[u8],
-    token: Token,
-    tokens: &mut Vec<Token>,
-    lexemes: &mut Vec<Lexeme>,
-) -> Result<bool, AllocError>
+fn keep(text: &[u8], token: Token, lexemes: &mut Vec<Lexeme>) -> Result<bool, AllocError>
     ensures ends { IfOk result (λ b. b ≡ is_at Sign.Semicolon text.now token) }
-    ensures tokens { OnOk result (tokens.new.items ≡ tokens.old.items ++ token ∷ []) }
     ensures lexemes { OnOk result (lexemes.new.items ≡ lexemes.old.items ++ lexeme_of text.now token ∷ []) }
 {
-    let token = same_token(token);
-    let lexeme = lexeme_of(text, token);
-    tokens.push(token)?;
+    let lexeme = lexeme_of(text, same_token(token));
     lexemes.push(lexeme)?;
     match lexeme {
         Lexeme::Fixed(found) => Ok(found.is_same(Symbol::Semicolon)),
@@ -77,28 +75,80 @@ fn keep(
     }
 }
 
-/// The first stretch of tokens behind the byte `from`, and their lexemes; it gives the place behind them.
-fn gather(
-    text: &[u8],
-    from: usize,
-    tokens: &mut Vec<Token>,
-    lexemes: &mut Vec<Lexeme>,
-) -> Result<usize, ItemError>
+/// The first of the tokens, where `token` is one more and there was none or this one.
+#[inline(always)]
+fn first_with(none: bool, first: Token, token: Token) -> Token
+    ensures { result ≡ cond none token first }
+{
+    if none { same_token(token) } else { first }
+}
+
+/// The lexemes of the first stretch of tokens behind the byte `from`.
+fn gather(text: &[u8], from: usize, lexemes: &mut Vec<Lexeme>) -> Result<Stretch, ItemError>
+    requires { from ≤ length text.now }
+    ensures stretch { IfOk result (IsGathered text.now from lexemes.new.items) }
+    ensures cause { IfErr result (IsCause text.now from) }
+    ensures next { IfErr result (TellsOfNext text.now from) }
+{
+    law_tokens_in_turn();
+    lexemes.clear();
+    let mut first = Token {
+        kind: Kind::Mark,
+        from,
+        to: from,
+    };
+    let mut at = from;
+    while at < text.len() {
+        if let Some(token) = next_mark(text, at) {
+            first = first_with(lexemes.is_empty(), first, token);
+            at = token.to;
+            if keep(text, token, lexemes)? {
+                return Ok(Stretch { first, to: at });
+            }
+        } else {
+            match next_token(text, at) {
+                Ok(Some(token)) => {
+                    first = first_with(lexemes.is_empty(), first, token);
+                    at = token.to;
+                    if keep(text, token, lexemes)? {
+                        return Ok(Stretch { first, to: at });
+                    }
+                }
+                Ok(None) => {
+                    let to = text.len();
+                    return Ok(Stretch { first, to });
+                }
+                Err(none) => return Err(ItemError::NoToken { at: none.at }),
+            }
+        }
+    }
+    Ok(Stretch { first, to: at })
+}
+
+/// Puts a token at the end, and tells whether it is a semicolon.
+fn keep_token(text: &[u8], token: Token, tokens: &mut Vec<Token>) -> Result<bool, AllocError>
+    ensures ends { IfOk result (λ b. b ≡ is_at Sign.Semicolon text.now token) }
+    ensures tokens { OnOk result (tokens.new.items ≡ tokens.old.items ++ token ∷ []) }
+{
+    tokens.push(token)?;
+    Ok(is_at(Symbol::Semicolon, text, token))
+}
+
+/// The first stretch of tokens behind the byte `from`; it gives the place behind them.
+fn gather_tokens(text: &[u8], from: usize, tokens: &mut Vec<Token>) -> Result<usize, ItemError>
     requires { from ≤ length text.now }
     ensures stretch { IfOk result (λ to. IsStretch text.now from to tokens.new.items) }
-    ensures lexemes { OnOk result (lexemes.new.items ≡ map (lexeme_of text.now) tokens.new.items) }
     ensures cause { IfErr result (IsCause text.now from) }
     ensures next { IfErr result (TellsOfNext text.now from) }
 {
     law_tokens_in_turn();
     tokens.clear();
-    lexemes.clear();
     let mut at = from;
     while at < text.len() {
         match next_token(text, at) {
             Ok(Some(token)) => {
                 at = token.to;
-                if keep(text, token, tokens, lexemes)? {
+                if keep_token(text, token, tokens)? {
                     return Ok(at);
                 }
             }
@@ -107,6 +157,34 @@ fn gather(
         }
     }
     Ok(at)
+}
+
+/// The first item behind the byte `from`, as `next_item` gives it. The tokens of a predicate item are kept, so they are gathered.
+#[inline(never)]
+fn next_predicate(
+    alloc: Global,
+    text: &[u8],
+    from: usize,
+) -> Result<Option<(Item, usize)>, ItemError>
+    requires { from ≤ length text.now }
+    ensures item { IfOk result (IsNextItem text.now from) }
+    ensures cause { IfErr result (IsCause text.now from) }
+    ensures next { IfErr result (TellsOfNext text.now from) }
+{
+    law_tokens_in_turn();
+    let mut tokens = Vec::new(alloc);
+    let to = gather_tokens(text, from, &mut tokens)?;
+    if tokens.is_empty() {
+        return Ok(None);
+    }
+    match read_item(alloc, text, tokens.as_slice()) {
+        Ok(item) => Ok(Some((item, to))),
+        Err(Stop::Refused) => Err(ItemError::NoItem {
+            at: tokens[0].from,
+            to,
+        }),
+        Err(Stop::NoMemory) => Err(ItemError::NoMemory),
+    }
 }
 
 /// The first item behind the byte `from` of `text`, with the place behind its tokens, or none where no token is left.
@@ -124,15 +202,18 @@ pub fn next_item(
     ensures next { IfErr result (TellsOfNext text.now from) }
 {
     law_tokens_in_turn();
-    let to = gather(text, from, &mut room.tokens, &mut room.lexemes)?;
-    if room.tokens.is_empty() {
+    let stretch = gather(text, from, &mut room.lexemes)?;
+    if room.lexemes.is_empty() {
         return Ok(None);
     }
-    match read_stretch(alloc, text, room.tokens.as_slice(), room.lexemes.as_slice()) {
-        Ok(item) => Ok(Some((item, to))),
+    if begins(Symbol::Predicate, room.lexemes.as_slice()) {
+        return next_predicate(alloc, text, from);
+    }
+    match read_other(alloc, stretch.first, room.lexemes.as_slice()) {
+        Ok(item) => Ok(Some((item, stretch.to))),
         Err(Stop::Refused) => Err(ItemError::NoItem {
-            at: room.tokens[0].from,
-            to,
+            at: stretch.first.from,
+            to: stretch.to,
         }),
         Err(Stop::NoMemory) => Err(ItemError::NoMemory),
     }

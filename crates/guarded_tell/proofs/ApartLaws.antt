@@ -16,7 +16,7 @@ use Rattle.sum_tells.specs.Linear.{Term, IsLinear, sum_over, least_of, greatest_
 use Rattle.sum_tells.specs.Equality.{is_same, low_is_not, high_is_not, product_is_not, equation_tells, equal_tell, equal_tells, unequal_tell, unequal_tells, eq_tells}
 use Rattle.clause_tells.specs.Clause.{clause_tells, sole_tells}
 use Rattle.guarded_tell.specs.declared.kernel.Kernel.{Kernel}
-use Rattle.guarded_tell.specs.declared.shape.Shape.TheVariants.{Same, Either}
+use Rattle.guarded_tell.specs.declared.shape.Shape.TheVariants.{Same, Either, Triple}
 use Rattle.guarded_tell.specs.Kernels.{tells, HasNumbers, IsKernel}
 use Rattle.guarded_tell.specs.Shapes.{IsShapeOf}
 use Rattle.tell_laws.specs.Narrowing.{narrows, narrowing}
@@ -161,3 +161,22 @@ either_told b l m =
 pub either_tells : (b : Bounds) (k : Kernel) (l m : Lit) → IsShapeOf k (Either l m) → narrowing_tells k b ≡ narrowing b (clause_tells (l ∷ m ∷ []) b)
 unfolding IsShapeOf tells
 either_tells b k l m e = (λ i. narrowing b (tells (e i) b))
+
+-- ---- a clause of three literals: each is told true where both others are out
+
+abbrev pub triple_first : Bounds → Lit → Lit → Lit → List Tell
+triple_first b l m n = when (is_out m b && is_out n b) (tell_true l ∷ [])
+
+pub triple_told : (b : Bounds) (l m n : Lit) → narrowing b (clause_tells (l ∷ m ∷ n ∷ []) b)
+    ≡ narrowing b (triple_first b l m n) ++ (narrowing b (triple_first b m l n) ++ narrowing b (triple_first b n l m))
+unfolding clause_tells sole_tells
+triple_told b l m n =
+    (λ i. narrowing b (when (is_out m b && and_true (is_out n b) i) (tell_true l ∷ [])
+    ++ (when (is_out l b && and_true (is_out n b) i) (tell_true m ∷ []) ++ (when (and_true (is_out l b && is_out m b) i) (tell_true n ∷ []) ++ []))))
+    ∙ (λ i. narrowing b (triple_first b l m n ++ (triple_first b m l n ++ append-nil (triple_first b n l m) i)))
+    ∙ filter-append (narrows b) (triple_first b l m n) (triple_first b m l n ++ triple_first b n l m)
+    ∙ (λ i. narrowing b (triple_first b l m n) ++ filter-append (narrows b) (triple_first b m l n) (triple_first b n l m) i)
+
+pub triple_tells : (b : Bounds) (k : Kernel) (l m n : Lit) → IsShapeOf k (Triple l m n) → narrowing_tells k b ≡ narrowing b (clause_tells (l ∷ m ∷ n ∷ []) b)
+unfolding IsShapeOf tells
+triple_tells b k l m n e = (λ i. narrowing b (tells (e i) b))

@@ -1,5 +1,6 @@
 pub mod ShapeLaws
 pub mod OpenLaws
+pub mod SoleLaws
 pub mod RoomLaws
 pub mod ClauseQuiet
 pub mod ShapeQuiet

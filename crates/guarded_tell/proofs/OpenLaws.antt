@@ -43,10 +43,10 @@ below l h low high p q e f t = omega (arith, ints)
 
 module _ (b : Bounds) where
   -- how far the values of a term reach, and those of a sum
-  abbrev growth : Term → ℤ
+  abbrev pub growth : Term → ℤ
   growth t = greatest_of b t -ℤ least_of b t
 
-  abbrev reach : List Term → ℤ
+  abbrev pub reach : List Term → ℤ
   reach ts = sum_over (greatest_of b) ts -ℤ sum_over (least_of b) ts
 
   rises : (t : Term) → least_of b t ≤ℤ greatest_of b t
@@ -59,11 +59,20 @@ module _ (b : Bounds) where
   reach_from (t ∷ ts) = let r = rises t in let rest = reach_from ts in omega (arith, ints)
 
   -- a sum reaches as far as one of its terms, and as two
-  one_within : (ts : List Term) (i : ℕ) (d : Term) → i < length ts → growth (get_or ts i d) ≤ℤ reach ts
+  pub one_within : (ts : List Term) (i : ℕ) (d : Term) → i < length ts → growth (get_or ts i d) ≤ℤ reach ts
   unfolding sum_over
   one_within [] i d h = absurd (omega arith)
   one_within (t ∷ ts) zero d h = let rest = reach_from ts in omega (arith, ints)
   one_within (t ∷ ts) (suc i) d h = let r = rises t in let rest = one_within ts i d (omega arith) in omega (arith, ints)
+
+  -- and as a term that is told and one beside it
+  pub beside_within : (ts : List Term) (i k : ℕ) (d : Term) → i < length ts → k < length ts → (k ≡ i → ⊥) → (growth (get_or ts i d) +ℤ growth (get_or ts k d)) ≤ℤ reach ts
+  unfolding sum_over
+  beside_within [] i k d h l n = absurd (omega arith)
+  beside_within (t ∷ ts) zero zero d h l n = absurd (n refl)
+  beside_within (t ∷ ts) zero (suc k) d h l n = let rest = one_within ts k d (omega arith) in omega (arith, ints)
+  beside_within (t ∷ ts) (suc i) zero d h l n = let rest = one_within ts i d (omega arith) in omega (arith, ints)
+  beside_within (t ∷ ts) (suc i) (suc k) d h l n = let r = rises t in let rest = beside_within ts i k d (omega arith) (omega arith) (λ e. n (omega arith)) in omega (arith, ints)
 
   two_within : (ts : List Term) (i j : ℕ) (d : Term) → i < j → j < length ts → (growth (get_or ts i d) +ℤ growth (get_or ts j d)) ≤ℤ reach ts
   unfolding sum_over

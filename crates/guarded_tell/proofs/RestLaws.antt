@@ -15,7 +15,7 @@ use Rattle.clause_tells.specs.Clause.{clause_vars}
 use Rattle.small_sums.specs.declared.pairs.Pair.{Pair}
 use Rattle.guarded_tell.specs.declared.kernel.Kernel.{Kernel}
 use Rattle.guarded_tell.specs.declared.kernel.Kernel.TheVariants.{Eq, Clause}
-use Rattle.guarded_tell.specs.declared.shape.Shape.TheVariants.{AtMost, Same, Either}
+use Rattle.guarded_tell.specs.declared.shape.Shape.TheVariants.{AtMost, Same, Either, Triple}
 use Rattle.small_sums.specs.Short.{IsPairUnequalQuiet}
 use Rattle.guarded_tell.specs.Open.{AreTwoOpen}
 use Rattle.guarded_tell.specs.Kernels.{vars_of, tells, HasNumbers, IsKernel, IsClosedUnder}
@@ -24,7 +24,7 @@ use Rattle.guarded_tell.specs.Rests.{IsFixedAt, IsEntailed, IsQuietUntilFixed, I
 use Rattle.tell_laws.proofs.LiteralLaws.{by_bool, sure_inside, out_inside}
 use Rattle.small_sums.proofs.PairLaws.{plain_term, opposite_term}
 use Rattle.small_sums.proofs.QuietLaws.{not_sure}
-use Rattle.guarded_tell.proofs.ShapeQuiet.{HasPlaces, at_most_places, same_places, either_places, at_most_shape, same_shape}
+use Rattle.guarded_tell.proofs.ShapeQuiet.{HasPlaces, at_most_places, same_places, either_places, triple_places, at_most_shape, same_shape}
 use Rattle.guarded_tell.proofs.ClauseQuiet.{sure_quiet}
 use Rattle.guarded_tell.proofs.OpenLaws.{open_term, open_quiet}
 
@@ -276,6 +276,28 @@ module _ (quotients : QuotientOrder) (clamped : ClampOrder) (b : Bounds) (k : Ke
             (⊎_elim
             (λ s. sure_quiet clamped c lits 0 l (omega arith) (sure_lies b c l first s))
             (λ s. sure_quiet clamped c lits 1 l (omega arith) (sure_lies b c m second s))
+            sure);
+      }
+
+  pub triple_entailed : (l m n : Lit) → IsShapeOf k (Triple l m n) → (is_sure l b ≡ true) ⊎ ((is_sure m b ≡ true) ⊎ (is_sure n b ≡ true)) → IsEntailed k b
+  unfolding IsShapeOf tells
+  triple_entailed l m n shape sure c inside prop =
+      let kc = kernel_in c inside in
+      let places = triple_places k c l m n kc prop shape in
+      let same = inside.same_length in
+      let a = places.first in let d = places.second in let f = places.third in
+      let first = lies b c l.var inside (omega arith) places.first_proper in
+      let second = lies b c m.var inside (omega arith) places.second_proper in
+      let third = lies b c n.var inside (omega arith) places.third_proper in
+      let lits : List Lit = l ∷ m ∷ n ∷ [] in
+      record {
+        proper = prop;
+        kept = subst (λ (j : Kernel). All (Keeps c) (tells j c)) (sym shape)
+            (⊎_elim
+            (λ s. sure_quiet clamped c lits 0 l (omega arith) (sure_lies b c l first s))
+            (⊎_elim
+            (λ s. sure_quiet clamped c lits 1 l (omega arith) (sure_lies b c m second s))
+            (λ s. sure_quiet clamped c lits 2 l (omega arith) (sure_lies b c n third s)))
             sure);
       }
 

@@ -13,14 +13,14 @@ use Rattle.guarded_tell.specs.Words.{Keeps, IsProperIn, is_sure, is_out}
 use Rattle.small_sums.specs.declared.pairs.Pair.{Pair}
 use Rattle.guarded_tell.specs.declared.kernel.Kernel.{Kernel}
 use Rattle.guarded_tell.specs.declared.kernel.Kernel.TheVariants.{Eq, Clause}
-use Rattle.guarded_tell.specs.declared.shape.Shape.TheVariants.{AtMost, Same, Either}
+use Rattle.guarded_tell.specs.declared.shape.Shape.TheVariants.{AtMost, Same, Either, Triple}
 use Rattle.guarded_tell.specs.declared.resting.Rest.{Rest}
 use Rattle.guarded_tell.specs.declared.resting.Rest.TheVariants.{Awake, UntilFixed, ForGood}
 use Rattle.guarded_tell.specs.Kernels.{vars_of, tells, IsKernel}
 use Rattle.guarded_tell.specs.Shapes.{IsDifferenceIn, IsShapeOf}
-use Rattle.guarded_tell.specs.Rests.{IsEntailed, IsQuietUntilFixed, IsRest, IsQuietFor, IsAtMostFor, IsSameFor, IsUnequalFor, IsEitherFor, IsClauseFor, IsOpenSum}
-use Rattle.guarded_tell.proofs.ShapeQuiet.{at_most_shape, same_shape, either_shape}
-use Rattle.guarded_tell.proofs.RestLaws.{at_most_entailed, same_entailed, same_until_fixed, either_entailed, clause_entailed, sum_until_fixed}
+use Rattle.guarded_tell.specs.Rests.{IsEntailed, IsQuietUntilFixed, IsRest, IsQuietFor, IsAtMostFor, IsSameFor, IsUnequalFor, IsEitherFor, IsTripleFor, IsClauseFor, IsOpenSum}
+use Rattle.guarded_tell.proofs.ShapeQuiet.{at_most_shape, same_shape, either_shape, triple_shape}
+use Rattle.guarded_tell.proofs.RestLaws.{at_most_entailed, same_entailed, same_until_fixed, either_entailed, triple_entailed, clause_entailed, sum_until_fixed}
 
 -- what is seen of a sum that must not be the limit is seen of an equation whose literal is out
 unequal_for : (b : Bounds) (l : Lit) (limit : ℤ) (p : Pair) → is_out l b ≡ true → is_sure l b ≡ false → (r : Rest) → IsUnequalFor limit p r → IsSameFor b l limit p r
@@ -85,6 +85,16 @@ module _ (quotients : QuotientOrder) (clamped : ClampOrder) (b : Bounds) (k : Ke
       pub either_seen : (o : Option Rest) → MatchOption o (Unit {0}) (IsEitherFor l m b) → MatchOption o (Unit {0}) (IsQuietFor k b)
       either_seen None q = tt
       either_seen (Some r) q = either_for r q
+
+    module _ (l m n : Lit) (shape : IsShapeOf k (Triple l m n)) where
+      triple_for : (r : Rest) → IsTripleFor l m n b r → IsQuietFor k b r
+      triple_for Awake q = record { kept = triple_shape b k l m n shape q; rest = tt }
+      triple_for UntilFixed q = absurd q
+      triple_for ForGood q = for_good (triple_entailed quotients clamped b k kernel l m n shape q)
+
+      pub triple_seen : (o : Option Rest) → MatchOption o (Unit {0}) (IsTripleFor l m n b) → MatchOption o (Unit {0}) (IsQuietFor k b)
+      triple_seen None q = tt
+      triple_seen (Some r) q = triple_for r q
 
   -- ---- by the places that were remembered
 

@@ -9,7 +9,7 @@ use Rattle.sum_tells.specs.Linear.{IsLinear}
 use Rattle.guarded_tell.specs.declared.kernel.Kernel.{Kernel}
 use Rattle.guarded_tell.specs.declared.kernel.Kernel.TheVariants.{Le, Eq, Times, Div, Mod, Abs, Max, Min, Clause, Element, InSet, AllDiff, Cumulative}
 use Rattle.guarded_tell.specs.declared.shape.Shape.{Shape}
-use Rattle.guarded_tell.specs.declared.shape.Shape.TheVariants.{AtMost, Same, Either, Slight, Other}
+use Rattle.guarded_tell.specs.declared.shape.Shape.TheVariants.{AtMost, Same, Either, Triple, Slight, Other}
 use Rattle.guarded_tell.specs.Kernels.{HasNumbers}
 use Rattle.guarded_tell.specs.Shapes.{IsDifference, IsSlightSum, IsShapeOf}
 use Rattle.small_sums.specs.Slight.{AreSlight}
@@ -21,6 +21,14 @@ two_items [] x y h e f = absurd (omega arith)
 two_items (a ∷ []) x y h e f = absurd (omega arith)
 two_items (a ∷ c ∷ d ∷ xs) x y h e f = absurd (omega arith)
 two_items (a ∷ c ∷ []) x y h e f = λ i. sym e i ∷ sym f i ∷ []
+
+-- a list of three items
+pub three_items : {A : Type 0} (xs : List A) (x y z : A) → length xs ≡ 3 → x ≡ get_or xs 0 x → y ≡ get_or xs 1 y → z ≡ get_or xs 2 z → xs ≡ x ∷ y ∷ z ∷ []
+three_items [] x y z h e f g = absurd (omega arith)
+three_items (a ∷ []) x y z h e f g = absurd (omega arith)
+three_items (a ∷ c ∷ []) x y z h e f g = absurd (omega arith)
+three_items (a ∷ c ∷ d ∷ k ∷ xs) x y z h e f g = absurd (omega arith)
+three_items (a ∷ c ∷ d ∷ []) x y z h e f g = λ i. sym e i ∷ sym f i ∷ sym g i ∷ []
 
 pub item_and_last : {A : Type 0} (xs front : List A) (x last : A) → xs ≡ front ++ last ∷ [] → length front ≡ 1 → x ≡ get_or front 0 x → xs ≡ x ∷ last ∷ []
 item_and_last xs [] x last e h f = absurd (omega arith)
@@ -99,6 +107,7 @@ module _ (l : Lit) (coeffs : List ℤ) (vars : List ℕ) (limit : ℤ) (none : (
   other_inequality k e (AtMost m x y bound) (cs, vs, f, d) = absurd (no_difference cs vs x y (ap coeffs_of (sym e ∙ f)) (ap terms_of (sym e ∙ f)) d)
   other_inequality k e (Same m x y bound) (cs, vs, f, d) = absurd (cc)
   other_inequality k e (Either m n) f = absurd (cc)
+  other_inequality k e (Triple m n o) f = absurd (cc)
   other_inequality k e Slight (m, cs, vs, bound, inl f, s) = absurd (rough (subst AreSlight (ap coeffs_of (sym f ∙ e)) s))
   other_inequality k e Slight (m, cs, vs, bound, inr f, s) = absurd (cc)
   other_inequality k e Other f = refl
@@ -108,18 +117,20 @@ module _ (l : Lit) (coeffs : List ℤ) (vars : List ℕ) (limit : ℤ) (none : (
   other_equation k e (AtMost m x y bound) (cs, vs, f, d) = absurd (cc)
   other_equation k e (Same m x y bound) (cs, vs, f, d) = absurd (no_difference cs vs x y (ap coeffs_of (sym e ∙ f)) (ap terms_of (sym e ∙ f)) d)
   other_equation k e (Either m n) f = absurd (cc)
+  other_equation k e (Triple m n o) f = absurd (cc)
   other_equation k e Slight (m, cs, vs, bound, inl f, s) = absurd (cc)
   other_equation k e Slight (m, cs, vs, bound, inr f, s) = absurd (rough (subst AreSlight (ap coeffs_of (sym f ∙ e)) s))
   other_equation k e Other f = refl
 
-pub other_clause : (lits : List Lit) → (length lits ≡ 2 → ⊥) → (s : Shape) → IsShapeOf (Clause lits) s → s ≡ Other
+pub other_clause : (lits : List Lit) → (length lits ≡ 2 → ⊥) → (length lits ≡ 3 → ⊥) → (s : Shape) → IsShapeOf (Clause lits) s → s ≡ Other
 unfolding IsShapeOf literals_of
-other_clause lits n (AtMost m x y bound) (cs, vs, f, d) = absurd (cc)
-other_clause lits n (Same m x y bound) (cs, vs, f, d) = absurd (cc)
-other_clause lits n (Either l m) f = absurd (n (ap (λ (k : Kernel). length (literals_of k)) f))
-other_clause lits n Slight (m, cs, vs, bound, inl f, s) = absurd (cc)
-other_clause lits n Slight (m, cs, vs, bound, inr f, s) = absurd (cc)
-other_clause lits n Other f = refl
+other_clause lits n t (AtMost m x y bound) (cs, vs, f, d) = absurd (cc)
+other_clause lits n t (Same m x y bound) (cs, vs, f, d) = absurd (cc)
+other_clause lits n t (Either l m) f = absurd (n (ap (λ (k : Kernel). length (literals_of k)) f))
+other_clause lits n t (Triple l m o) f = absurd (t (ap (λ (k : Kernel). length (literals_of k)) f))
+other_clause lits n t Slight (m, cs, vs, bound, inl f, s) = absurd (cc)
+other_clause lits n t Slight (m, cs, vs, bound, inr f, s) = absurd (cc)
+other_clause lits n t Other f = refl
 
 pub any_is_other : (k : Kernel) → IsShapeOf k Other
 unfolding IsShapeOf
@@ -131,6 +142,7 @@ unfolding IsShapeOf
 other_kernel k p q r (AtMost m x y bound) (cs, vs, f, d) = absurd (p m cs vs bound f)
 other_kernel k p q r (Same m x y bound) (cs, vs, f, d) = absurd (q m cs vs bound f)
 other_kernel k p q r (Either l m) f = absurd (r (l ∷ m ∷ []) f)
+other_kernel k p q r (Triple l m n) f = absurd (r (l ∷ m ∷ n ∷ []) f)
 other_kernel k p q r Slight (m, cs, vs, bound, inl f, s) = absurd (p m cs vs bound f)
 other_kernel k p q r Slight (m, cs, vs, bound, inr f, s) = absurd (q m cs vs bound f)
 other_kernel k p q r Other f = refl

@@ -16,10 +16,11 @@ use Rattle.small_sums.specs.declared.short.SmallTerm.{SmallTerm}
 use Rattle.small_sums.specs.declared.short.Sums.{Sums}
 use Rattle.small_sums.specs.declared.pairs.Pair.{Pair}
 use Rattle.guarded_tell.specs.declared.kernel.Kernel.{Kernel}
-use Rattle.guarded_tell.specs.declared.shape.Shape.TheVariants.{AtMost, Same, Either}
+use Rattle.guarded_tell.specs.declared.shape.Shape.TheVariants.{AtMost, Same, Either, Triple}
 use Rattle.small_sums.specs.Short.{AreSums, sums_of_two, IsPairAtMostQuiet, IsPairEquationQuiet}
 use Rattle.guarded_tell.specs.Kernels.{vars_of, tells, HasNumbers, IsKernel}
 use Rattle.guarded_tell.specs.Shapes.{IsDifference, IsDifferenceIn, IsShapeOf}
+use Rattle.guarded_tell.specs.Rests.{AreTwoLeft}
 use Rattle.small_sums.proofs.ShortLaws.{short_number}
 use Rattle.small_sums.proofs.PairLaws.{two_sums, pair_at_most, pair_equation}
 use Rattle.small_sums.proofs.QuietLaws.{at_most_quiet, equation_quiet}
@@ -87,6 +88,28 @@ either_places k b l m kernel proper e =
       second_proper = left 1 (omega arith);
     }
 
+pub record HasThree (b : Bounds) (l m n : Lit) : Type 0 where
+  pub first : l.var < length b
+  pub second : m.var < length b
+  pub third : n.var < length b
+  pub first_proper : low_of b l.var ≤ℤ high_of b l.var
+  pub second_proper : low_of b m.var ≤ℤ high_of b m.var
+  pub third_proper : low_of b n.var ≤ℤ high_of b n.var
+
+pub triple_places : (k : Kernel) (b : Bounds) (l m n : Lit) → IsKernel (length b) k → IsProperIn (vars_of k) b → IsShapeOf k (Triple l m n) → HasThree b l m n
+unfolding IsShapeOf vars_of clause_vars
+triple_places k b l m n kernel proper e =
+    let there : AreVariables (length b) (l.var ∷ m.var ∷ n.var ∷ []) = subst (λ (j : Kernel). AreVariables (length b) (vars_of j)) e kernel.variables in
+    let left : IsProperIn (l.var ∷ m.var ∷ n.var ∷ []) b = subst (λ (j : Kernel). IsProperIn (vars_of j) b) e proper in
+    record {
+      first = there.each 0 (omega arith);
+      second = there.each 1 (omega arith);
+      third = there.each 2 (omega arith);
+      first_proper = left 0 (omega arith);
+      second_proper = left 1 (omega arith);
+      third_proper = left 2 (omega arith);
+    }
+
 -- ---- where a short shape leaves room, no tell of its kernel narrows
 
 swapped : (t u : SmallTerm) → sums_of_two u t ≡ sums_of_two t u
@@ -133,3 +156,9 @@ unfolding IsShapeOf tells
 either_shape b k l m e f g =
     let lits : List Lit = l ∷ m ∷ [] in
     subst (λ (j : Kernel). All (Keeps b) (tells j b)) (sym e) (two_quiet b lits 0 1 l (omega arith) (omega arith) f g)
+
+pub triple_shape : (b : Bounds) (k : Kernel) (l m n : Lit) → IsShapeOf k (Triple l m n) → AreTwoLeft l m n b → All (Keeps b) (tells k b)
+unfolding IsShapeOf tells
+triple_shape b k l m n e (inl (f, g)) = subst (λ (j : Kernel). All (Keeps b) (tells j b)) (sym e) (two_quiet b (l ∷ m ∷ n ∷ []) 0 1 l (omega arith) (omega arith) f g)
+triple_shape b k l m n e (inr (inl (f, g))) = subst (λ (j : Kernel). All (Keeps b) (tells j b)) (sym e) (two_quiet b (l ∷ m ∷ n ∷ []) 0 2 l (omega arith) (omega arith) f g)
+triple_shape b k l m n e (inr (inr (f, g))) = subst (λ (j : Kernel). All (Keeps b) (tells j b)) (sym e) (two_quiet b (l ∷ m ∷ n ∷ []) 1 2 l (omega arith) (omega arith) f g)

@@ -1,13 +1,13 @@
 -- Clauses, and inequalities that have to hold, narrow nothing further inside as long as the bounds that they read stay.
-use Rattle.std.proofs.Common.{◌≡◌, ℕ, zero, suc, ◌+◌, ◌<◌, ◌≤◌, List, [], ◌∷◌, ◌++◌, length, get_or, Bool, true, false, not, ◌&&◌, cond, ℤ, pos, ◌*ℤ◌, ◌-ℤ◌, ◌≤ℤ◌, ◌<ℤ◌, negsuc, refl, sym, subst, ap, ◌∙◌, arith}
+use Rattle.std.proofs.Common.{◌≡◌, ℕ, zero, suc, ◌+◌, ◌==◌, ◌<◌, ◌≤◌, List, [], ◌∷◌, ◌++◌, length, get_or, Bool, true, false, not, ◌&&◌, cond, ℤ, pos, ◌*ℤ◌, ◌-ℤ◌, ◌≤ℤ◌, ◌<ℤ◌, negsuc, refl, sym, subst, ap, ◌∙◌, arith}
 use Rattle.std.proofs.lemmas.Int.{ints, clamps}
-use Rattle.std.proofs.lemmas.Bool.{and_from, and_parts, and_right, not_from_true, not_from_false, both_ways}
+use Rattle.std.proofs.lemmas.Bool.{and_from, and_parts, and_right, not_from_true, not_from_false, both_ways, true≢false}
+use Rattle.std.proofs.lemmas.Bool.Decides.{Decides-eqb}
 use Rattle.std.proofs.lemmas.List.{length-map, get_or-map, get_or_past}
 use Rattle.std.proofs.Math.Nat.{mul-le-mul_left}
 use borrow.Author.Differences.{up, down}
 use Rattle.std.proofs.lemmas.List.Elements.{All-append}
 use Rattle.std.specs.Int.RustNames.{int_lt, int_le}
-use Rattle.std.specs.Bool.{OnTrue}
 use Rattle.std.specs.List.{All, list_all, zip, flat_map}
 use Rattle.tells.specs.declared.tell.Lit.{Lit}
 use Rattle.tells.specs.declared.tell.Tell.{Tell}
@@ -19,13 +19,11 @@ use Rattle.tells.specs.Words.{when, Keeps, is_sure, is_out, literal_true, tell_t
 use Rattle.sum_tells.specs.Linear.{Term, least_of, greatest_of, sum_over, at_most_tell, more_than_tell, literal_tells, sure_tells, out_tells, bound_tells, at_most_tells, product_at_most}
 use Rattle.clause_tells.specs.Clause.{clause_vars, clause_tells, sole_tells}
 use Rattle.guarded_tell.specs.declared.kernel.Kernel.{Kernel}
-use Rattle.guarded_tell.specs.declared.kernel.Kernel.TheVariants.{Le, Clause}
-use Rattle.guarded_tell.specs.declared.shape.Shape.TheVariants.{AtMost, Either}
-use Rattle.guarded_tell.specs.Kernels.{vars_of, tells, HasNumbers, IsKernel, IsClosedUnder}
-use Rattle.guarded_tell.specs.Shapes.{IsShapeOf}
-use Rattle.guarded_tell.specs.Sides.{sides_of, side_of_term, side_of_literal, side_of_sure, SameSide, AgreeInRead, Reads, IsOneSided}
+use Rattle.guarded_tell.specs.declared.kernel.Kernel.TheVariants.{Le, Eq, Times, Div, Mod, Abs, Max, Min, Clause, Element, InSet, AllDiff, Cumulative}
+use Rattle.guarded_tell.specs.Kernels.{vars_of, tells, HasNumbers, IsClosedUnder}
+use Rattle.guarded_tell.specs.Sides.{sides_of, side_of_term, side_of_literal, side_of_sure, SameSide, AgreeInRead, IsOneSided, is_sided}
 use Rattle.tell_laws.proofs.Lists.{All-left, All-right, All-one, All-when, when-All, flat_map_same}
-use Rattle.tell_laws.proofs.LiteralLaws.{by_bool, sure_inside}
+use Rattle.tell_laws.proofs.LiteralLaws.{by_bool}
 use Rattle.clause_tells.proofs.ClauseTells.{length-clause, get_or-clause}
 use Rattle.sum_tells.proofs.SumLists.{sum_same}
 use Rattle.sum_tells.proofs.TermLaws.{length-zip, get_or-zip}
@@ -117,7 +115,7 @@ literal_agrees b c lits same i d l =
     subst (SameSide side b c) (get_or-clause lits i d l)
     (same i side at (omega (arith, length-map lits side_of_literal), get_or-map side_of_literal lits i d side l))
 
-pub clause_one_sided : (lits : List Lit) (b : Bounds) → IsOneSided (Clause lits) b
+clause_one_sided : (lits : List Lit) (b : Bounds) → IsOneSided (Clause lits) b
 unfolding vars_of tells
 clause_one_sided lits b outer inner within inside proper same kept =
     let wide = proper_outside inner outer inside (clause_vars lits) proper in
@@ -223,14 +221,13 @@ sure_outside l b c p same e =
     let parts = and_parts (literal_true l (low_of c l.var)) (literal_true l (high_of c l.var)) e in
     sure_sign l.positive l.var b c p same parts.0 parts.1
 
-pub at_most_one_sided : ClampOrder → (l : Lit) (coeffs : List ℤ) (vars : List ℕ) (limit : ℤ) (b : Bounds) → IsKernel (length b) (Le l coeffs vars limit) → is_sure l b ≡ true → IsOneSided (Le l coeffs vars limit) b
+at_most_one_sided : ClampOrder → (l : Lit) (coeffs : List ℤ) (vars : List ℕ) (limit : ℤ) (outer inner : Bounds) → HasNumbers (Le l coeffs vars limit) → is_sure l inner ≡ true → IsInside inner outer
+    → IsProperIn (l.var ∷ vars) inner → AgreeInRead (Le l coeffs vars limit) outer inner → All (Keeps inner) (at_most_tells l coeffs vars limit outer) → IsClosedUnder (Le l coeffs vars limit) inner
 unfolding vars_of tells HasNumbers
-at_most_one_sided clamped l coeffs vars limit b kernel sure outer inner within inside proper same kept =
-    let lengths = kernel.numbers.same_length in
+at_most_one_sided clamped l coeffs vars limit outer inner numbers two inside proper same kept =
+    let lengths = numbers.same_length in
     let wide = proper_outside inner outer inside (l.var ∷ vars) proper in
     let own = wide 0 (omega arith) in
-    let new = proper 0 (omega arith) in
-    let two = sure_inside inner b l (low_rises inner b within l.var) new (high_falls inner b within l.var) sure in
     let one = sure_outside l outer inner own (literal_agrees_sure outer inner l coeffs vars limit same) two in
     let least : (i : ℕ) → i < length (zip coeffs vars) → least_of outer (get_or (zip coeffs vars) i (pos 0, 0)) ≡ least_of inner (get_or (zip coeffs vars) i (pos 0, 0)) =
     λ i h.
@@ -241,17 +238,43 @@ at_most_one_sided clamped l coeffs vars limit b kernel sure outer inner within i
     (term_agrees outer inner l coeffs vars limit lengths same i k)) in
     record { proper = proper; kept = at_most_inside clamped l coeffs vars limit outer inner least one two kept }
 
--- ---- by the kernel's shape
+-- ---- wherever the first variable is at least 1
 
-pub at_most_shape_sided : ClampOrder → (k : Kernel) (l : Lit) (x y : ℕ) (limit : ℤ) (b : Bounds) → IsKernel (length b) k → IsShapeOf k (AtMost l x y limit) → is_sure l b ≡ true → IsOneSided k b
-unfolding IsShapeOf
-at_most_shape_sided clamped k l x y limit b kernel (cs, vs, e, d) sure =
-    subst (λ (j : Kernel). IsOneSided j b) (sym e) (at_most_one_sided clamped l cs vs limit b (subst (IsKernel (length b)) e kernel) sure)
+sure_first : (s : Bool) (v : ℕ) (b : Bounds) → v ≡ 0 → s ≡ true → pos 1 ≤ℤ low_of b 0 → low_of b v ≤ℤ high_of b v → (sign_true s (low_of b v) && sign_true s (high_of b v)) ≡ true
+sure_first false v b e f low order = absurd (true≢false (sym f))
+sure_first true (suc v) b e f low order = absurd (omega arith)
+sure_first true zero b e f low order =
+    let one : true ≡ sign_true true (low_of b 0) = omega (arith, ints) in
+    let two : true ≡ sign_true true (high_of b 0) = omega (arith, ints) in
+    and_from (sign_true true (low_of b 0)) (sign_true true (high_of b 0)) (sym one) (sym two)
 
-pub either_shape_sided : (k : Kernel) (l m : Lit) (b : Bounds) → IsShapeOf k (Either l m) → IsOneSided k b
-unfolding IsShapeOf
-either_shape_sided k l m b e = subst (λ (j : Kernel). IsOneSided j b) (sym e) (clause_one_sided (l ∷ m ∷ []) b)
+first_sure : (l : Lit) (b : Bounds) → ((l.var == 0) && l.positive) ≡ true → pos 1 ≤ℤ low_of b 0 → low_of b l.var ≤ℤ high_of b l.var → is_sure l b ≡ true
+unfolding is_sure
+first_sure l b e low order =
+    let parts = and_parts (l.var == 0) l.positive e in
+    sure_first l.positive l.var b ((Decides-eqb l.var 0).0 parts.0) parts.1 low order
 
-pub on_sure : {P : Type 0} (t : Bool) → (t ≡ true → P) → OnTrue t P
-on_sure true f = f refl
-on_sure false f = tt
+first_rises : (inner b : Bounds) → IsInside inner b → pos 1 ≤ℤ low_of b 0 → pos 1 ≤ℤ low_of inner 0
+first_rises inner b within low = let rise = low_rises inner b within 0 in omega (arith, ints)
+
+at_most_sided : ClampOrder → (l : Lit) (coeffs : List ℤ) (vars : List ℕ) (limit : ℤ) (b : Bounds) → HasNumbers (Le l coeffs vars limit) → ((l.var == 0) && l.positive) ≡ true → pos 1 ≤ℤ low_of b 0
+    → IsOneSided (Le l coeffs vars limit) b
+unfolding vars_of tells
+at_most_sided clamped l coeffs vars limit b numbers sided low outer inner within inside proper same kept =
+    at_most_one_sided clamped l coeffs vars limit outer inner numbers (first_sure l inner sided (first_rises inner b within low) (proper 0 (omega arith))) inside proper same kept
+
+pub sided_law : ClampOrder → (k : Kernel) (b : Bounds) → HasNumbers k → is_sided k ≡ true → pos 1 ≤ℤ low_of b 0 → IsOneSided k b
+unfolding is_sided
+sided_law clamped (Le l coeffs vars limit) b numbers sided low = at_most_sided clamped l coeffs vars limit b numbers sided low
+sided_law clamped (Eq l coeffs vars limit) b numbers sided low = absurd (true≢false (sym sided))
+sided_law clamped (Times x y z) b numbers sided low = absurd (true≢false (sym sided))
+sided_law clamped (Div x y z) b numbers sided low = absurd (true≢false (sym sided))
+sided_law clamped (Mod x y z) b numbers sided low = absurd (true≢false (sym sided))
+sided_law clamped (Abs x y) b numbers sided low = absurd (true≢false (sym sided))
+sided_law clamped (Max m xs) b numbers sided low = absurd (true≢false (sym sided))
+sided_law clamped (Min m xs) b numbers sided low = absurd (true≢false (sym sided))
+sided_law clamped (Clause lits) b numbers sided low = clause_one_sided lits b
+sided_law clamped (Element x entries c) b numbers sided low = absurd (true≢false (sym sided))
+sided_law clamped (InSet l x ranges) b numbers sided low = absurd (true≢false (sym sided))
+sided_law clamped (AllDiff xs) b numbers sided low = absurd (true≢false (sym sided))
+sided_law clamped (Cumulative starts durations usages limit) b numbers sided low = absurd (true≢false (sym sided))

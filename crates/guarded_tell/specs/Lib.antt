@@ -7,4 +7,5 @@ pub mod Settled
 pub mod Rests
 pub mod Sides
 pub mod Open
+pub mod Sole
 pub mod Found

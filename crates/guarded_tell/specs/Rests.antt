@@ -86,6 +86,17 @@ IsEitherFor l m b Awake = (is_out l b ≡ false) × (is_out m b ≡ false)
 IsEitherFor l m b UntilFixed = ⊥
 IsEitherFor l m b ForGood = (is_sure l b ≡ true) ⊎ (is_sure m b ≡ true)
 
+-- two of three literals aren't out
+abbrev pub AreTwoLeft : Lit → Lit → Lit → Bounds → Type 0
+AreTwoLeft l m n b =
+    ((is_out l b ≡ false) × (is_out m b ≡ false)) ⊎ (((is_out l b ≡ false) × (is_out n b ≡ false)) ⊎ ((is_out m b ≡ false) × (is_out n b ≡ false)))
+
+-- a clause of three literals
+abbrev pub IsTripleFor : Lit → Lit → Lit → Bounds → Rest → Type 0
+IsTripleFor l m n b Awake = AreTwoLeft l m n b
+IsTripleFor l m n b UntilFixed = ⊥
+IsTripleFor l m n b ForGood = (is_sure l b ≡ true) ⊎ ((is_sure m b ≡ true) ⊎ (is_sure n b ≡ true))
+
 -- ---- by places of a list
 
 -- a clause rests so long, by the literal at a place

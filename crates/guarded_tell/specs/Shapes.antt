@@ -1,4 +1,4 @@
--- Shapes: a kernel of two variables or of two literals as one record, without its lists.
+-- Shapes: a kernel of two variables, or of two literals or three, as one record, without its lists.
 use Rattle.std.specs.Prelude.{◌≡◌, ◌⊎◌, ℕ, ℤ, pos, negsuc, List, [], ◌∷◌, length, slice_index_or, ◌<◌}
 use Rattle.interval.specs.Boxes.{Bounds}
 use Rattle.guarded_tell.specs.Words.{Lit}
@@ -8,7 +8,7 @@ use Rattle.small_sums.specs.declared.pairs.Pair.{Pair}
 use Rattle.guarded_tell.specs.declared.kernel.Kernel.{Kernel}
 use Rattle.guarded_tell.specs.declared.kernel.Kernel.TheVariants.{Le, Eq, Clause}
 use Rattle.guarded_tell.specs.declared.shape.Shape.{Shape}
-use Rattle.guarded_tell.specs.declared.shape.Shape.TheVariants.{AtMost, Same, Either, Slight, Other}
+use Rattle.guarded_tell.specs.declared.shape.Shape.TheVariants.{AtMost, Same, Either, Triple, Slight, Other}
 
 -- the sum of these terms is x - y
 abbrev pub IsDifference : List ℤ → List ℕ → ℕ → ℕ → Type 0
@@ -32,6 +32,7 @@ unfoldable pub IsShapeOf : Kernel → Shape → Type 0
 IsShapeOf k (AtMost l x y limit) = IsAtMostOf k l x y limit
 IsShapeOf k (Same l x y limit) = IsSameOf k l x y limit
 IsShapeOf k (Either l m) = k ≡ Clause (l ∷ m ∷ [])
+IsShapeOf k (Triple l m n) = k ≡ Clause (l ∷ m ∷ n ∷ [])
 IsShapeOf k Slight = IsSlightSum k
 IsShapeOf k Other = Unit {0}
 

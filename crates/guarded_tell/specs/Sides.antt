@@ -1,5 +1,5 @@
 -- Which bounds of its variables a kernel reads, where it is one-sided: whether it narrows nothing hangs on these alone.
-use Rattle.std.specs.Prelude.{◌≡◌, ◌<◌, ℕ, ℤ, pos, List, [], ◌∷◌, length, map, cond, slice_index, slice_index_or, int_lt}
+use Rattle.std.specs.Prelude.{◌≡◌, ◌==◌, ◌&&◌, ◌<◌, ℕ, ℤ, pos, Bool, true, false, List, [], ◌∷◌, length, map, cond, slice_index, slice_index_or, int_lt}
 use Rattle.std.specs.List.{All}
 use Rattle.interval.specs.Boxes.{Bounds, low_of, high_of, IsInside}
 use Rattle.guarded_tell.specs.declared.kernel.Kernel.{Kernel}
@@ -53,3 +53,19 @@ AgreeInRead k b c = (i : ℕ) (side : Side) → i < length (vars_of k) → Reads
 abbrev pub IsOneSided : Kernel → Bounds → Type 0
 IsOneSided k b = (outer inner : Bounds) → IsInside inner b → IsInside inner outer → IsProperIn (vars_of k) inner →
     AgreeInRead k outer inner → All (Keeps inner) (tells k outer) → IsClosedUnder k inner
+
+-- the kernel is one-sided wherever the first variable is at least 1: a clause is, and an inequality that has to hold there
+unfoldable pub is_sided : Kernel → Bool
+is_sided (Le l coeffs vars limit) = (l.var == 0) && l.positive
+is_sided (Eq l coeffs vars limit) = false
+is_sided (Times x y z) = false
+is_sided (Div x y z) = false
+is_sided (Mod x y z) = false
+is_sided (Abs x y) = false
+is_sided (Max m xs) = false
+is_sided (Min m xs) = false
+is_sided (Clause lits) = true
+is_sided (Element x entries c) = false
+is_sided (InSet l x ranges) = false
+is_sided (AllDiff xs) = false
+is_sided (Cumulative starts durations usages limit) = false

@@ -1,10 +1,11 @@
 //! The tells of short shapes, straight from their variables.
 
-ghost use Rattle.std.specs.Prelude.{◌≡◌, ◌<◌, ◌≤ℤ◌, ◌∷◌, [], length, unsigned_abs};
+ghost use Rattle.std.specs.Prelude.{◌≡◌, ◌<◌, ◌≤ℤ◌, ◌∷◌, [], ◌&&◌, length, unsigned_abs};
 ghost use Rattle.std.specs.Bool.{OnTrue, OnFalse};
 ghost use Rattle.interval.specs.Limits.{IsBound};
 ghost use Rattle.interval.specs.Boxes.{low_of, high_of};
 ghost use Rattle.guarded_tell.specs.Words.{IsProperIn};
+ghost use Rattle.guarded_tell.specs.Words as words;
 ghost use Rattle.guarded_tell.specs.Hearing.{MayHearAll, HearsAll};
 ghost use Rattle.sum_tells.specs.Equality.{low_is_not, high_is_not, product_is_not};
 ghost use Rattle.sum_tells.specs.Equality as equality;
@@ -64,7 +65,7 @@ fn is_fixed(v: u32, b: &BoxOf) -> bool
 
 /// Tells that the coefficient times the variable isn't the product.
 #[inline(always)]
-fn narrow_apart<H: Hear>(coeff: i64, var: u32, product: i64, b: &BoxOf, h: &mut H)
+pub fn narrow_apart<H: Hear>(coeff: i64, var: u32, product: i64, b: &BoxOf, h: &mut H)
     requires unit { unsigned_abs coeff ≡ 1 }
     requires variable { var < length b.now }
     requires hearer { MayHearAll H.can_hear H.hears h.old (narrowing b.now (product_is_not var coeff product b.now)) }
@@ -121,4 +122,31 @@ pub fn give_either<H: Hear>(first: Lit, second: Lit, b: &BoxOf, h: &mut H)
 {
     tell_where(stands_false(second, b), tell_true(first), b, h);
     tell_where(stands_false(first, b), tell_true(second), b, h);
+}
+
+/// Gives the tells of a clause of three literals that narrow the box to `h`.
+pub fn give_triple<H: Hear>(first: Lit, second: Lit, third: Lit, b: &BoxOf, h: &mut H)
+    requires first { first.var < length b.now }
+    requires second { second.var < length b.now }
+    requires third { third.var < length b.now }
+    requires proper_first { low_of b.now first.var ≤ℤ high_of b.now first.var }
+    requires proper_second { low_of b.now second.var ≤ℤ high_of b.now second.var }
+    requires proper_third { low_of b.now third.var ≤ℤ high_of b.now third.var }
+    requires hearer { MayHearAll H.can_hear H.hears h.old (narrowing b.now (clause_tells (first ∷ second ∷ third ∷ []) b.now)) }
+    ensures { HearsAll H.hears h.old (narrowing b.now (clause_tells (first ∷ second ∷ third ∷ []) b.now)) h.new }
+{
+    tell_where(are_out(second, third, b), tell_true(first), b, h);
+    tell_where(are_out(first, third, b), tell_true(second), b, h);
+    tell_where(are_out(first, second, b), tell_true(third), b, h);
+}
+
+/// Whether both literals are out.
+fn are_out(first: Lit, second: Lit, b: &BoxOf) -> bool
+    requires first { first.var < length b.now }
+    requires second { second.var < length b.now }
+    requires proper_first { low_of b.now first.var ≤ℤ high_of b.now first.var }
+    requires proper_second { low_of b.now second.var ≤ℤ high_of b.now second.var }
+    ensures { result ≡ (words.is_out first b.now && words.is_out second b.now) }
+{
+    stands_false(first, b) && stands_false(second, b)
 }

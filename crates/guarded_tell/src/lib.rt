@@ -23,6 +23,7 @@ mod settled;
 mod shape;
 mod sides;
 mod slight_sum;
+mod sole;
 mod visit;
 
 pub use clause_tells::Literals;
@@ -32,7 +33,7 @@ pub use narrowing::{visit_narrowing, visit_unseen};
 pub use quiet::Hint;
 pub use resting::{Rest, rest_of, seen_rest};
 pub use shape::{Shape, shape_of};
-pub use sides::{is_one_sided, side_at};
+pub use sides::{is_sided, law_sided, side_at};
 pub use sum_tells::Extended;
 pub use tell_laws::law_narrowing;
 pub use tells::{Hear, Lit, Side, Tell};

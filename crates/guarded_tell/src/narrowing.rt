@@ -12,14 +12,14 @@ ghost use Rattle.tell_laws.specs.Narrowing.{narrowing};
 ghost use Rattle.guarded_tell.specs.Narrowing.{narrowing_tells};
 ghost use Rattle.guarded_tell.specs.Rests.{IsRest};
 
-use crate::differences::{give_either, is_apart_given};
+use crate::differences::{give_either, give_triple, is_apart_given};
 use crate::quiet::Hint;
 use crate::resting::{Rest, listed_rest, seen_rest};
 use crate::rooms::{is_open_given, is_sure_given};
 use crate::shape::Shape;
 use crate::slight_sum::give_slight_sum;
 use crate::{Hear, Kernel, Tell, law_tell_place, visit_tells};
-use arithmetic_tells::is_product_quiet;
+use arithmetic_tells::narrow_times;
 use extreme_tells::{is_max_quiet, is_min_quiet};
 use global_tells::{is_all_different_quiet, is_cumulative_quiet};
 use interval::{BoxOf, law_clamp_order, law_quotient_order};
@@ -72,7 +72,7 @@ pub fn visit_unseen<H: Hear>(
     }
 }
 
-/// Gives the tells of a difference or of a clause of two literals.
+/// Gives the tells of a difference, or of a clause of two literals or three.
 fn give_short<H: Hear>(k: &Kernel, shape: &Shape, b: &BoxOf, h: &mut H)
     requires kernel { IsKernel (length b.now) k.now }
     requires shape { IsShapeOf k.now shape.now }
@@ -82,6 +82,11 @@ fn give_short<H: Hear>(k: &Kernel, shape: &Shape, b: &BoxOf, h: &mut H)
 {
     match shape {
         Shape::Either { first, second } => give_either(*first, *second, b, h),
+        Shape::Triple {
+            first,
+            second,
+            third,
+        } => give_triple(*first, *second, *third, b, h),
         _ => give_difference(k, shape, b, h),
     }
 }
@@ -102,7 +107,7 @@ fn give_difference<H: Hear>(k: &Kernel, shape: &Shape, b: &BoxOf, h: &mut H)
     }
 }
 
-/// The same of a kernel that is no difference and no clause of two literals.
+/// The same of a kernel that is no difference and no clause of two literals or three.
 #[tactic(auto, unfolding(crate::specs::Shapes::IsShapeOf))]
 fn visit_listed<H: Hear>(k: &Kernel, shape: &Shape, b: &BoxOf, hint: &mut Hint, h: &mut H) -> Rest
     requires kernel { IsKernel (length b.now) k.now }
@@ -165,7 +170,8 @@ fn give_tells<H: Hear>(k: &Kernel, b: &BoxOf, h: &mut H)
     }
 }
 
-/// Gives the tells of a sum in 64 bits, and sees that other kernels narrow nothing. Where it doesn't, it gives none.
+/// Gives the tells of a sum in 64 bits or of a product, and sees that other kernels narrow nothing. Where it doesn't, it gives
+/// none.
 #[tactic(auto, unfolding(crate::specs::Kernels::tells, crate::specs::Kernels::vars_of, crate::specs::Kernels::HasNumbers))]
 fn is_given<H: Hear>(k: &Kernel, b: &BoxOf, h: &mut H) -> bool
     requires kernel { IsKernel (length b.now) k.now }
@@ -187,6 +193,10 @@ fn is_given<H: Hear>(k: &Kernel, b: &BoxOf, h: &mut H) -> bool
             vars,
             limit,
         } => narrow_equation(*lit, coeffs, vars, *limit, b, h),
+        Kernel::Times { x, y, z } => {
+            narrow_times(*x, *y, *z, b, h);
+            true
+        }
         _ => is_quiet(k, b),
     }
 }
@@ -199,7 +209,6 @@ fn is_quiet(k: &Kernel, b: &BoxOf) -> bool
     ensures { OnTrue result (All (Keeps b.now) (tells k.now b.now)) }
 {
     match k {
-        Kernel::Times { x, y, z } => is_product_quiet(*x, *y, *z, b),
         Kernel::Max { m, xs } => is_max_quiet(*m, xs.as_slice(), b),
         Kernel::Min { m, xs } => is_min_quiet(*m, xs.as_slice(), b),
         Kernel::AllDiff { xs } => is_all_different_quiet(xs.as_slice(), b),

@@ -12,7 +12,7 @@ ghost use Rattle.small_sums.specs.Short.{IsSmallTerm};
 ghost use Rattle.guarded_tell.specs.Found.{IsSearched};
 ghost use Rattle.guarded_tell.specs.Kernels.{vars_of, IsKernel};
 ghost use Rattle.guarded_tell.specs.Shapes.{IsShapeOf};
-ghost use Rattle.guarded_tell.specs.Rests.{IsAtMostFor, IsAtMostSettled, IsClauseFor, IsEitherFor, IsOpenSum, IsQuietFor, IsRest, IsSameFor, IsUnequalFor};
+ghost use Rattle.guarded_tell.specs.Rests.{IsAtMostFor, IsAtMostSettled, IsClauseFor, IsEitherFor, IsOpenSum, IsQuietFor, IsRest, IsSameFor, IsTripleFor, IsUnequalFor, AreTwoLeft};
 
 use crate::quiet::{Hint, are_open_at, are_two_open, is_clause_quiet};
 use crate::shape::{Shape, difference};
@@ -62,6 +62,11 @@ pub fn seen_rest(k: &Kernel, shape: &Shape, b: &BoxOf) -> Option<Rest>
         Shape::AtMost { lit, x, y, limit } => at_most_rest(*lit, *limit, difference(*x, *y, b), b),
         Shape::Same { lit, x, y, limit } => same_rest(*lit, *limit, difference(*x, *y, b), b),
         Shape::Either { first, second } => either_rest(*first, *second, b),
+        Shape::Triple {
+            first,
+            second,
+            third,
+        } => triple_rest(*first, *second, *third, b),
         Shape::Slight | Shape::Other => None,
     }
 }
@@ -139,6 +144,42 @@ fn either_rest(first: Lit, second: Lit, b: &BoxOf) -> Option<Rest>
         None
     } else {
         Some(Rest::Awake)
+    }
+}
+
+/// The same of a clause of three literals.
+fn triple_rest(first: Lit, second: Lit, third: Lit, b: &BoxOf) -> Option<Rest>
+    requires first { first.var < length b.now }
+    requires second { second.var < length b.now }
+    requires third { third.var < length b.now }
+    requires proper_first { low_of b.now first.var ≤ℤ high_of b.now first.var }
+    requires proper_second { low_of b.now second.var ≤ℤ high_of b.now second.var }
+    requires proper_third { low_of b.now third.var ≤ℤ high_of b.now third.var }
+    ensures { MatchOption result (Unit {0}) (IsTripleFor first second third b.now) }
+{
+    if stands_true(first, b) || stands_true(second, b) || stands_true(third, b) {
+        Some(Rest::ForGood)
+    } else if are_two_left(first, second, third, b) {
+        Some(Rest::Awake)
+    } else {
+        None
+    }
+}
+
+/// Whether two of three literals aren't out.
+fn are_two_left(first: Lit, second: Lit, third: Lit, b: &BoxOf) -> bool
+    requires first { first.var < length b.now }
+    requires second { second.var < length b.now }
+    requires third { third.var < length b.now }
+    requires proper_first { low_of b.now first.var ≤ℤ high_of b.now first.var }
+    requires proper_second { low_of b.now second.var ≤ℤ high_of b.now second.var }
+    requires proper_third { low_of b.now third.var ≤ℤ high_of b.now third.var }
+    ensures { OnTrue result (AreTwoLeft first second third b.now) }
+{
+    if stands_false(first, b) {
+        !stands_false(second, b) && !stands_false(third, b)
+    } else {
+        !stands_false(second, b) || !stands_false(third, b)
     }
 }
 

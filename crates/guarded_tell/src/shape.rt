@@ -12,7 +12,7 @@ use interval::BoxOf;
 use small_sums::{Pair, are_slight, are_slight_extended, opposite, plain};
 use sum_tells::Extended;
 
-/// A kernel of two variables or of two literals, whole, or what kind of another kernel it is.
+/// A kernel of two variables, or of two literals or three, whole, or what kind of another kernel it is.
 #[derive(Clone, Copy, PartialEq, Eq, Debug)]
 pub enum Shape {
     /// The literal is true exactly where `x - y` is at most the limit.
@@ -43,6 +43,15 @@ pub enum Shape {
         first: Lit,
         /// The second literal.
         second: Lit,
+    },
+    /// One of three literals is true.
+    Triple {
+        /// The first literal.
+        first: Lit,
+        /// The second literal.
+        second: Lit,
+        /// The third literal.
+        third: Lit,
     },
     /// A sum of three terms or more with slight coefficients.
     Slight,
@@ -111,6 +120,12 @@ fn clause_shape(lits: &Literals) -> Shape
         Shape::Either {
             first: lits.at(0),
             second: lits.at(1),
+        }
+    } else if lits.len() == 3 {
+        Shape::Triple {
+            first: lits.at(0),
+            second: lits.at(1),
+            third: lits.at(2),
         }
     } else {
         Shape::Other

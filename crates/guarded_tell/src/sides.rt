@@ -1,16 +1,14 @@
 //! Which bounds of its variables a kernel reads.
 
-ghost use Rattle.std.specs.Prelude.{◌≡◌, ◌<◌, ◌≤◌, length, IfSome, IfNone};
-ghost use Rattle.std.specs.Bool.{OnTrue};
+ghost use Rattle.std.specs.Prelude.{◌≡◌, ◌<◌, ◌≤◌, ◌≤ℤ◌, pos, true, length, IfSome, IfNone};
+ghost use Rattle.interval.specs.Boxes.{Bounds, low_of};
+ghost use Rattle.guarded_tell.specs.declared.kernel.Kernel.{Kernel};
 ghost use Rattle.guarded_tell.specs.Words.{IsProperIn};
 ghost use Rattle.guarded_tell.specs.Kernels.{vars_of, HasNumbers, IsKernel};
-ghost use Rattle.guarded_tell.specs.Shapes.{IsShapeOf};
-ghost use Rattle.guarded_tell.specs.Sides.{side_of_literal, side_of_sure, side_of_term, sides_of, IsOneSided, Reads};
+ghost use Rattle.guarded_tell.specs.Sides.{is_sided, side_of_literal, side_of_sure, side_of_term, sides_of, IsOneSided, Reads};
 
-use crate::shape::Shape;
 use crate::{Kernel, Lit, Side};
-use interval::{BoxOf, law_clamp_order};
-use tells::stands_true;
+use interval::law_clamp_order;
 
 /// The bound that the kernel reads of the variable that it names at this place, where it is one-sided. None: it never is, or it
 /// reads neither.
@@ -61,34 +59,22 @@ fn literal_side(lit: Lit) -> Side
     if lit.positive { Side::High } else { Side::Low }
 }
 
-/// Whether the kernel is seen to be one-sided from this box on: a clause is, and an inequality that has to hold.
-#[tactic(auto, unfolding(crate::specs::Kernels::vars_of))]
-pub fn is_one_sided(k: &Kernel, shape: &Shape, b: &BoxOf) -> bool
-    requires kernel { IsKernel (length b.now) k.now }
-    requires shape { IsShapeOf k.now shape.now }
-    requires proper { IsProperIn (vars_of k.now) b.now }
-    ensures { OnTrue result (IsOneSided k.now b.now) }
+/// Whether the kernel is one-sided wherever the first variable is at least 1: a clause is, and an inequality that has to hold
+/// there.
+#[tactic(auto, unfolding(crate::specs::Sides::is_sided))]
+pub fn is_sided(k: &Kernel) -> bool
+    ensures { result ≡ is_sided k.now }
 {
-    law_clamp_order();
-    match shape {
-        Shape::AtMost { lit, .. } => stands_true(*lit, b),
-        Shape::Same { .. } => false,
-        Shape::Either { .. } => true,
-        Shape::Slight | Shape::Other => is_listed_one_sided(k, b),
-    }
-}
-
-/// The same by the kernel itself.
-#[tactic(auto, unfolding(crate::specs::Kernels::vars_of))]
-fn is_listed_one_sided(k: &Kernel, b: &BoxOf) -> bool
-    requires kernel { IsKernel (length b.now) k.now }
-    requires proper { IsProperIn (vars_of k.now) b.now }
-    ensures { OnTrue result (IsOneSided k.now b.now) }
-{
-    law_clamp_order();
     match k {
-        Kernel::Le { lit, .. } => stands_true(*lit, b),
+        Kernel::Le { lit, .. } => lit.var == 0 && lit.positive,
         Kernel::Clause { .. } => true,
         _ => false,
     }
+}
+
+/// Such a kernel is one-sided there.
+pub fn law_sided()
+    ensures { (k : Kernel) (b : Bounds) → IsKernel (length b) k → IsProperIn (vars_of k) b → is_sided k ≡ true → pos 1 ≤ℤ low_of b 0 → IsOneSided k b }
+{
+    law_clamp_order();
 }

@@ -17,6 +17,7 @@ ghost use Rattle.guarded_tell.specs.Rests.{IsRest};
 
 use crate::quiet::{Hint, are_two_open};
 use crate::settled::{at_most_sum_rest, equation_sum_rest};
+use crate::sole::is_sole_given;
 use crate::{Hear, Kernel, Lit, Rest};
 use interval::{BoxOf, law_clamp_order, law_quotient_order};
 use short_tells::{narrow_short_at_most, narrow_short_equation};
@@ -125,11 +126,64 @@ fn give_whole_slight_equation<H: Hear>(
     law_quotient_order();
     law_clamp_order();
     if stands_false(lit, b) {
-        return slight_inequation_rest(lit, coeffs, vars, limit, b, hint);
+        return give_slight_inequation(lit, coeffs, vars, limit, b, hint, h);
     }
     let sums = slight_sums(coeffs, vars, b);
     narrow_short_equation(lit, coeffs, vars, limit, sums, b, h);
     Some(equation_sum_rest(lit, limit, sums, b))
+}
+
+/// The same of such an equation that must not hold. The one term that isn't fixed is told where the hint's place is its own and
+/// its coefficient is 1 or -1.
+fn give_slight_inequation<H: Hear>(
+    lit: Lit,
+    coeffs: &[i64],
+    vars: &[u32],
+    limit: i64,
+    b: &BoxOf,
+    hint: &mut Hint,
+    h: &mut H,
+) -> Option<Rest>
+    requires linear { IsLinear coeffs.now vars.now limit }
+    requires variables { AreVariables (length b.now) (lit.var ∷ vars.now) }
+    requires proper { IsProperIn (lit.var ∷ vars.now) b.now }
+    requires slight { sum_by unsigned_abs coeffs.now ≤ slight_limit }
+    requires out { words.is_out lit b.now ≡ true }
+    requires hearer { MayHearAll H.can_hear H.hears h.old (narrowing b.now (eq_tells lit coeffs.now vars.now limit b.now)) }
+    ensures given { MatchOption result (h.new ≡ h.old) (λ rest. HearsAll H.hears h.old (narrowing b.now (eq_tells lit coeffs.now vars.now limit b.now)) h.new) }
+    ensures rest { IfSome result (λ rest. (k : Kernel) → IsKernel (length b.now) k → k ≡ Kernel.Eq lit coeffs.now vars.now limit → IsRest k b.now rest) }
+{
+    match slight_inequation_rest(lit, coeffs, vars, limit, b, hint) {
+        Some(rest) => Some(rest),
+        None => give_sole(lit, coeffs, vars, limit, *hint, b, h),
+    }
+}
+
+/// The same where the hint's place is that of the one term that isn't fixed.
+fn give_sole<H: Hear>(
+    lit: Lit,
+    coeffs: &[i64],
+    vars: &[u32],
+    limit: i64,
+    hint: Hint,
+    b: &BoxOf,
+    h: &mut H,
+) -> Option<Rest>
+    requires linear { IsLinear coeffs.now vars.now limit }
+    requires variables { AreVariables (length b.now) (lit.var ∷ vars.now) }
+    requires proper { IsProperIn (lit.var ∷ vars.now) b.now }
+    requires slight { sum_by unsigned_abs coeffs.now ≤ slight_limit }
+    requires out { words.is_out lit b.now ≡ true }
+    requires hearer { MayHearAll H.can_hear H.hears h.old (narrowing b.now (eq_tells lit coeffs.now vars.now limit b.now)) }
+    ensures given { MatchOption result (h.new ≡ h.old) (λ rest. HearsAll H.hears h.old (narrowing b.now (eq_tells lit coeffs.now vars.now limit b.now)) h.new) }
+    ensures rest { IfSome result (λ rest. rest ≡ Rest.Awake) }
+{
+    let place = hint.first as usize;
+    if place < coeffs.len() && is_sole_given(lit, coeffs, vars, limit, place, b, h) {
+        Some(Rest::Awake)
+    } else {
+        None
+    }
 }
 
 /// How long an equation that must not hold needs no visit, where two open terms or its sums say that it narrows nothing. What

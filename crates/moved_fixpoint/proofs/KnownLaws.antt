@@ -13,7 +13,7 @@ use Rattle.moved_fixpoint.specs.Resting.{KnownUnlessMoved}
 use Rattle.moved_fixpoint.specs.Runs.{SameAt}
 use Rattle.moved_fixpoint.proofs.Telling.{same_elsewhere, put_low, put_high}
 use Rattle.moved_fixpoint.proofs.QuietLaws.{marked, marked_more}
-use Rattle.moved_fixpoint.proofs.RestLaws.{same_fixed, entailed_inside, one_sided_inside, quiet_inside}
+use Rattle.moved_fixpoint.proofs.RestLaws.{same_fixed, entailed_inside, quiet_inside}
 
 -- a variable that is fixed stays fixed in a proper box inside
 module _ (b : Bounds) (v : ℕ) (low high : ℤ) (inside : IsInside (put_of b v low high) b) (below : low ≤ℤ high) where
@@ -52,12 +52,10 @@ pub known_unless_moved : InsideOrder → KnownUnlessMoved
 known_unless_moved order = record {
   resting = λ b kernels asked open_ones alert moved resting. record {
     entailed = resting.entailed;
-    sided = resting.sided;
     dormant = λ j k h none dozing free. resting.dormant j k h dozing;
   };
   put = λ b kernels asked open_ones alert moved v low high h inside below knows. record {
-    entailed = λ j k i shut dozing. entailed_inside order (get_or kernels j k) (put_of b v low high) b inside (knows.entailed j k i shut dozing);
-    sided = λ j k i shut. one_sided_inside order (get_or kernels j k) (put_of b v low high) b inside (knows.sided j k i shut);
+    entailed = λ j k i shut. entailed_inside order (get_or kernels j k) (put_of b v low high) b inside (knows.entailed j k i shut);
     dormant = λ j k i none dozing free.
         quiet_inside order (get_or kernels j k) (put_of b v low high) b inside
         (λ x d l fixed. fixed_before b v low high inside below moved h (get_or (vars_of (get_or kernels j k)) x d) (free x d l) fixed)
@@ -67,12 +65,10 @@ known_unless_moved order = record {
   };
   all_asked = λ b kernels asked open_ones alert moved each open_each. record {
     entailed = λ j k h shut. absurd (shut (open_each j h));
-    sided = λ j k h shut. absurd (shut (open_each j h));
     dormant = λ j k h none dozing free. absurd (none (each j h));
   };
   all_alert = λ b kernels asked open_ones alert moved open_each each. record {
     entailed = λ j k h shut. absurd (shut (open_each j h));
-    sided = λ j k h shut. absurd (shut (open_each j h));
     dormant = λ j k h none dozing free. absurd (dozing (each j h));
   };
 }

@@ -1,9 +1,9 @@
 pub mod Joining
 pub mod Telling
 pub mod Hearing
+pub mod SidedLaws
 pub mod Gathering
 pub mod RestLaws
-pub mod RestedLaws
 pub mod AskedLaws
 pub mod RunLemmas
 pub mod Rounding

@@ -6,7 +6,6 @@ use Rattle.guarded_tell.specs.declared.kernel.Kernel.{Kernel}
 use Rattle.guarded_tell.specs.Words.{IsProperIn}
 use Rattle.guarded_tell.specs.Kernels.{vars_of, IsKernel, IsClosedUnder}
 use Rattle.guarded_tell.specs.Rests.{IsFixedAt, FixesNoOther, IsEntailed, IsQuietUntilFixed}
-use Rattle.guarded_tell.specs.Sides.{IsOneSided}
 use Rattle.moved_set.specs.Sets.{IsIn}
 use Rattle.moved_fixpoint.specs.Moved.{Set}
 use Rattle.moved_fixpoint.specs.Runs.{SameAt}
@@ -36,9 +35,6 @@ module _ (order : InsideOrder) (k : Kernel) where
 
   pub quiet_inside : (inner outer : Bounds) → IsInside inner outer → FixesNoOther (vars_of k) outer inner → IsQuietUntilFixed k outer → IsQuietUntilFixed k inner
   quiet_inside inner outer i fixes q c j proper f = q c (order.through c inner outer j i) proper (λ x d l fixed. fixes x d l (f x d l fixed))
-
-  pub one_sided_inside : (inner outer : Bounds) → IsInside inner outer → IsOneSided k outer → IsOneSided k inner
-  one_sided_inside inner outer i s wide c j l proper agree kept = s wide c (order.through c inner outer j i) l proper agree kept
 
   -- and is quiet there
   pub entailed_here : (b : Bounds) → IsProperIn (vars_of k) b → IsEntailed k b → IsClosedUnder k b

@@ -5,25 +5,26 @@ use Rattle.std.proofs.lemmas.Bool.{cases_lt, cases_eq}
 use Rattle.std.proofs.lemmas.Int.{ints}
 use Rattle.interval.specs.Boxes.{Bounds, IsInside, IsProper, IsCrossed, InsideOrder}
 use Rattle.guarded_tell.specs.declared.kernel.Kernel.{Kernel}
-use Rattle.guarded_tell.specs.Words.{Tell, Keeps, IsProperIn}
+use Rattle.guarded_tell.specs.Words.{Tell, IsProperIn}
 use Rattle.guarded_tell.specs.Kernels.{vars_of, tells, IsKernel, IsClosedUnder}
 use Rattle.fixpoint_laws.specs.Rounds.{HaveRun}
 use Rattle.fixpoint_laws.specs.OneRound.{IsHeardBetween}
 use Rattle.moved_set.specs.Sets.{IsIn}
 use Rattle.guarded_tell.specs.Rests.{IsEntailed, IsQuietUntilFixed}
-use Rattle.guarded_tell.specs.Sides.{IsOneSided}
 use Rattle.moved_fixpoint.specs.declared.rests.Rests.{Rests}
 use Rattle.moved_fixpoint.specs.declared.joiner.Progress.{Progress}
 use Rattle.moved_fixpoint.specs.declared.joiner.Progress.TheVariants.{Still, Moved, Crossed}
 use Rattle.moved_fixpoint.specs.Moved.{Set, count_of}
-use Rattle.moved_fixpoint.specs.Resting.{AreEntailedUnless, AreOneSidedUnlessOpen}
+use Rattle.moved_fixpoint.specs.Resting.{AreEntailedUnlessOpen}
 use Rattle.moved_fixpoint.specs.Asked.{AreAskedOrQuiet, AreAtRest}
 use Rattle.moved_fixpoint.specs.Heard.{GoesOn}
 use Rattle.moved_fixpoint.specs.Runs.{KernelRuns}
 use Rattle.moved_fixpoint.specs.Round.{IsRound}
 use Rattle.moved_fixpoint.proofs.AskedLaws.{in_range, not_in, unset}
-use Rattle.moved_fixpoint.proofs.RestLaws.{in_or_not, same_fixed, proper_of, entailed_quiet, entailed_inside, one_sided_inside, quiet_inside, quiet_here}
+use Rattle.moved_fixpoint.proofs.RestLaws.{in_or_not, same_fixed, proper_of, entailed_quiet, entailed_inside, quiet_inside, entailed_here, quiet_here}
 use Rattle.moved_fixpoint.proofs.Telling.{keeps_inside}
+use Rattle.moved_fixpoint.proofs.Hearing.{same_side_back}
+use Rattle.moved_fixpoint.proofs.SidedLaws.{Placed, sided_closed, sided_rests}
 use Rattle.moved_fixpoint.proofs.RunLemmas.{Local, TellPlace, stays_closed}
 
 pub record Stands (kernels : List Kernel) (a : Bounds) (lo hi : ℕ) (b : Bounds) (s : Set) (rests : Rests) (p : Progress) : Type 0 where
@@ -127,6 +128,9 @@ module _ (order : InsideOrder) (place : TellPlace) (local : Local) (kernels : Li
     is_kernel : (j : ℕ) (d : Kernel) → j < length kernels → IsKernel (length b) (get_or kernels j d)
     is_kernel j d h = let e = x.run.inside.same_length in subst (λ (y : ℕ). IsKernel y (get_or kernels j d)) (sym e) (all j d h)
 
+    placed : Placed
+    placed k y kernel u t o = let q = place k y kernel u t o in q.1
+
     heard_on : (j : ℕ) (d : Kernel) → j < length kernels → IsHeardBetween (get_or kernels j d) a b → IsHeardBetween (get_or kernels j d) a c
     heard_on j d h w =
         let r = run d in
@@ -150,32 +154,18 @@ module _ (order : InsideOrder) (place : TellPlace) (local : Local) (kernels : Li
     proper_on : GoesOn p' → (j : ℕ) (d : Kernel) → j < length kernels → IsProperIn (vars_of (get_or kernels j d)) c
     proper_on g j d h = let r = run d in proper_of (get_or kernels j d) (length b) c (is_kernel j d h) r.run.inside.same_length (r.proper g (x.proper (r.going g)))
 
-    entailed_on : GoesOn p' → AreEntailedUnless rests'.open.current rests'.alert.current c kernels
-    entailed_on g j d h shut dozing =
+    entailed_on : GoesOn p' → AreEntailedUnlessOpen rests'.open.current c kernels
+    entailed_on g j d h shut =
         let r = run d in
         let old = x.at_rest (r.going g) in
         let rested = r.rested g in
         elim (cases_eq j i) [
           | inl e ↦ subst (λ (y : ℕ). IsEntailed (get_or kernels y d) c) (sym e)
-              (elim (rested.entailed (λ is_in. shut (subst (λ (y : ℕ). IsIn rests'.open.current y) (sym e) is_in)) (λ is_in. dozing (subst (λ (y : ℕ). IsIn rests'.alert.current y) (sym e) is_in))) [
-                | inl was ↦ entailed_inside order (get_or kernels i d) c b r.run.inside (old.entailed i d i_in was.0 was.1)
+              (elim (rested.entailed (λ is_in. shut (subst (λ (y : ℕ). IsIn rests'.open.current y) (sym e) is_in))) [
+                | inl was_shut ↦ entailed_inside order (get_or kernels i d) c b r.run.inside (old.entailed i d i_in was_shut)
                 | inr entailed ↦ entailed
               ])
-          | inr ne ↦ entailed_inside order (get_or kernels j d) c b r.run.inside (old.entailed j d h (λ is_in. shut (rested.open_others j ne ∙ is_in)) (λ is_in. dozing (rested.alert_others j ne ∙ is_in)))
-        ]
-
-    sided_on : GoesOn p' → AreOneSidedUnlessOpen rests'.open.current c kernels
-    sided_on g j d h shut =
-        let r = run d in
-        let old = x.at_rest (r.going g) in
-        let rested = r.rested g in
-        elim (cases_eq j i) [
-          | inl e ↦ subst (λ (y : ℕ). IsOneSided (get_or kernels y d) c) (sym e)
-              (elim (rested.sided (λ is_in. shut (subst (λ (y : ℕ). IsIn rests'.open.current y) (sym e) is_in))) [
-                | inl was_shut ↦ one_sided_inside order (get_or kernels i d) c b r.run.inside (old.sided i d i_in was_shut)
-                | inr sided ↦ sided
-              ])
-          | inr ne ↦ one_sided_inside order (get_or kernels j d) c b r.run.inside (old.sided j d h (λ is_in. shut (rested.open_others j ne ∙ is_in)))
+          | inr ne ↦ entailed_inside order (get_or kernels j d) c b r.run.inside (old.entailed j d h (λ is_in. shut (rested.open_others j ne ∙ is_in)))
         ]
 
     -- another kernel than that which was run
@@ -185,10 +175,13 @@ module _ (order : InsideOrder) (place : TellPlace) (local : Local) (kernels : Li
         let old = x.at_rest (r.going g) in
         let rested = r.rested g in
         elim (in_or_not rests'.open.current j) [
-          | inl is_open ↦ quiet_inside order (get_or kernels j d) c b r.run.inside
-              (λ y w l fixed. let same = r.unmoved g j d h none y w l (is_open, inr fixed) in same_fixed c b (get_or (vars_of (get_or kernels j d)) y w) same fixed)
-              (old.dormant j d h (λ is_in. none (r.kept g j ne is_in)) (λ is_in. dozing (rested.alert_others j ne ∙ is_in)))
-          | inr shut ↦ entailed_quiet (get_or kernels j d) c (entailed_on g j d h shut dozing)
+          | inl is_open ↦ (let before = old.dormant j d h (λ is_in. none (r.kept g j ne is_in)) (λ is_in. dozing (rested.alert_others j ne ∙ is_in)) in
+              elim (r.unmoved g j d h none) [
+                | inl same ↦ quiet_inside order (get_or kernels j d) c b r.run.inside
+                    (λ y w l fixed. same_fixed c b (get_or (vars_of (get_or kernels j d)) y w) (same y w l (is_open, inr fixed)) fixed) before
+                | inr one ↦ sided_rests placed order (get_or kernels j d) b c (is_kernel j d h) r.run.inside one.0 (λ y side l reads fixed. one.1 y side l reads (is_open, inr fixed)) before
+              ])
+          | inr shut ↦ entailed_quiet (get_or kernels j d) c (entailed_on g j d h shut)
         ]
 
     dormant_on : GoesOn p' → (j : ℕ) (d : Kernel) → j < length kernels → (IsIn s' j → ⊥) → (IsIn rests'.alert.current j → ⊥) → IsQuietUntilFixed (get_or kernels j d) c
@@ -198,41 +191,30 @@ module _ (order : InsideOrder) (place : TellPlace) (local : Local) (kernels : Li
       | inr ne ↦ dormant_other g j d h ne none dozing
     ]
 
-    -- one that wasn't open is one-sided, so that what it told is all
-    quiet_shut : GoesOn p' → (d : Kernel) → (IsIn s' i → ⊥) → (IsIn rests.open.current i → ⊥) → IsClosedUnder (get_or kernels i d) c
-    quiet_shut g d none was_shut =
-        let r = run d in
-        let old = x.at_rest (r.going g) in
-        let rested = r.rested g in
-        elim (in_or_not rests'.alert.current i) [
-          | inl alert ↦ old.sided i d i_in was_shut b c r.run.inside r.run.inside (proper_on g i d i_in) (r.unread g i d i_in none alert) (r.heard g)
-          | inr dozing ↦ quiet_here order (get_or kernels i d) c (proper_on g i d i_in) (rested.dormant dozing)
-        ]
-
     quiet_here_on : GoesOn p' → (d : Kernel) → (IsIn s' i → ⊥) → IsClosedUnder (get_or kernels i d) c
     quiet_here_on g d none =
         let r = run d in
+        let old = x.at_rest (r.going g) in
         elim (in_or_not rests.open.current i) [
           | inl was_open ↦ r.closed g none was_open
-          | inr was_shut ↦ quiet_shut g d none was_shut
+          | inr was_shut ↦ entailed_here order (get_or kernels i d) c (proper_on g i d i_in)
+              (entailed_inside order (get_or kernels i d) c b r.run.inside (old.entailed i d i_in was_shut))
         ]
-
-    -- a kernel that was quiet keeps in the new box what it told the old one
-    kept_on : (j : ℕ) (d : Kernel) → j < length kernels → IsClosedUnder (get_or kernels j d) b → All (Keeps c) (tells (get_or kernels j d) b)
-    kept_on j d h closed y t o = let r = run d in keeps_inside b c _ (in_box y t o) r.run.inside (closed.kept y t o) where
-      in_box : (y : ℕ) (t : Tell) → y < length (tells (get_or kernels j d) b) → (get_or (tells (get_or kernels j d) b) y t).var < length b
-      in_box y t o = let q = place (get_or kernels j d) b (is_kernel j d h) y t o in q.1
 
     quiet_other : GoesOn p' → (j : ℕ) (d : Kernel) → j < length kernels → j ≢ i → (IsIn s' j → ⊥) → IsClosedUnder (get_or kernels j d) c
     quiet_other g j d h ne none =
         let r = run d in
         let old = x.at_rest (r.going g) in
-        let was = old.quiet j d h (λ is_in. none (r.kept g j ne is_in)) in
-        elim (in_or_not rests'.alert.current j) [
-          | inr dozing ↦ quiet_here order (get_or kernels j d) c (proper_on g j d h) (dormant_other g j d h ne none dozing)
-          | inl alert ↦ elim (in_or_not rests'.open.current j) [
-            | inl is_open ↦ stays_closed place local (get_or kernels j d) c b (is_kernel j d h) (λ y w l. r.unmoved g j d h none y w l (is_open, inl alert)) was
-            | inr shut ↦ sided_on g j d h shut b c (order.itself c) r.run.inside (proper_on g j d h) (r.unread g j d h none alert) (kept_on j d h was)
+        elim (in_or_not rests'.open.current j) [
+          | inr shut ↦ entailed_here order (get_or kernels j d) c (proper_on g j d h) (entailed_on g j d h shut)
+          | inl is_open ↦ elim (in_or_not rests'.alert.current j) [
+            | inl alert ↦ (let before = old.quiet j d h (λ is_in. none (r.kept g j ne is_in)) in
+                elim (r.unmoved g j d h none) [
+                  | inl same ↦ stays_closed place local (get_or kernels j d) c b (is_kernel j d h) (λ y w l. same y w l (is_open, inl alert)) before
+                  | inr one ↦ sided_closed placed (get_or kernels j d) b c (is_kernel j d h) one.0 (order.itself c) r.run.inside (proper_on g j d h)
+                      (λ y side l reads. same_side_back side c b (get_or (vars_of (get_or kernels j d)) y 0) (one.1 y side l reads (is_open, inl alert))) before
+                ])
+            | inr dozing ↦ quiet_here order (get_or kernels j d) c (proper_on g j d h) (dormant_other g j d h ne none dozing)
           ]
         ]
 
@@ -257,7 +239,7 @@ module _ (order : InsideOrder) (place : TellPlace) (local : Local) (kernels : Li
       };
       same_count = let r = run d in r.same_count ∙ x.same_count;
       proper = λ g. let r = run d in r.proper g (x.proper (r.going g));
-      at_rest = λ g. record { quiet = quiet_on g; entailed = entailed_on g; sided = sided_on g; dormant = dormant_on g };
+      at_rest = λ g. record { quiet = quiet_on g; entailed = entailed_on g; dormant = dormant_on g };
       heard = λ g j k h above below. elim (cover j above below) [
         | inl y ↦ heard_on j k h (let r = run d in x.heard (r.going g) j k h y.0 y.1)
         | inr e ↦ subst (λ (y : ℕ). IsHeardBetween (get_or kernels y k) a c) (sym e) (heard_here k g)

@@ -1,10 +1,11 @@
 -- All tells of one kernel, heard by the box that they were made for.
-use Rattle.std.proofs.Common.{◌≡◌, ◌≢◌, ℕ, ℤ, ◌<◌, ◌≤ℤ◌, inl, inr, ⊎_elim, Bool, true, false, cond, refl, List, [], ◌∷◌, length, get_or, set, sym, subst, ◌∙◌, ap, arith}
+use Rattle.std.proofs.Common.{◌≡◌, ◌≢◌, ℕ, ℤ, pos, ◌<◌, ◌≤ℤ◌, ◌⊎◌, inl, inr, ⊎_elim, Bool, true, false, cond, refl, List, [], ◌∷◌, length, get_or, set, sym, subst, ◌∙◌, ap, arith}
 use Rattle.std.proofs.lemmas.List.{get_or_default, get_or-set_other, length-set}
 use Rattle.std.proofs.lemmas.List.Elements.{All-filter, All-head, All-tail, All-take}
 use Rattle.std.proofs.lemmas.Bool.{true≢false}
 use Rattle.std.specs.Prelude.{Result, Ok, Err, OnOk}
 use Rattle.std.specs.Result.{is_err, is_ok}
+use Rattle.std.specs.Int.RustNames.{int_le}
 use Rattle.std.specs.List.{All, Contains, filter}
 use Rattle.std.proofs.lemmas.Int.{ints}
 use Rattle.interval.specs.Limits.{IsBound}
@@ -18,7 +19,7 @@ use Rattle.guarded_tell.specs.Hearing.{HearsAll}
 use Rattle.guarded_tell.specs.Kernels.{vars_of, tells, IsKernel, IsClosedUnder}
 use Rattle.tell_laws.specs.Narrowing.{narrows}
 use Rattle.guarded_tell.specs.Narrowing.{narrowing_tells}
-use Rattle.guarded_tell.specs.Sides.{AgreeInRead}
+use Rattle.guarded_tell.specs.Sides.{IsOneSided, is_sided}
 use Rattle.moved_set.specs.Sets.{IsIn, Naming, IsNaming, set_at, side_set_at}
 use Rattle.fixpoint_laws.specs.Changes.{TightensOne}
 use Rattle.fixpoint_laws.specs.Rounds.{HasRun}
@@ -27,10 +28,10 @@ use Rattle.moved_fixpoint.specs.declared.joiner.Progress.{Progress}
 use Rattle.moved_fixpoint.specs.declared.joiner.Progress.TheVariants.{Crossed, Refused}
 use Rattle.moved_fixpoint.specs.Moved.{Set, count_of}
 use Rattle.moved_fixpoint.specs.Rested.{Heeds, HasRested}
-use Rattle.moved_fixpoint.specs.Asked.{AreAsked}
+use Rattle.moved_fixpoint.specs.Asked.{has_one, heard_at, AreAsked}
 use Rattle.moved_fixpoint.specs.Heard.{GoesOn, Hears, Joined, joined}
 use Rattle.moved_fixpoint.specs.Gathered.{SideLeavesNone, AreCut, AreGathered}
-use Rattle.moved_fixpoint.specs.Runs.{SameAt, HasVisited, KernelRuns}
+use Rattle.moved_fixpoint.specs.Runs.{SameAt, SparesSide, IsUnmoved, HasVisited, KernelRuns}
 use Rattle.moved_fixpoint.proofs.RestLaws.{in_or_not, proper_of, entailed_here, quiet_here}
 use Rattle.moved_fixpoint.proofs.Hearing.{Effect, IsPlaced, effect, effect_of_all, same_side_back}
 
@@ -49,6 +50,9 @@ Tighter = (b : Bounds) (t : Tell) → narrows b t ≡ false → Keeps b t
 
 abbrev pub Tight : Type 0
 Tight = (b : Bounds) (t : Tell) → narrows b t ≡ true → Keeps b t → ⊥
+
+abbrev pub Sided : Type 0
+Sided = (k : Kernel) (b : Bounds) → IsKernel (length b) k → IsProperIn (vars_of k) b → is_sided k ≡ true → pos 1 ≤ℤ low_of b 0 → IsOneSided k b
 
 abbrev pub Local : Type 0
 Local = (k : Kernel) (b c : Bounds) → AgreeIn (vars_of k) b c → tells k b ≡ tells k c
@@ -100,6 +104,13 @@ none_of_quiet tight b ts keeps = none_left (filter (narrows b) ts) (none_narrow 
     none_left [] e = refl
     none_left (u ∷ us) e = absurd (omega arith)
 
+one_or_not : (b : Bool) → (b ≡ true) ⊎ (b ≡ false)
+one_or_not true = inl refl
+one_or_not false = inr refl
+
+one_least : (z : ℤ) → int_le (pos 1) z ≡ true → pos 1 ≤ℤ z
+one_least z e = omega (arith, ints)
+
 -- a bound that leaves a variable no number isn't kept by a box inside that is proper there
 none_kept : (s : Side) (a b : Bounds) (v : ℕ) (z : ℤ) → SideLeavesNone b s v z → KeepsSide a s v z → low_of b v ≤ℤ low_of a v → high_of a v ≤ℤ high_of b v → low_of a v ≤ℤ high_of a v → ⊥
 none_kept Low a b v z none keeps low high proper = absurd (omega (arith, ints))
@@ -131,7 +142,7 @@ module _ (place : TellPlace) (k : Kernel) (b : Bounds) (kernel : IsKernel (lengt
     gathered_placed = told_all (IsPlaced (length b)) narrowing_placed
 
     module _ (local : Local) (monotone : Monotone) (range : IsInRange b) (proper : IsProper b) (kernels : List Kernel) (i : ℕ) (here : k ≡ get_or kernels i k) (i_in : i < length kernels)
-        (naming : Naming) (named : IsNaming kernels naming) (old : Set) (count : count_of old ≡ length kernels) (rests : Rests) (p : Progress) (tight : Tight) where
+        (naming : Naming) (named : IsNaming kernels naming) (all : All (IsKernel (length b)) kernels) (sided : Sided) (old : Set) (count : count_of old ≡ length kernels) (rests : Rests) (p : Progress) (tight : Tight) where
       inside_own : (c : Bounds) → IsInside c b → IsInsideIn (vars_of k) c b
       inside_own c i = record { lows = λ j h. i.lows _ (kernel.variables.each j h); highs = λ j h. i.highs _ (kernel.variables.each j h) }
 
@@ -167,7 +178,6 @@ module _ (place : TellPlace) (k : Kernel) (b : Bounds) (kernel : IsKernel (lengt
         going = λ g. absurd (over g);
         kept = λ g. absurd (over g);
         unmoved = λ g. absurd (over g);
-        unread = λ g. absurd (over g);
         rested = λ g. absurd (over g);
         heard = λ g. absurd (over g);
         closed = λ g. absurd (over g);
@@ -178,28 +188,48 @@ module _ (place : TellPlace) (k : Kernel) (b : Bounds) (kernel : IsKernel (lengt
       }
 
       module _ (order : InsideOrder) (tighter : Tighter) (after : Bounds) (new : Set) (rests' : Rests) (p' : Progress) (e : Effect b p told told after p')
-          (asked : AreAsked naming rests' after told (set old i false) new) (rested : HasRested k i after rests rests') where
-        -- of a kernel that isn't asked then, no variable moved of which it would heed that
-        spared : GoesOn p' → (j : ℕ) (d : Kernel) → j < length kernels → (IsIn new j → ⊥) → All (λ v. Heeds rests' after j v → SameAt after b v) (vars_of (get_or kernels j d))
-        spared g j d h none x w l heeds =
+          (asked : AreAsked naming rests' after (has_one after) told (set old i false) new) (rested : HasRested k i after rests rests') where
+        -- of a kernel that isn't asked then, nothing moved that it would heed
+        unheard : (j : ℕ) (w : ℕ) (side : Side) → j < length kernels → (IsIn new j → ⊥) → IsIn (heard_at naming (has_one after) side j) w → Heeds rests' after j w → SparesSide told side w
+        unheard j w side h none names heeds y t m same side_is =
+            let len = length-set old i false in
+            none (asked.told j (omega arith) y t m
+            (subst (λ (n : ℕ). IsIn (heard_at naming (has_one after) (get_or told y t).side j) n) same (subst (λ (x : Side). IsIn (heard_at naming (has_one after) x j) w) side_is names))
+            (subst (λ (n : ℕ). Heeds rests' after j n) same heeds))
+
+        both_same : GoesOn p' → (w : ℕ) → SparesSide told Low w → SparesSide told High w → SameAt after b w
+        both_same g w low high = record { low = e.unread g Low w low; high = e.unread g High w high }
+
+        all_same : GoesOn p' → (j : ℕ) (d : Kernel) → j < length kernels → (IsIn new j → ⊥) → ((w : ℕ) (side : Side) → IsIn (set_at naming j) w → IsIn (heard_at naming (has_one after) side j) w) →
+            All (λ v. Heeds rests' after j v → SameAt after b v) (vars_of (get_or kernels j d))
+        all_same g j d h none heard x w l heeds =
             let v : ℕ = get_or (vars_of (get_or kernels j d)) x w in
-            let len = length-set old i false in
-            e.unmoved g v (λ y t m same.
             let names : IsIn (set_at naming j) v = (named.each j d v h).1 (x, l, get_or_default (vars_of (get_or kernels j d)) x v w l) in
-            none (asked.told j (omega arith) y t m (subst (λ (n : ℕ). IsIn (set_at naming j) n) same names) (subst (λ (n : ℕ). Heeds rests' after j n) same heeds)))
+            both_same g v (unheard j v Low h none (heard v Low names) heeds) (unheard j v High h none (heard v High names) heeds)
 
-        -- nor a bound that it reads, if it is alert
-        spared_read : GoesOn p' → (j : ℕ) (d : Kernel) → j < length kernels → (IsIn new j → ⊥) → IsIn rests'.alert.current j → AgreeInRead (get_or kernels j d) b after
-        spared_read g j d h none alert x side l reads =
-            let v : ℕ = get_or (vars_of (get_or kernels j d)) x 0 in
-            let len = length-set old i false in
-            let there : IsIn (side_set_at naming side j) v = named.reads j d x side h l reads in
-            same_side_back side after b v (e.unread g side v (λ y t m same_var same_side.
-            none (asked.read j (omega arith) y t m
-            (subst (λ (s : Side). IsIn (side_set_at naming s j) (get_or told y t).var) same_side (subst (λ (n : ℕ). IsIn (side_set_at naming side j) n) same_var there)) alert)))
+        kernel_at : (j : ℕ) (d : Kernel) → j < length kernels → IsKernel (length after) (get_or kernels j d)
+        kernel_at j d h = subst (λ (n : ℕ). IsKernel n (get_or kernels j d)) (sym e.inside.same_length) (all j d h)
 
-        own_spared : GoesOn p' → (IsIn new i → ⊥) → IsIn rests'.open.current i → IsIn rests'.alert.current i → All (SameAt after b) (vars_of k)
-        own_spared g none is_open alert = subst (λ (x : Kernel). All (SameAt after b) (vars_of x)) (sym here) (λ x w l. spared g i k i_in none x w l (is_open, inl alert))
+        by_sides : GoesOn p' → (j : ℕ) (d : Kernel) → j < length kernels → (IsIn new j → ⊥) → has_one after ≡ true → IsUnmoved (get_or kernels j d) j rests' b after
+        by_sides g j d h none one = elim (named.sided j d h) [
+          | inl either ↦ inl (all_same g j d h none (λ w side names. subst (λ (t : Bool). IsIn (cond t (side_set_at naming side j) (set_at naming j)) w) (sym one) (either side w names)))
+          | inr is ↦ inr (
+            sided (get_or kernels j d) after (kernel_at j d h) (proper_of (get_or kernels j d) (length after) after (kernel_at j d h) refl (e.proper g proper)) is (one_least (low_of after 0) one),
+            λ x side l reads heeds.
+                let v : ℕ = get_or (vars_of (get_or kernels j d)) x 0 in
+                e.unread g side v (unheard j v side h none
+                (subst (λ (t : Bool). IsIn (cond t (side_set_at naming side j) (set_at naming j)) v) (sym one) (named.reads j d x side h l reads)) heeds),
+          )
+        ]
+
+        spared : GoesOn p' → (j : ℕ) (d : Kernel) → j < length kernels → (IsIn new j → ⊥) → IsUnmoved (get_or kernels j d) j rests' b after
+        spared g j d h none = elim (one_or_not (has_one after)) [
+          | inl one ↦ by_sides g j d h none one
+          | inr no_one ↦ inl (all_same g j d h none (λ w side names. subst (λ (t : Bool). IsIn (cond t (side_set_at naming side j) (set_at naming j)) w) (sym no_one) names))
+        ]
+
+        own_spared : GoesOn p' → (IsIn new i → ⊥) → IsUnmoved k i rests' b after
+        own_spared g none = subst (λ (x : Kernel). IsUnmoved x i rests' b after) (sym here) (spared g i k i_in none)
 
         kept_set : (j : ℕ) → j ≢ i → IsIn old j → IsIn new j
         kept_set j ne is_in = asked.kept j (get_or-set_other old i j false false ne ∙ is_in)
@@ -211,29 +241,29 @@ module _ (place : TellPlace) (k : Kernel) (b : Bounds) (kernel : IsKernel (lengt
         silent : GoesOn p' → after ≡ b → All (Keeps after) (tells k b) → new ≡ set old i false
         silent g same heard = asked.none (none_told after p' e g (subst (λ (x : Bounds). All (Keeps x) (tells k b)) same heard))
 
-        closed_alert : GoesOn p' → (IsIn new i → ⊥) → IsIn rests'.open.current i → IsIn rests'.alert.current i → IsClosedUnder k after
-        closed_alert g none is_open alert =
-            let same = agree_in k after b (own_spared g none is_open alert) in
+        proper_then : GoesOn p' → IsProperIn (vars_of k) after
+        proper_then g = proper_of k (length b) after kernel e.inside.same_length (e.proper g proper)
+
+        closed_same : GoesOn p' → All (SameAt after b) (vars_of k) → IsClosedUnder k after
+        closed_same g moved =
+            let same = agree_in k after b moved in
             record {
               proper = proper_unless k after b same (proper_in proper);
               kept = subst (λ (ts : List Tell). All (Keeps after) ts) (sym (local k after b same)) (heard_all tighter after p' e g);
             }
 
-        proper_then : GoesOn p' → IsProperIn (vars_of k) after
-        proper_then g = proper_of k (length b) after kernel e.inside.same_length (e.proper g proper)
+        closed_alert : GoesOn p' → (IsIn new i → ⊥) → IsIn rests'.open.current i → IsIn rests'.alert.current i → IsClosedUnder k after
+        closed_alert g none is_open alert = elim (own_spared g none) [
+          | inl same ↦ closed_same g (λ x w l. same x w l (is_open, inl alert))
+          | inr one ↦ one.0 b after (order.itself after) e.inside (proper_then g)
+              (λ x side l reads. same_side_back side after b (get_or (vars_of k) x 0) (one.1 x side l reads (is_open, inl alert))) (heard_all tighter after p' e g)
+        ]
 
         closed_own : GoesOn p' → (IsIn new i → ⊥) → IsIn rests.open.current i → IsClosedUnder k after
         closed_own g none was_open = elim (in_or_not rests'.open.current i) [
-          | inr shut ↦ elim (in_or_not rests'.alert.current i) [
-            | inl alert ↦ elim (rested.sided shut) [
-              | inl was_shut ↦ absurd (was_shut was_open)
-              | inr sided ↦ sided b after (order.itself after) e.inside (proper_then g)
-                  (subst (λ (x : Kernel). AgreeInRead x b after) (sym here) (spared_read g i k i_in none alert)) (heard_all tighter after p' e g)
-            ]
-            | inr dozing ↦ elim (rested.entailed shut dozing) [
-              | inl was_shut ↦ absurd (was_shut.0 was_open)
-              | inr entailed ↦ entailed_here order k after (proper_then g) entailed
-            ]
+          | inr shut ↦ elim (rested.entailed shut) [
+            | inl was_shut ↦ absurd (was_shut was_open)
+            | inr entailed ↦ entailed_here order k after (proper_then g) entailed
           ]
           | inl is_open ↦ elim (in_or_not rests'.alert.current i) [
             | inl alert ↦ closed_alert g none is_open alert
@@ -248,7 +278,6 @@ module _ (place : TellPlace) (k : Kernel) (b : Bounds) (kernel : IsKernel (lengt
           going = e.going;
           kept = λ g j ne is_in. kept_set j ne is_in;
           unmoved = spared;
-          unread = spared_read;
           rested = λ g. rested;
           heard = heard_all tighter after p' e;
           closed = closed_own;
@@ -282,13 +311,13 @@ module _ (place : TellPlace) (k : Kernel) (b : Bounds) (kernel : IsKernel (lengt
           proper_after g = proper_of k (length b) then kernel length_after (subst IsProper (sym then_is) (own_heard.proper g proper))
 
         pub gathered_runs : (rested_on : Bounds) → rested_on ≡ after → (rests_before : Rests) → rests_before ≡ rests → (rests' : Rests) → HasRested k i rested_on rests_before rests' →
-            (asked_on : Bounds) → asked_on ≡ after → (told' : List Tell) → told' ≡ told → (mid new : Set) → mid ≡ set old i false → AreAsked naming rests' asked_on told' mid new →
+            (asked_on : Bounds) → asked_on ≡ after → (told' : List Tell) → told' ≡ told → (mid new : Set) → mid ≡ set old i false → AreAsked naming rests' asked_on (has_one asked_on) told' mid new →
             HasVisited kernels i k b old rests p after new rests' p'
         gathered_runs rested_on on_is rests_before before_is rests' rested asked_on asked_is told' told_is mid new mid_is asked =
             kernel_runs order tighter after new rests' p' own_heard
-            (subst (λ (s : Set). AreAsked naming rests' after told s new) mid_is
-            (subst (λ (ts : List Tell). AreAsked naming rests' after ts mid new) told_is
-            (subst (λ (x : Bounds). AreAsked naming rests' x told' mid new) asked_is asked)))
+            (subst (λ (s : Set). AreAsked naming rests' after (has_one after) told s new) mid_is
+            (subst (λ (ts : List Tell). AreAsked naming rests' after (has_one after) ts mid new) told_is
+            (subst (λ (x : Bounds). AreAsked naming rests' x (has_one x) told' mid new) asked_is asked)))
             (subst (λ (r : Rests). HasRested k i after r rests') before_is
             (subst (λ (x : Bounds). HasRested k i x rests_before rests') on_is rested))
 
@@ -307,12 +336,11 @@ pub none_heard : (j : Joined) (ts : List Tell) → length ts ≡ 0 → HearsAll 
 none_heard j [] e = refl
 none_heard j (t ∷ ts) e = absurd (omega arith)
 
-pub none_asked : (naming : Naming) (rests : Rests) (b : Bounds) (ts : List Tell) (set : Set) → length ts ≡ 0 → AreAsked naming rests b ts set set
-none_asked naming rests b ts set e = record {
+pub none_asked : (naming : Naming) (rests : Rests) (b : Bounds) (by_side : Bool) (ts : List Tell) (set : Set) → length ts ≡ 0 → AreAsked naming rests b by_side ts set set
+none_asked naming rests b by_side ts set e = record {
   same_count = refl;
   kept = λ j h. h;
   told = λ j h i d inside. absurd (omega arith);
-  read = λ j h i d inside. absurd (omega arith);
   none = λ n. refl;
 }
 

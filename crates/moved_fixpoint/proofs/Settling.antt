@@ -33,7 +33,7 @@ pub rest_at_end : (kernels : List Kernel) (b c : Bounds) (m : Set) (rests : Rest
 rest_at_end kernels b c m rests r =
     let then = r.at_rest tt in
     let still = r.still refl in
-    record { entailed = then.entailed; sided = then.sided; dormant = λ j k h dozing. then.dormant j k h (still.2 j) dozing }
+    record { entailed = then.entailed; dormant = λ j k h dozing. then.dormant j k h (still.2 j) dozing }
 
 pub stacks_through : (a b c : Rests) → KeepStacks a b → KeepStacks b c → KeepStacks a c
 stacks_through a b c s t = record { open_stack = t.open_stack ∙ s.open_stack; alert_stack = t.alert_stack ∙ s.alert_stack }

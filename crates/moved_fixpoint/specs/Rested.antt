@@ -5,7 +5,6 @@ use Rattle.guarded_tell.specs.declared.kernel.Kernel.{Kernel}
 use Rattle.guarded_tell.specs.declared.resting.Rest.{Rest}
 use Rattle.guarded_tell.specs.declared.resting.Rest.TheVariants.{Awake, UntilFixed, ForGood}
 use Rattle.guarded_tell.specs.Rests.{IsFixedAt, IsEntailed, IsQuietUntilFixed}
-use Rattle.guarded_tell.specs.Sides.{IsOneSided}
 use Rattle.moved_set.specs.Sets.{IsIn}
 use Rattle.moved_fixpoint.specs.declared.rests.Rests.{Rests}
 
@@ -13,20 +12,15 @@ use Rattle.moved_fixpoint.specs.declared.rests.Rests.{Rests}
 abbrev pub Heeds : Rests → Bounds → ℕ → ℕ → Type 0
 Heeds rests b j v = IsIn rests.open.current j × (IsIn rests.alert.current j ⊎ IsFixedAt b v)
 
--- it heeds that some bound of the variable moved: it is alert, or it is open and the variable is fixed
-abbrev pub HeedsEither : Rests → Bounds → ℕ → ℕ → Type 0
-HeedsEither rests b j v = IsIn rests.alert.current j ⊎ (IsIn rests.open.current j × IsFixedAt b v)
-
 -- the kernel at a place is alert, or stays as it was, or rests for good
 abbrev pub IsNoted : ℕ → Rest → Rests → Rests → Type 0
 IsNoted i Awake old new = (new.open.current ≡ old.open.current) × (new.alert.current ≡ slice_set old.alert.current i true)
 IsNoted i UntilFixed old new = (new.open.current ≡ old.open.current) × (new.alert.current ≡ old.alert.current)
 IsNoted i ForGood old new = (new.open.current ≡ slice_set old.open.current i false) × (new.alert.current ≡ slice_set old.alert.current i false)
 
--- the kernel at a place is open and alert then, or it is one-sided or rests on the box; the others are what they were
+-- the kernel at a place is open and alert then, or it rests on the box; the others are what they were
 pub record HasRested (kernel : Kernel) (i : ℕ) (b : Bounds) (old new : Rests) : Type 0 where
   pub open_others : (j : ℕ) → j ≢ i → slice_index_or new.open.current j false ≡ slice_index_or old.open.current j false
   pub alert_others : (j : ℕ) → j ≢ i → slice_index_or new.alert.current j false ≡ slice_index_or old.alert.current j false
-  pub sided : (IsIn new.open.current i → ⊥) → (IsIn old.open.current i → ⊥) ⊎ IsOneSided kernel b
-  pub entailed : (IsIn new.open.current i → ⊥) → (IsIn new.alert.current i → ⊥) → ((IsIn old.open.current i → ⊥) × (IsIn old.alert.current i → ⊥)) ⊎ IsEntailed kernel b
+  pub entailed : (IsIn new.open.current i → ⊥) → (IsIn old.open.current i → ⊥) ⊎ IsEntailed kernel b
   pub dormant : (IsIn new.alert.current i → ⊥) → IsQuietUntilFixed kernel b

@@ -5,7 +5,6 @@ use Rattle.interval.specs.Boxes.{Bounds, put_of, IsInside}
 use Rattle.guarded_tell.specs.declared.kernel.Kernel.{Kernel}
 use Rattle.guarded_tell.specs.Kernels.{vars_of}
 use Rattle.guarded_tell.specs.Rests.{IsFixedAt, IsEntailed, IsQuietUntilFixed}
-use Rattle.guarded_tell.specs.Sides.{IsOneSided}
 use Rattle.moved_set.specs.Sets.{IsIn}
 use Rattle.moved_set.specs.Layers.{Layers}
 use Rattle.moved_fixpoint.specs.declared.rests.Rests.{Rests}
@@ -57,24 +56,17 @@ pub record IsBack (old new : Layers) : Type 0 where
   pub none : old.stack ≡ [] → new ≡ old
   pub same_count : count_of new.current ≡ count_of old.current
 
--- each kernel that is neither open nor alert narrows no box inside this one
-abbrev pub AreEntailedUnless : Set → Set → Bounds → List Kernel → Type 0
-AreEntailedUnless open_ones alert b kernels = (j : ℕ) (k : Kernel) → j < length kernels → (IsIn open_ones j → ⊥) → (IsIn alert j → ⊥) →
-    IsEntailed (slice_index_or kernels j k) b
-
--- each kernel that isn't open is one-sided
-abbrev pub AreOneSidedUnlessOpen : Set → Bounds → List Kernel → Type 0
-AreOneSidedUnlessOpen open_ones b kernels = (j : ℕ) (k : Kernel) → j < length kernels → (IsIn open_ones j → ⊥) → IsOneSided (slice_index_or kernels j k) b
+-- each kernel that isn't open narrows no box inside this one
+abbrev pub AreEntailedUnlessOpen : Set → Bounds → List Kernel → Type 0
+AreEntailedUnlessOpen open_ones b kernels = (j : ℕ) (k : Kernel) → j < length kernels → (IsIn open_ones j → ⊥) → IsEntailed (slice_index_or kernels j k) b
 
 -- each kernel that isn't alert narrows no box inside this one as long as no other of its variables is fixed
 abbrev pub AreRestingUnlessAlert : Set → Bounds → List Kernel → Type 0
 AreRestingUnlessAlert alert b kernels = (j : ℕ) (k : Kernel) → j < length kernels → (IsIn alert j → ⊥) → IsQuietUntilFixed (slice_index_or kernels j k) b
 
--- kernels that aren't open are one-sided, those that aren't alert rest until another of their variables is fixed, and those
--- that are neither are entailed
+-- kernels that aren't open are entailed, and those that aren't alert rest until another of their variables is fixed
 pub record AreResting (open_ones alert : Set) (b : Bounds) (kernels : List Kernel) : Type 0 where
-  pub entailed : AreEntailedUnless open_ones alert b kernels
-  pub sided : AreOneSidedUnlessOpen open_ones b kernels
+  pub entailed : AreEntailedUnlessOpen open_ones b kernels
   pub dormant : AreRestingUnlessAlert alert b kernels
 
 -- none of these variables both moved and is fixed
@@ -87,11 +79,10 @@ abbrev pub AreRestingUnlessMoved : Set → Set → Set → Bounds → List Kerne
 AreRestingUnlessMoved asked alert moved b kernels = (j : ℕ) (k : Kernel) → j < length kernels → (IsIn asked j → ⊥) → (IsIn alert j → ⊥) →
     NoneIsNewlyFixed moved b (vars_of (slice_index_or kernels j k)) → IsQuietUntilFixed (slice_index_or kernels j k) b
 
--- what a call of propagation begins with: kernels that aren't open are one-sided, those that are neither open nor alert are
--- entailed, and those that are neither asked nor alert rest, but for those of which a variable that moved is fixed
+-- what a call of propagation begins with: kernels that aren't open are entailed, and those that are neither asked nor alert
+-- rest, but for those of which a variable that moved is fixed
 pub record Knows (asked open_ones alert moved : Set) (b : Bounds) (kernels : List Kernel) : Type 0 where
-  pub entailed : AreEntailedUnless open_ones alert b kernels
-  pub sided : AreOneSidedUnlessOpen open_ones b kernels
+  pub entailed : AreEntailedUnlessOpen open_ones b kernels
   pub dormant : AreRestingUnlessMoved asked alert moved b kernels
 
 -- how callers come by what a call begins with: from the end of one before, whatever is asked and moved then; where one

@@ -3,10 +3,10 @@
 ghost use Rattle.std.specs.Prelude.{◌≡◌, ◌<◌, ◌↔◌, ℕ, length, IsTrue};
 ghost use Rattle.std.specs.List.{All};
 ghost use Rattle.guarded_tell.specs.Rests.{IsFixedAt};
-ghost use Rattle.moved_set.specs.Sets.{IsIn};
+ghost use Rattle.moved_set.specs.Sets.{IsIn, set_at, side_set_at};
 ghost use Rattle.moved_fixpoint.specs.Moved.{count_of};
 ghost use Rattle.moved_fixpoint.specs.Resting.{FitRests};
-ghost use Rattle.moved_fixpoint.specs.Asked.{AreAskedFor, AreDrawn, IsAskedByName, IsAskedFor, IsAskedForEither};
+ghost use Rattle.moved_fixpoint.specs.Asked.{AreAskedFor, AreDrawn, has_one, heard_at, IsAskedBy};
 
 use crate::rests::Rests;
 use crate::sets::AskedSets;
@@ -22,45 +22,65 @@ fn is_fixed(b: &BoxOf, v: u32) -> bool
     b.low(v) == b.high(v)
 }
 
-/// Asks the kernels that name a variable that moved: where it is fixed all that are open, else those that are alert too.
-#[inline(always)]
-fn ask_named(masks: &Masks, v: u32, b: &BoxOf, rests: &Rests, asked: &mut AskedSet)
-    requires variable { v < masks.now.count }
-    requires length { masks.now.count ≡ length b.now }
-    requires set { count_of asked.old ≡ length masks.now.sets }
-    requires rests { FitRests (length masks.now.sets) rests.now }
-    ensures { IsAskedByName masks.now rests.now b.now v asked.old asked.new }
+/// Whether the first variable is at least 1: then kernels are asked by side.
+pub(crate) fn has_one(b: &BoxOf) -> bool
+    ensures { result ≡ has_one b.now }
 {
-    if is_fixed(b, v) {
-        masks.ask_in(v, &rests.open, asked);
-    } else {
-        masks.ask_in_both(v, &rests.open, &rests.alert, asked);
-    }
+    b.len() > 0 && b.low(0) >= 1
 }
 
-/// Asks the kernels that name the variable of a tell that moved it, and those that are alert and read that bound of it.
-#[inline(always)]
-pub(crate) fn ask(masks: &Masks, t: Tell, b: &BoxOf, rests: &Rests, asked: &mut AskedSet)
-    requires variable { t.var < masks.now.count }
-    requires length { masks.now.count ≡ length b.now }
-    requires set { count_of asked.old ≡ length masks.now.sets }
-    requires rests { FitRests (length masks.now.sets) rests.now }
-    ensures { IsAskedFor masks.now rests.now b.now t asked.old asked.new }
-{
-    ask_named(masks, t.var, b, rests, asked);
-    masks.ask_side_in(t.var, t.side, &rests.alert, asked);
-}
-
-/// Asks the kernels that name a variable of which some bound moved, whichever of them they read.
+/// Asks the kernels that name a variable that moved: where it is fixed all that are open, else those that are alert.
 fn ask_either(masks: &Masks, v: u32, b: &BoxOf, rests: &Rests, asked: &mut AskedSet)
     requires variable { v < masks.now.count }
     requires length { masks.now.count ≡ length b.now }
     requires set { count_of asked.old ≡ length masks.now.sets }
     requires rests { FitRests (length masks.now.sets) rests.now }
-    ensures { IsAskedForEither masks.now rests.now b.now v asked.old asked.new }
+    ensures { IsAskedBy (λ j. set_at masks.now j) rests.now b.now v asked.old asked.new }
 {
-    ask_named(masks, v, b, rests, asked);
-    masks.ask_in(v, &rests.alert, asked);
+    if is_fixed(b, v) {
+        masks.ask_in(v, &rests.open, asked);
+    } else {
+        masks.ask_in(v, &rests.alert, asked);
+    }
+}
+
+/// The same of those that are asked by the bound of a tell.
+#[inline(always)]
+fn ask_side(masks: &Masks, t: Tell, b: &BoxOf, rests: &Rests, asked: &mut AskedSet)
+    requires variable { t.var < masks.now.count }
+    requires length { masks.now.count ≡ length b.now }
+    requires set { count_of asked.old ≡ length masks.now.sets }
+    requires rests { FitRests (length masks.now.sets) rests.now }
+    ensures { IsAskedBy (λ j. side_set_at masks.now t.side j) rests.now b.now t.var asked.old asked.new }
+{
+    if is_fixed(b, t.var) {
+        masks.ask_side_in(t.var, t.side, &rests.open, asked);
+    } else {
+        masks.ask_side_in(t.var, t.side, &rests.alert, asked);
+    }
+}
+
+/// Asks for a tell, by its side or by its variable alone.
+#[inline(always)]
+pub(crate) fn ask(
+    masks: &Masks,
+    t: Tell,
+    by_side: bool,
+    b: &BoxOf,
+    rests: &Rests,
+    asked: &mut AskedSet,
+)
+    requires variable { t.var < masks.now.count }
+    requires length { masks.now.count ≡ length b.now }
+    requires set { count_of asked.old ≡ length masks.now.sets }
+    requires rests { FitRests (length masks.now.sets) rests.now }
+    ensures { IsAskedBy (λ j. heard_at masks.now by_side t.side j) rests.now b.now t.var asked.old asked.new }
+{
+    if by_side {
+        ask_side(masks, t, b, rests, asked);
+    } else {
+        ask_either(masks, t.var, b, rests, asked);
+    }
 }
 
 /// Asks for each of these variables.

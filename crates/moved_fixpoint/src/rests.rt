@@ -13,9 +13,9 @@ use std::alloc::Global;
 /// Which kernels rest, as sets that go back with the box.
 #[derive(Drop)]
 pub struct Rests {
-    /// Those that heed whichever bound of a variable moves, or that it is fixed. The others are one-sided, or rest for good.
+    /// Those that may narrow a box inside the current one. The others rest for good.
     pub open: TrailedSet,
-    /// Those that are visited once a bound moves that they heed. The others rest until one of their variables is fixed.
+    /// Those that are visited once a variable of theirs moves. The others rest until one of their variables is fixed.
     pub alert: TrailedSet,
 }
 

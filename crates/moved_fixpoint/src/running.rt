@@ -6,16 +6,16 @@ ghost use Rattle.interval.specs.Boxes.{IsProper};
 ghost use Rattle.guarded_tell.specs.Kernels.{IsKernel};
 ghost use Rattle.moved_fixpoint.specs.Moved.{AreMasksOf, count_of};
 ghost use Rattle.moved_fixpoint.specs.Resting.{FitRests, KeepStacks};
-ghost use Rattle.moved_fixpoint.specs.Asked.{AreAsked};
+ghost use Rattle.moved_fixpoint.specs.Asked.{has_one, AreAsked};
 ghost use Rattle.moved_fixpoint.specs.Runs.{KernelRuns};
 
-use crate::drawing::ask;
+use crate::drawing::{ask, has_one};
 use crate::joiner::{Progress, join_all};
 use crate::rests::Rests;
 use crate::sets::AskedSets;
 use fixpoint_laws::law_tightens_one;
 use guarded_tell::{
-    Kernel, Tell, law_local, law_monotone, law_narrowing, law_tell_place, seen_rest,
+    Kernel, Tell, law_local, law_monotone, law_narrowing, law_sided, law_tell_place, seen_rest,
 };
 use interval::{BoxOf, law_inside_order};
 use moved_set::{AskedSet, Masks};
@@ -27,10 +27,11 @@ fn ask_told(masks: &Masks, told: &[Tell], b: &BoxOf, rests: &Rests, asked: &mut 
     requires length { masks.now.count ≡ length b.now }
     requires set { count_of asked.old ≡ length masks.now.sets }
     requires rests { FitRests (length masks.now.sets) rests.now }
-    ensures { AreAsked masks.now rests.now b.now told.now asked.old asked.new }
+    ensures { AreAsked masks.now rests.now b.now (has_one b.now) told.now asked.old asked.new }
 {
+    let by_side = has_one(b);
     for t in told {
-        ask(masks, *t, b, rests, asked);
+        ask(masks, *t, by_side, b, rests, asked);
     }
 }
 
@@ -63,15 +64,14 @@ pub(crate) fn run_kernel(
     law_monotone();
     law_tell_place();
     law_narrowing();
+    law_sided();
     // its contract says that the bounds are in range
     let _length = b.len();
     let kernel = &kernels[place];
-    let shape = masks.shape(place);
-    let on = b.current();
-    match seen_rest(kernel, shape, on) {
+    match seen_rest(kernel, masks.shape(place), b.current()) {
         Some(rest) => {
             sets.asked.forget(place);
-            if sets.rest_for(kernel, shape, place, on, rest).is_ok() {
+            if sets.rest_for(place, rest).is_ok() {
                 progress
             } else {
                 Progress::Refused
@@ -109,14 +109,14 @@ fn run_unseen(
     law_monotone();
     law_tell_place();
     law_narrowing();
+    law_sided();
     // its contract says that the bounds are in range
     let _length = b.len();
     let kernel = &kernels[place];
     sets.asked.forget(place);
     let shape = masks.shape(place);
-    let on = b.current();
-    if let Some(rest) = sets.visit(kernel, shape, place, on) {
-        return if sets.rest_for(kernel, shape, place, on, rest).is_ok() {
+    if let Some(rest) = sets.visit(kernel, shape, place, b.current()) {
+        return if sets.rest_for(place, rest).is_ok() {
             progress
         } else {
             Progress::Refused

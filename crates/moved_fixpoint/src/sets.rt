@@ -1,8 +1,9 @@
 //! What propagation keeps from round to round and from call to call.
 
 ghost use Rattle.std.specs.Prelude.{◌≡◌, ◌<◌, false, [], length, IfOk, IfSome, IfNone, OnOk, OnErr};
+ghost use Rattle.interval.specs.Boxes.{Bounds};
+ghost use Rattle.guarded_tell.specs.declared.kernel.Kernel.{Kernel};
 ghost use Rattle.guarded_tell.specs.Words.{IsProperIn};
-ghost use Rattle.moved_set.specs.Sets.{IsIn};
 ghost use Rattle.guarded_tell.specs.Kernels.{vars_of, IsKernel};
 ghost use Rattle.guarded_tell.specs.Narrowing.{narrowing_tells};
 ghost use Rattle.guarded_tell.specs.Shapes.{IsShapeOf};
@@ -14,7 +15,7 @@ ghost use Rattle.moved_fixpoint.specs.Rested.{HasRested};
 
 use crate::rests::Rests;
 use crate::told::Told;
-use guarded_tell::{Hint, Kernel, Rest, Shape, is_one_sided, law_narrowing, rest_of};
+use guarded_tell::{Hint, Kernel, Rest, Shape, law_narrowing, rest_of};
 use interval::{BoxOf, NoMemory};
 use moved_set::{AskedSet, MovedSet};
 use std::alloc::Global;
@@ -196,72 +197,20 @@ impl AskedSets {
         ensures rested { OnOk result (HasRested kernel.now place b.now self.old.rests self.new.rests) }
     {
         let rest = self.rest_at(kernel, shape, place, b);
-        self.rest_for(kernel, shape, place, b, rest)
+        self.rest_for(place, rest)
     }
 
-    /// Lets the kernel at a place rest so long. Where it doesn't rest it is seen whether it is one-sided: once, or at each visit
-    /// where its shape says so.
+    /// Lets the kernel at a place rest so long.
     #[inline(always)]
-    pub(crate) fn rest_for(
-        &mut self,
-        kernel: &Kernel,
-        shape: &Shape,
-        place: usize,
-        b: &BoxOf,
-        rest: Rest,
-    ) -> Result<(), NoMemory>
-        requires kernel { IsKernel (length b.now) kernel.now }
-        requires shape { IsShapeOf kernel.now shape.now }
-        requires proper { IsProperIn (vars_of kernel.now) b.now }
-        requires rest { IsRest kernel.now b.now rest }
+    pub(crate) fn rest_for(&mut self, place: usize, rest: Rest) -> Result<(), NoMemory>
         requires open { place < count_of self.old.rests.open.current }
         requires alert { place < count_of self.old.rests.alert.current }
         ensures asked { self.new.asked ≡ self.old.asked }
         ensures told { self.new.told ≡ self.old.told }
         ensures counts { KeepCounts self.old.rests self.new.rests }
         ensures stacks { KeepStacks self.old.rests self.new.rests }
-        ensures rested { OnOk result (HasRested kernel.now place b.now self.old.rests self.new.rests) }
+        ensures rested { (k : Kernel) (b : Bounds) → IsRest k b rest → OnOk result (HasRested k place b self.old.rests self.new.rests) }
     {
-        let is_new = !self.rests.alert.has(place);
-        self.rests.note(place, rest)?;
-        if (is_new || is_difference(shape))
-            && self.rests.alert.has(place)
-            && self.rests.open.has(place)
-        {
-            self.see_side(kernel, shape, place, b)
-        } else {
-            Ok(())
-        }
+        self.rests.note(place, rest)
     }
-
-    /// Sees whether the kernel at a place, which is alert, is one-sided: then it isn't open.
-    fn see_side(
-        &mut self,
-        kernel: &Kernel,
-        shape: &Shape,
-        place: usize,
-        b: &BoxOf,
-    ) -> Result<(), NoMemory>
-        requires kernel { IsKernel (length b.now) kernel.now }
-        requires shape { IsShapeOf kernel.now shape.now }
-        requires proper { IsProperIn (vars_of kernel.now) b.now }
-        requires open { place < count_of self.old.rests.open.current }
-        requires alert { IsIn self.old.rests.alert.current place }
-        ensures asked { self.new.asked ≡ self.old.asked }
-        ensures told { self.new.told ≡ self.old.told }
-        ensures counts { KeepCounts self.old.rests self.new.rests }
-        ensures stacks { KeepStacks self.old.rests self.new.rests }
-        ensures rested { OnOk result (HasRested kernel.now place b.now self.old.rests self.new.rests) }
-    {
-        if is_one_sided(kernel, shape, b) {
-            self.rests.open.remove(place)
-        } else {
-            Ok(())
-        }
-    }
-}
-
-/// Whether the shape is that of a sum of two terms that is at most a limit.
-fn is_difference(shape: &Shape) -> bool {
-    matches!(shape, Shape::AtMost { .. })
 }

@@ -8,7 +8,7 @@ use Rattle.std.proofs.lemmas.Bool.Decides.{Decides-eqb, nat_tests}
 use Rattle.std.proofs.lemmas.List.{length-set, length-replicate, get_or-set_same, get_or-set_other, get_or-replicate, take_more}
 use Rattle.std.proofs.lemmas.Nat.Bits.{bit_at_clear_same, bit_at_clear_other, bit_at_and, bit_at-lt}
 use Rattle.moved_set.specs.Words.{has_bit, has, set_of, hits, names}
-use Rattle.moved_set.specs.Asked.{are_both_in, IsFirst, IsLast, IsUnited, IsUnitedIn}
+use Rattle.moved_set.specs.Asked.{IsFirst, IsLast, IsUnited, IsUnitedIn}
 use Rattle.moved_set.specs.declared.mask.Mask.{Mask}
 use Rattle.moved_set.proofs.SetLaws.{length-set_of, set_of_at, set_of_is, has_bit-or}
 
@@ -183,22 +183,17 @@ named_in row i d j old now wanted h is =
     ∙ or_and_move old (names (take i row) j) (hits j (get_or row i d)) wanted
     ∙ ap (λ (b : Bool). old || (b && wanted)) (sym more)
 
-pub and_three : (a b c : Bool) → ((a && b) && c) ≡ (a && (b && c))
-and_three true b c = refl
-and_three false b c = refl
-
-pub united_in_with : (old : List Bool) (words lent new items : List ℕ) (row : List Mask) (wanted also : List Bool) (wanted_words also_words : List ℕ) (count : ℕ) → set_of words count ≡ old → lent ≡ words → items ≡ new
-    → ((j : ℕ) → j < count → has wanted_words j ≡ get_or wanted j false) → ((j : ℕ) → j < count → has also_words j ≡ get_or also j false)
-    → ((j : ℕ) → has new j ≡ (has lent j || (names row j && (has wanted_words j && has also_words j)))) → IsUnitedIn old row (are_both_in wanted also) (set_of items count)
-united_in_with old words lent new items row wanted also wanted_words also_words count is lent_is items_are wanted_are also_are each =
-    let one : IsUnitedIn (set_of words count) row (are_both_in wanted also) (set_of new count) = record {
+pub united_in_with : (old : List Bool) (words lent new items : List ℕ) (row : List Mask) (wanted : List Bool) (wanted_words : List ℕ) (count : ℕ) → set_of words count ≡ old → lent ≡ words → items ≡ new
+    → ((j : ℕ) → j < count → has wanted_words j ≡ get_or wanted j false)
+    → ((j : ℕ) → has new j ≡ (has lent j || (names row j && has wanted_words j))) → IsUnitedIn old row wanted (set_of items count)
+united_in_with old words lent new items row wanted wanted_words count is lent_is items_are wanted_are each =
+    let one : IsUnitedIn (set_of words count) row wanted (set_of new count) = record {
       same_length = length-set_of new count ∙ sym (length-set_of words count);
       each = λ j h.
           let within : j < count = omega (arith, length-set_of words count) in
-          set_of_at new count j within ∙ each j ∙ ap (λ (ws : List ℕ). has ws j || (names row j && (has wanted_words j && has also_words j))) lent_is
-          ∙ ap (λ (b : Bool). has words j || (names row j && (b && has also_words j))) (wanted_are j within)
-          ∙ ap (λ (b : Bool). has words j || (names row j && (get_or wanted j false && b))) (also_are j within)
-          ∙ ap (λ (b : Bool). b || (names row j && are_both_in wanted also j)) (sym (set_of_at words count j within));
+          set_of_at new count j within ∙ each j ∙ ap (λ (ws : List ℕ). has ws j || (names row j && has wanted_words j)) lent_is
+          ∙ ap (λ (b : Bool). has words j || (names row j && b)) (wanted_are j within)
+          ∙ ap (λ (b : Bool). b || (names row j && get_or wanted j false)) (sym (set_of_at words count j within));
     } in
-    let two : IsUnitedIn old row (are_both_in wanted also) (set_of new count) = subst (λ (s : List Bool). IsUnitedIn s row (are_both_in wanted also) (set_of new count)) is one in
-    subst (λ (ws : List ℕ). IsUnitedIn old row (are_both_in wanted also) (set_of ws count)) (sym items_are) two
+    let two : IsUnitedIn old row wanted (set_of new count) = subst (λ (s : List Bool). IsUnitedIn s row wanted (set_of new count)) is one in
+    subst (λ (ws : List ℕ). IsUnitedIn old row wanted (set_of ws count)) (sym items_are) two

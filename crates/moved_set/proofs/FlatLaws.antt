@@ -1,8 +1,9 @@
 -- Lists that lie one after the other in one list.
-use Rattle.std.proofs.Common.{◌≡◌, ℕ, ◌+◌, ◌-◌, ◌<◌, ◌≤◌, List, [], ◌∷◌, ◌++◌, length, get_or, take, drop, refl, sym, ◌∙◌, ap, ⊎_elim, arith}
+use Rattle.std.proofs.Common.{◌≡◌, ℕ, zero, suc, ◌+◌, ◌-◌, ◌<◌, ◌≤◌, List, [], ◌∷◌, ◌++◌, length, get_or, take, drop, refl, sym, ◌∙◌, ap, subst, ⊎_elim, arith}
 use Rattle.std.specs.List.{slice_range}
 use Rattle.std.proofs.lemmas.Bool.{cases_lt}
 use Rattle.std.proofs.lemmas.List.{length-append, length-drop, get_or_append_left, get_or_push, ext_get_or, drop-append-le, drop_at, take-append-le, take_all}
+use Rattle.std.proofs.Math.Seq.{take-add, drop-nil}
 use Rattle.std.proofs.lemmas.List.FromFn.{length-map-range_with_len, get_or-map-range_with_len}
 use Rattle.moved_set.specs.Flat.{groups_of, IsFlat}
 use Rattle.moved_set.specs.declared.mask.Mask.{Mask}
@@ -56,3 +57,55 @@ flat_push starts masks more flat =
     ∙ part_new masks more
     ∙ sym (get_or_push (groups_of starts masks) more [] i (omega (arith, length-groups_of starts masks))) in
     ⊎_elim old new (cases_lt i (length starts - 1)))
+
+drop-drop : (a b : ℕ) (masks : List Mask) → a ≤ b → drop (b - a) (drop a masks) ≡ drop b masks
+drop-drop zero b masks le = ap (λ (n : ℕ). drop n masks) (omega arith)
+drop-drop (suc a) zero masks le = absurd (omega arith)
+drop-drop (suc a) (suc b) [] le = drop-nil (suc b - suc a) ∙ sym (drop-nil (suc b))
+drop-drop (suc a) (suc b) (m ∷ ms) le = ap (λ (n : ℕ). drop n (drop a ms)) (omega arith) ∙ drop-drop a b ms (omega arith)
+
+-- two parts that follow each other are one
+pub parts_join : (masks : List Mask) (a b c : ℕ) → a ≤ b → b ≤ c → slice_range masks a c ≡ slice_range masks a b ++ slice_range masks b c
+parts_join masks a b c le lt =
+    let count : c - a ≡ (b - a) + (c - b) = omega arith in
+    let here : drop (b - a) (drop a masks) ≡ drop b masks = drop-drop a b masks le in
+    ap (λ (n : ℕ). take n (drop a masks)) count ∙ take-add (b - a) (c - b) (drop a masks) ∙ ap (λ (ms : List Mask). take (b - a) (drop a masks) ++ take (c - b) ms) here
+
+-- the starts rise
+pub rise_one : (starts : List ℕ) (masks : List Mask) (i : ℕ) → IsFlat starts masks → i + 1 < length starts → get_or starts i 0 ≤ get_or starts (i + 1) 0
+rise_one starts masks i flat h = flat.rising i h
+
+pub rise_two : (starts : List ℕ) (masks : List Mask) (i : ℕ) → IsFlat starts masks → i + 2 < length starts → get_or starts i 0 ≤ get_or starts (i + 2) 0
+rise_two starts masks i flat h =
+    let one = rise_one starts masks i flat (omega arith) in
+    let two : get_or starts (i + 1) 0 ≤ get_or starts (i + 2) 0 = subst (λ (n : ℕ). get_or starts (i + 1) 0 ≤ get_or starts n 0) (omega arith) (flat.rising (i + 1) (omega arith)) in
+    omega arith
+
+pub rise_three : (starts : List ℕ) (masks : List Mask) (i : ℕ) → IsFlat starts masks → i + 3 < length starts → get_or starts i 0 ≤ get_or starts (i + 3) 0
+rise_three starts masks i flat h =
+    let one = rise_two starts masks i flat (omega arith) in
+    let two : get_or starts (i + 2) 0 ≤ get_or starts (i + 3) 0 = subst (λ (n : ℕ). get_or starts (i + 2) 0 ≤ get_or starts n 0) (omega arith) (flat.rising (i + 2) (omega arith)) in
+    omega arith
+
+-- two groups, and three
+pub group_two : (starts : List ℕ) (masks : List Mask) (i : ℕ) → IsFlat starts masks → i + 1 < length starts - 1
+    → slice_range masks (get_or starts i 0) (get_or starts (i + 2) 0) ≡ get_or (groups_of starts masks) i [] ++ get_or (groups_of starts masks) (i + 1) []
+group_two starts masks i flat h =
+    let next : get_or (groups_of starts masks) (i + 1) [] ≡ slice_range masks (get_or starts (i + 1) 0) (get_or starts (i + 2) 0) =
+    group_at starts masks (i + 1) h ∙ ap (λ (n : ℕ). slice_range masks (get_or starts (i + 1) 0) (get_or starts n 0)) (omega arith) in
+    let last : get_or starts (i + 1) 0 ≤ get_or starts (i + 2) 0 = subst (λ (n : ℕ). get_or starts (i + 1) 0 ≤ get_or starts n 0) (omega arith) (flat.rising (i + 1) (omega arith)) in
+    parts_join masks (get_or starts i 0) (get_or starts (i + 1) 0) (get_or starts (i + 2) 0) (flat.rising i (omega arith)) last
+    ∙ ap (λ (ms : List Mask). ms ++ slice_range masks (get_or starts (i + 1) 0) (get_or starts (i + 2) 0)) (sym (group_at starts masks i (omega arith)))
+    ∙ ap (λ (ms : List Mask). get_or (groups_of starts masks) i [] ++ ms) (sym next)
+
+pub group_three : (starts : List ℕ) (masks : List Mask) (i : ℕ) → IsFlat starts masks → i + 2 < length starts - 1
+    → slice_range masks (get_or starts i 0) (get_or starts (i + 3) 0) ≡ get_or (groups_of starts masks) i [] ++ get_or (groups_of starts masks) (i + 1) [] ++ get_or (groups_of starts masks) (i + 2) []
+group_three starts masks i flat h =
+    let next : get_or (groups_of starts masks) (i + 2) [] ≡ slice_range masks (get_or starts (i + 2) 0) (get_or starts (i + 3) 0) =
+    group_at starts masks (i + 2) h ∙ ap (λ (n : ℕ). slice_range masks (get_or starts (i + 2) 0) (get_or starts n 0)) (omega arith) in
+    let mid : get_or starts (i + 1) 0 ≤ get_or starts (i + 2) 0 = subst (λ (n : ℕ). get_or starts (i + 1) 0 ≤ get_or starts n 0) (omega arith) (flat.rising (i + 1) (omega arith)) in
+    let first = flat.rising i (omega arith) in
+    let last : get_or starts (i + 2) 0 ≤ get_or starts (i + 3) 0 = subst (λ (n : ℕ). get_or starts (i + 2) 0 ≤ get_or starts n 0) (omega arith) (flat.rising (i + 2) (omega arith)) in
+    parts_join masks (get_or starts i 0) (get_or starts (i + 2) 0) (get_or starts (i + 3) 0) (omega arith) last
+    ∙ ap (λ (ms : List Mask). ms ++ slice_range masks (get_or starts (i + 2) 0) (get_or starts (i + 3) 0)) (group_two starts masks i flat (omega arith))
+    ∙ ap (λ (ms : List Mask). get_or (groups_of starts masks) i [] ++ get_or (groups_of starts masks) (i + 1) [] ++ ms) (sym next)

@@ -3,8 +3,8 @@ pub mod GroupLaws
 pub mod FlatLaws
 pub mod ListedLaws
 pub mod PartLaws
-pub mod ReadLaws
 pub mod ShapeRows
+pub mod KeyLaws
 pub mod RowLaws
 pub mod NamingLaws
 pub mod BitLaws

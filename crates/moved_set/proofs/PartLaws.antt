@@ -1,14 +1,14 @@
 -- Kernels' variables in two parts.
-use Rattle.std.proofs.Common.{◌≡◌, ◌≢◌, ℕ, zero, suc, ◌+◌, ◌-◌, ◌<◌, ◌≤◌, List, [], ◌∷◌, ◌++◌, length, get_or, take, drop, slice_range, refl, sym, ◌∙◌, ap, subst, ⊎_elim, arith, inl, inr, ◌⊎◌}
-use Rattle.std.specs.Prelude.{All, Contains}
+use Rattle.std.proofs.Common.{◌≡◌, ◌≢◌, ℕ, zero, suc, ◌+◌, ◌<◌, ◌≤◌, List, [], ◌∷◌, ◌++◌, length, get_or, take, drop, refl, sym, ◌∙◌, ap, subst, ⊎_elim, arith, inl, inr}
+use Rattle.std.specs.Prelude.{Contains}
 use Rattle.std.proofs.lemmas.Bool.{cases_eq, cases_lt}
-use Rattle.std.proofs.lemmas.List.{length_push, length-drop, get_or-map, get_or-drop, get_or_append_left, get_or_push, get_or_past, get_or_default, take_more}
-use Rattle.std.proofs.lemmas.List.Elements.{Contains-get_or, Contains-append_left, Contains-append_right, Contains-append_cases}
+use Rattle.std.proofs.lemmas.List.{length_push, get_or-map, get_or_append_left, get_or_push, get_or_past, get_or_default}
+use Rattle.std.proofs.lemmas.List.Elements.{Contains-append_left, Contains-append_right}
 use Rattle.guarded_tell.specs.declared.kernel.Kernel.{Kernel}
 use Rattle.guarded_tell.specs.Words.{AreVariables}
 use Rattle.guarded_tell.specs.Kernels.{vars_of}
 use Rattle.moved_set.specs.declared.parts.Part.{Part}
-use Rattle.moved_set.specs.Parts.{vars_at, list_at, part_at, HasList, IsPart, own_of, own_at, AreLists, AreParts, GrowsBy}
+use Rattle.moved_set.specs.Parts.{vars_at, list_at, part_at, HasList, IsPart, AreLists, AreParts, GrowsBy}
 
 -- the variables of the kernel at a place, as the code lends it
 pub vars_lent : (kernels : List Kernel) (j : ℕ) (k : Kernel) → j < length kernels → k ≡ get_or kernels j k → vars_at kernels j ≡ vars_of k
@@ -23,21 +23,10 @@ below_all count vars v are some =
     let is : get_or vars some.0 0 ≡ v = get_or_default vars some.0 0 v some.1 ∙ some.2 in
     omega arith
 
--- ---- some of the variables
-
-pub range_more : (vars : List ℕ) (from place : ℕ) → from ≤ place → place < length vars → slice_range vars from (place + 1) ≡ slice_range vars from place ++ get_or vars place 0 ∷ []
-range_more vars from place le h =
-    let rest : List ℕ = drop from vars in
-    let len : length rest ≡ length vars - from = length-drop from vars in
-    let count : place + 1 - from ≡ place - from + 1 = omega arith in
-    let here : from + (place - from) ≡ place = omega arith in
-    let one : get_or rest (place - from) 0 ≡ get_or vars place 0 = get_or-drop from vars (place - from) 0 ∙ ap (λ (n : ℕ). get_or vars n 0) here in
-    ap (λ (n : ℕ). take n rest) count ∙ take_more rest (place - from) 0 (omega arith) ∙ ap (λ (v : ℕ). take (place - from) rest ++ v ∷ []) one
-
 -- ---- a list among variables
 
 -- a variable of the list is one of the variables
-in_list : (vars : List ℕ) (before : ℕ) (list : List ℕ) (v : ℕ) → HasList vars before list → Contains list v → Contains vars v
+pub in_list : (vars : List ℕ) (before : ℕ) (list : List ℕ) (v : ℕ) → HasList vars before list → Contains list v → Contains vars v
 in_list vars before list v has c =
     let front : List ℕ = take before vars in
     subst (λ (xs : List ℕ). Contains xs v) (sym has.parted)
@@ -135,40 +124,3 @@ lists_first count lists is = subst (AreLists count) (sym is) (record {
     none_there : (count l v : ℕ) → Contains (list_at ([] ∷ []) l) v → v < count
     none_there count zero v c = let lt = c.1 in absurd (omega arith)
     none_there count (suc l) v c = let lt = c.1 in absurd (omega arith)
-
--- a kernel names a variable where it is an own one or one of the list
-pub named_in_part : (vars : List ℕ) (lists : List (List ℕ)) (part : Part) (v : ℕ) → IsPart vars lists part
-    → (Contains vars v → Contains (own_of vars lists part) v ⊎ Contains (list_at lists part.list) v) × (Contains (own_of vars lists part) v ⊎ Contains (list_at lists part.list) v → Contains vars v)
-named_in_part vars lists part v is =
-    let list : List ℕ = list_at lists part.list in
-    let front : List ℕ = take part.before vars in
-    let back : List ℕ = drop (part.before + length list) vars in (
-      λ c. elim (Contains-append_cases (front ++ list) back v (subst (λ (xs : List ℕ). Contains xs v) is.has.parted c)) [
-        | inl first ↦ elim (Contains-append_cases front list v first) [
-          | inl own ↦ inl (Contains-append_left front back v own)
-          | inr listed ↦ inr listed
-        ]
-        | inr own ↦ inl (Contains-append_right front back v own)
-      ],
-      λ s. elim s [
-        | inl own ↦ subst (λ (xs : List ℕ). Contains xs v) (sym is.has.parted) (elim (Contains-append_cases front back v own) [
-          | inl first ↦ Contains-append_left (front ++ list) back v (Contains-append_left front list v first)
-          | inr last ↦ Contains-append_right (front ++ list) back v last
-        ])
-        | inr listed ↦ in_list vars part.before list v is.has listed
-      ],
-    )
-
--- the own variables are below the limit, where all are
-pub own_below : (limit : ℕ) (vars : List ℕ) (lists : List (List ℕ)) (part : Part) → AreVariables limit vars → IsPart vars lists part → All (λ v. v < limit) (own_of vars lists part)
-own_below limit vars lists part are is k d h =
-    let own : List ℕ = own_of vars lists part in
-    let v : ℕ = get_or own k d in
-    below_all limit vars v are ((named_in_part vars lists part v is).1 (inl (Contains-get_or own k d h)))
-
--- those of the kernel at a place
-pub owns_below : (limit j : ℕ) (kernels : List Kernel) (lists : List (List ℕ)) (parts : List Part) → j < length kernels
-    → ((k : Kernel) → AreVariables limit (vars_of (get_or kernels j k))) → AreParts kernels (length kernels) lists parts → All (λ v. v < limit) (own_at kernels lists parts j)
-owns_below limit j [] lists parts h below are = absurd (omega arith)
-owns_below limit j (k ∷ ks) lists parts h below are =
-    own_below limit (vars_at (k ∷ ks) j) lists (part_at parts j) (subst (AreVariables limit) (sym (vars_are (k ∷ ks) j k h)) (below k)) (are.each j h)

@@ -37,11 +37,7 @@ pub record IsUnited (old : List Bool) (row : List Mask) (new : List Bool) : Type
   pub same_length : length new ≡ length old
   pub each : (j : ℕ) → j < length old → slice_index_or new j false ≡ (slice_index_or old j false || names row j)
 
--- the number is in both sets
-abbrev pub are_both_in : List Bool → List Bool → ℕ → Bool
-are_both_in one other j = slice_index_or one j false && slice_index_or other j false
-
--- the set has those numbers of the masks that the test takes, besides what it had
-pub record IsUnitedIn (old : List Bool) (row : List Mask) (wanted : ℕ → Bool) (new : List Bool) : Type 0 where
+-- the set has those numbers of the masks that are in the wanted set, besides what it had
+pub record IsUnitedIn (old : List Bool) (row : List Mask) (wanted new : List Bool) : Type 0 where
   pub same_length : length new ≡ length old
-  pub each : (j : ℕ) → j < length old → slice_index_or new j false ≡ (slice_index_or old j false || (names row j && wanted j))
+  pub each : (j : ℕ) → j < length old → slice_index_or new j false ≡ (slice_index_or old j false || (names row j && slice_index_or wanted j false))

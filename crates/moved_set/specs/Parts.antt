@@ -1,9 +1,9 @@
 -- Kernels' variables in two parts: a list that a kernel may have with others, and those before and behind it, its own.
-use Rattle.std.specs.Prelude.{◌≡◌, ℕ, zero, suc, ◌<◌, ◌≤◌, ◌+◌, ◌-◌, ◌⊎◌, ◌++◌, Bool, true, false, List, [], ◌∷◌, length, map, take, drop, cond, slice_index, slice_index_or, Contains}
+use Rattle.std.specs.Prelude.{◌≡◌, ℕ, zero, suc, ◌<◌, ◌≤◌, ◌+◌, ◌-◌, ◌*◌, ◌⊎◌, ◌++◌, List, [], ◌∷◌, length, map, take, drop, cond, slice_index, slice_index_or, Contains}
 use Rattle.guarded_tell.specs.declared.kernel.Kernel.{Kernel}
 use Rattle.guarded_tell.specs.Words.{Side, Low, High}
 use Rattle.guarded_tell.specs.Kernels.{vars_of}
-use Rattle.guarded_tell.specs.Sides.{sides_of}
+use Rattle.guarded_tell.specs.Sides.{sides_of, is_sided}
 use Rattle.moved_set.specs.declared.parts.Part.{Part}
 
 -- the variables of the kernel at a place
@@ -40,49 +40,36 @@ pub record AreParts (kernels : List Kernel) (to : ℕ) (lists : List (List ℕ))
   pub same_length : length parts ≡ to
   pub each : (j : ℕ) → j < to → IsPart (vars_at kernels j) lists (part_at parts j)
 
--- the variables before the part's list and those behind it; one of them may stand in the list too
-abbrev pub own_of : List ℕ → List (List ℕ) → Part → List ℕ
-own_of vars lists part = take part.before vars ++ drop (part.before + length (list_at lists part.list)) vars
+-- ---- keys of own variables: three for each variable
 
--- the own variables of the kernel at a place
-abbrev pub own_at : List Kernel → List (List ℕ) → List Part → ℕ → List ℕ
-own_at kernels lists parts j = own_of (vars_at kernels j) lists (part_at parts j)
+-- by which bound a one-sided kernel is asked that reads this one: 0 by the lower one, 2 by the upper one; 1 by both
+abbrev pub kind_there : List Side → ℕ
+kind_there [] = 1
+kind_there (Low ∷ sides) = 0
+kind_there (High ∷ sides) = 2
 
--- ---- those of which a kernel reads a bound
+-- by which a kernel is asked at a place
+abbrev pub kind_at : Kernel → ℕ → ℕ
+kind_at k place = cond (is_sided k) (kind_there (drop place (sides_of k))) 1
 
-abbrev pub is_same_side : Side → Side → Bool
-is_same_side Low Low = true
-is_same_side Low High = false
-is_same_side High Low = false
-is_same_side High High = true
+-- the key of its variable there
+abbrev pub key_at : Kernel → ℕ → ℕ
+key_at k place = 3 * slice_index (vars_of k) place + kind_at k place
 
--- this one, if the test holds
-abbrev pub one_if : Bool → ℕ → List ℕ
-one_if test v = cond test (v ∷ []) []
+-- those of so many places from one on
+unfoldable pub keys_from : Kernel → ℕ → ℕ → List ℕ
+keys_from k from zero = []
+keys_from k from (suc n) = keys_from k from n ++ key_at k (from + n) ∷ []
 
--- the side of the variable at a place, if it is read
-abbrev pub is_side_there : Side → List Side → Bool
-is_side_there side [] = false
-is_side_there side (s ∷ ss) = is_same_side side s
-
--- the kernel reads this bound of the variable that it names at a place
-abbrev pub is_read : Kernel → Side → ℕ → Bool
-is_read k side place = is_side_there side (drop place (sides_of k))
-
--- so many of its variables from one place on, those of which it reads this bound
-unfoldable pub reads_from : Kernel → Side → ℕ → ℕ → List ℕ
-reads_from k side from zero = []
-reads_from k side from (suc n) = reads_from k side from n ++ one_if (is_read k side (from + n)) (slice_index (vars_of k) (from + n))
-
--- its own variables of which it reads this bound
-abbrev pub own_reads : Side → List (List ℕ) → Part → Kernel → List ℕ
-own_reads side lists part k =
+-- those of its own variables
+abbrev pub own_keys : List (List ℕ) → Part → Kernel → List ℕ
+own_keys lists part k =
     let behind = part.before + length (list_at lists part.list) in
-    reads_from k side 0 part.before ++ reads_from k side behind (length (vars_of k) - behind)
+    keys_from k 0 part.before ++ keys_from k behind (length (vars_of k) - behind)
 
 -- those of the kernel at a place
-abbrev pub own_reads_at : Side → List Kernel → List (List ℕ) → List Part → ℕ → List ℕ
-own_reads_at side kernels lists parts j = slice_index_or (map (own_reads side lists (part_at parts j)) kernels) j []
+abbrev pub own_keys_at : List Kernel → List (List ℕ) → List Part → ℕ → List ℕ
+own_keys_at kernels lists parts j = slice_index_or (map (own_keys lists (part_at parts j)) kernels) j []
 
 -- ---- while they are built
 

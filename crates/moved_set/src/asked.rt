@@ -1,7 +1,7 @@
 //! Sets of kernels.
 
 ghost use Rattle.std.specs.Prelude.{◌≡◌, ◌<◌, ◌≤◌, ◌*◌, ℕ, true, false, length, replicate, slice_set, slice_index_or, All, IfOk};
-ghost use Rattle.moved_set.specs.Asked.{are_both_in, IsFirst, IsLast, IsUnited, IsUnitedIn};
+ghost use Rattle.moved_set.specs.Asked.{IsFirst, IsLast, IsUnited, IsUnitedIn};
 
 use crate::bits::{last_bit, next_bit, unite_masks, unite_masks_in};
 use crate::mask::Mask;
@@ -82,14 +82,13 @@ impl AskedSet {
         unite_masks(self.words.as_mut_slice(), row);
     }
 
-    /// Puts those kernels of the masks into the set too that are in both of the others.
-    pub(crate) fn unite_in(&mut self, row: &[Mask], wanted: &TrailedSet, also: &TrailedSet)
+    /// Puts those kernels of the masks into the set too that are in the other set.
+    pub(crate) fn unite_in(&mut self, row: &[Mask], wanted: &TrailedSet)
         requires row { All (λ m. m.place * 32 ≤ length self.old) row.now }
         requires wanted { length wanted.now.current ≡ length self.old }
-        requires also { length also.now.current ≡ length self.old }
-        ensures { IsUnitedIn self.old row.now (are_both_in wanted.now.current also.now.current) self.new }
+        ensures { IsUnitedIn self.old row.now wanted.now.current self.new }
     {
-        unite_masks_in(self.words.as_mut_slice(), row, wanted.words(), also.words());
+        unite_masks_in(self.words.as_mut_slice(), row, wanted.words());
     }
 
     /// The first kernel of the set from `from` on, or how many kernels there are.

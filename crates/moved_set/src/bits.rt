@@ -97,15 +97,14 @@ pub(crate) fn unite_masks(words: &mut [u32], row: &[Mask])
     }
 }
 
-/// Gives each word the bits of the masks of its place too, as far as both of the others have them.
-pub(crate) fn unite_masks_in(words: &mut [u32], row: &[Mask], wanted: &[u32], also: &[u32])
+/// Gives each word the bits of the masks of its place too, as far as the other words have them.
+pub(crate) fn unite_masks_in(words: &mut [u32], row: &[Mask], wanted: &[u32])
     requires row { All (λ m. m.place < length words.old) row.now }
     requires wanted { All (λ m. m.place < length wanted.now) row.now }
-    requires also { All (λ m. m.place < length also.now) row.now }
-    ensures { (j : ℕ) → has words.new j ≡ (has words.old j || (names row.now j && (has wanted.now j && has also.now j))) }
+    ensures { (j : ℕ) → has words.new j ≡ (has words.old j || (names row.now j && has wanted.now j)) }
 {
     for mask in row {
-        unite_mask(words, common(common(*mask, wanted), also));
+        unite_mask(words, common(*mask, wanted));
     }
 }
 

@@ -1,6 +1,6 @@
 //! Lists of masks, one after the other in one list.
 
-ghost use Rattle.std.specs.Prelude.{◌≡◌, ◌<◌, ◌+◌, ◌++◌, [], ◌∷◌, length, slice_index, slice_index_or, slice_range, IfOk, OnOk};
+ghost use Rattle.std.specs.Prelude.{◌≡◌, ◌<◌, ◌≤◌, ◌+◌, ◌++◌, [], ◌∷◌, length, slice_index, slice_index_or, slice_range, IfOk, OnOk};
 ghost use Rattle.moved_set.specs.Flat.{IsFlat};
 
 use crate::mask::Mask;
@@ -51,7 +51,23 @@ impl Groups {
         requires { i < length self.now }
         ensures { result.now ≡ slice_index_or self.now i [] }
     {
-        part_at(self.starts.as_slice(), self.masks.as_slice(), i)
+        between(self.starts.as_slice(), self.masks.as_slice(), i, 1)
+    }
+
+    /// The list at a place and the one behind it.
+    pub(crate) fn two(&self, i: usize) -> &[Mask]
+        requires { i + 1 < length self.now }
+        ensures { result.now ≡ slice_index_or self.now i [] ++ slice_index_or self.now (i + 1) [] }
+    {
+        between(self.starts.as_slice(), self.masks.as_slice(), i, 2)
+    }
+
+    /// The list at a place and the two behind it.
+    pub(crate) fn three(&self, i: usize) -> &[Mask]
+        requires { i + 2 < length self.now }
+        ensures { result.now ≡ slice_index_or self.now i [] ++ slice_index_or self.now (i + 1) [] ++ slice_index_or self.now (i + 2) [] }
+    {
+        between(self.starts.as_slice(), self.masks.as_slice(), i, 3)
     }
 
     /// Puts a list behind the others.
@@ -69,11 +85,12 @@ impl Groups {
     }
 }
 
-/// The part between two places that follow each other.
-fn part_at<'a>(starts: &[usize], masks: &'a [Mask], i: usize) -> &'a [Mask]
+/// The part of so many lists from one on.
+fn between<'a>(starts: &[usize], masks: &'a [Mask], i: usize, count: usize) -> &'a [Mask]
     requires flat { IsFlat starts.now masks.now }
-    requires place { i + 1 < length starts.now }
-    ensures { result.now ≡ slice_range masks.now (slice_index starts.now i) (slice_index starts.now (i + 1)) }
+    requires rising { slice_index starts.now i ≤ slice_index starts.now (i + count) }
+    requires place { i + count < length starts.now }
+    ensures { result.now ≡ slice_range masks.now (slice_index starts.now i) (slice_index starts.now (i + count)) }
 {
-    &masks[starts[i]..starts[i + 1]]
+    &masks[starts[i]..starts[i + count]]
 }

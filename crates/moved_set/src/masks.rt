@@ -1,13 +1,12 @@
-//! For each variable the kernels that name it, as masks: those of which it is an own variable, those of these that read its
-//! lower and its upper bound, and those that have a list that it is in, which stand once for each list.
+//! For each variable the kernels that name it, as masks: those of which it is an own variable, by the bounds by which they are
+//! asked, and those that have a list that it is in, which stand once for each list.
 
-ghost use Rattle.std.specs.Prelude.{◌≡◌, ◌<◌, ◌≤◌, ◌*◌, ◌^◌, ◌&&◌, ◌||◌, ℕ, false, [], length, slice_index_or, All, IfOk};
+ghost use Rattle.std.specs.Prelude.{◌≡◌, ◌<◌, ◌≤◌, ◌+◌, ◌*◌, ◌^◌, ◌&&◌, ◌||◌, ℕ, false, length, slice_index_or, All, IfOk};
 ghost use Rattle.std.specs.Bool.{OnTrue};
 ghost use Rattle.guarded_tell.specs.Kernels.{IsKernel};
 ghost use Rattle.guarded_tell.specs.Shapes.{AreShapesOf};
 ghost use Rattle.moved_set.specs.Sets.{AreOwnShapes, IsNaming, set_at, side_set_at};
-ghost use Rattle.moved_set.specs.Asked.{are_both_in};
-ghost use Rattle.moved_set.specs.Asking.{IsAsked, some_uses};
+ghost use Rattle.moved_set.specs.Asking.{IsAsked, side_row, some_uses};
 ghost use Rattle.moved_set.specs.Words.{names};
 
 use crate::asked::AskedSet;
@@ -23,18 +22,18 @@ use interval::NoMemory;
 use std::alloc::Global;
 use std::marker::Model;
 
+/// Masks are of fewer variables than this.
+const MOST_VARIABLES: u32 = 1073741824;
+
 /// For each variable the kernels that name it, as masks. A long list of variables that several kernels have has these kernels
-/// once. Contracts see the set of each kernel's variables, and those of the variables of which it is asked by side.
+/// once. Contracts see the set of each kernel's variables, and those of the variables by whose lower or upper bound it is asked.
 #[derive(Drop)]
 pub struct Masks {
     count: u32,
     kernels: usize,
-    // for each variable the kernels of which it is an own one
+    // for each variable the kernels of which it is an own one: those that are asked by its lower bound alone, by both, and by the
+    // upper one
     own: Groups,
-    // for each variable those that read its lower bound where they are one-sided
-    low: Groups,
-    // for each variable those that read its upper bound
-    high: Groups,
     // for each variable the lists that it is in
     lists_of: Vec<Vec<u32>>,
     // for each list the kernels that have it
@@ -45,18 +44,20 @@ pub struct Masks {
 
 impl Model for Masks {
     ghost use Rattle.moved_set.specs.Sets.{Naming};
-    ghost use Rattle.moved_set.specs.Asking.{asked_sets};
+    ghost use Rattle.moved_set.specs.Asking.{asked_sets, row_of, side_row};
+    ghost use Rattle.guarded_tell.specs.Words.{Low, High};
     ghost use Rattle.moved_set.specs.Consistent.{IsConsistent};
 
     ghost Value = { Naming };
 
-    ghost view = { λ m. record { count = m.count; sets = asked_sets m.own m.lists_of.items m.users m.count m.kernels; lows = asked_sets m.low m.lists_of.items m.users m.count m.kernels; highs = asked_sets m.high m.lists_of.items m.users m.count m.kernels; shapes = m.shapes.items } };
+    ghost view = { λ m. record { count = m.count; sets = asked_sets (row_of m.own) m.lists_of.items m.users m.count m.kernels; lows = asked_sets (side_row m.own Low) m.lists_of.items m.users m.count m.kernels; highs = asked_sets (side_row m.own High) m.lists_of.items m.users m.count m.kernels; shapes = m.shapes.items } };
 
     ghost invariant = { IsConsistent };
 }
 
 impl Masks {
-    /// The masks of these kernels, which name some of the first `count` variables. 2^32 kernels or more count as want of memory.
+    /// The masks of these kernels, which name some of the first `count` variables. 2^32 kernels or 2^30
+    /// variables count as want of memory.
     pub fn new(alloc: Global, kernels: &[Kernel], count: u32) -> Result<Masks, NoMemory>
         requires { All (IsKernel count) kernels.now }
         ensures count { IfOk result (λ m. m.count ≡ count) }
@@ -65,14 +66,12 @@ impl Masks {
         ensures own_shapes { IfOk result (λ m. AreOwnShapes kernels.now m.shapes) }
     {
         let parts = parts_of(alloc, kernels, count)?;
-        if !can_be_numbered(kernels.len(), parts.lists.len()) {
+        if count >= MOST_VARIABLES || !can_be_numbered(kernels.len(), parts.lists.len()) {
             return Err(NoMemory);
         }
         let rows = Rows::of(alloc, kernels, &parts, count)?;
         let words = kernels.len() / 32 + 1;
         let own = masks_of(alloc, rows.own.as_slice(), words)?;
-        let low = masks_of(alloc, rows.low.as_slice(), words)?;
-        let high = masks_of(alloc, rows.high.as_slice(), words)?;
         let users = masks_of(alloc, rows.users.as_slice(), words)?;
         let shapes = shapes_of(alloc, kernels)?;
         let Rows { lists_of, .. } = rows;
@@ -80,8 +79,6 @@ impl Masks {
             count,
             kernels: kernels.len(),
             own,
-            low,
-            high,
             lists_of,
             users,
             shapes,
@@ -103,7 +100,7 @@ impl Masks {
         ensures { IsAsked asked.old (λ j. slice_index_or (set_at self.now j) v false) asked.new }
     {
         let place = v as usize;
-        asked.unite(self.own.group(place));
+        asked.unite(self.own.three(3 * place));
         for list in &self.lists_of[place] {
             asked.unite(self.users.group(*list as usize));
         }
@@ -116,84 +113,52 @@ impl Masks {
         requires wanted { length wanted.now.current ≡ length self.now.sets }
         ensures { IsAsked asked.old (λ j. slice_index_or (set_at self.now j) v false && slice_index_or wanted.now.current j false) asked.new }
     {
-        self.ask_in_both(v, wanted, wanted, asked);
-    }
-
-    /// Puts those kernels that name the variable and are in both wanted sets into the set too.
-    pub fn ask_in_both(&self, v: u32, wanted: &TrailedSet, also: &TrailedSet, asked: &mut AskedSet)
-        requires variable { v < self.now.count }
-        requires set { length asked.old ≡ length self.now.sets }
-        requires wanted { length wanted.now.current ≡ length self.now.sets }
-        requires also { length also.now.current ≡ length self.now.sets }
-        ensures { IsAsked asked.old (λ j. slice_index_or (set_at self.now j) v false && are_both_in wanted.now.current also.now.current j) asked.new }
-    {
         let place = v as usize;
-        let row = self.own.group(place);
+        let row = self.own.three(3 * place);
         let lists = self.lists_of[place].as_slice();
-        ask_row(row, lists, &self.users, wanted, also, asked);
+        ask_row(row, lists, &self.users, wanted, asked);
     }
 
-    /// Puts those kernels that read the variable's lower bound where they are one-sided, and are in the wanted set, into the
-    /// set too.
-    fn ask_low_in(&self, v: u32, wanted: &TrailedSet, asked: &mut AskedSet)
-        requires variable { v < self.now.count }
-        requires set { length asked.old ≡ length self.now.sets }
-        requires wanted { length wanted.now.current ≡ length self.now.sets }
-        ensures { IsAsked asked.old (λ j. slice_index_or (slice_index_or self.now.lows j []) v false && are_both_in wanted.now.current wanted.now.current j) asked.new }
-    {
-        let place = v as usize;
-        let row = self.low.group(place);
-        let lists = self.lists_of[place].as_slice();
-        ask_row(row, lists, &self.users, wanted, wanted, asked);
-    }
-
-    /// The same of its upper bound.
-    fn ask_high_in(&self, v: u32, wanted: &TrailedSet, asked: &mut AskedSet)
-        requires variable { v < self.now.count }
-        requires set { length asked.old ≡ length self.now.sets }
-        requires wanted { length wanted.now.current ≡ length self.now.sets }
-        ensures { IsAsked asked.old (λ j. slice_index_or (slice_index_or self.now.highs j []) v false && are_both_in wanted.now.current wanted.now.current j) asked.new }
-    {
-        let place = v as usize;
-        let row = self.high.group(place);
-        let lists = self.lists_of[place].as_slice();
-        ask_row(row, lists, &self.users, wanted, wanted, asked);
-    }
-
-    /// Puts those kernels that read the variable's bound on this side where they are one-sided, and are in the wanted set, into
-    /// the set too.
+    /// Puts those kernels that are asked where the variable's bound on this side moves, and are in the wanted set, into the set
+    /// too.
+    #[inline(always)]
     pub fn ask_side_in(&self, v: u32, side: Side, wanted: &TrailedSet, asked: &mut AskedSet)
         requires variable { v < self.now.count }
         requires set { length asked.old ≡ length self.now.sets }
         requires wanted { length wanted.now.current ≡ length self.now.sets }
         ensures { IsAsked asked.old (λ j. slice_index_or (side_set_at self.now side j) v false && slice_index_or wanted.now.current j false) asked.new }
     {
-        match side {
-            Side::Low => self.ask_low_in(v, wanted, asked),
-            Side::High => self.ask_high_in(v, wanted, asked),
-        }
+        let place = v as usize;
+        let row = row_of_side(&self.own, v, side);
+        let lists = self.lists_of[place].as_slice();
+        ask_row(row, lists, &self.users, wanted, asked);
     }
 }
 
-/// Puts those kernels into the set too that a row or one of these lists has and that are in both wanted sets.
-fn ask_row(
-    row: &[Mask],
-    lists: &[u32],
-    users: &Groups,
-    wanted: &TrailedSet,
-    also: &TrailedSet,
-    asked: &mut AskedSet,
-)
+/// The kernels that are asked where the variable's bound on this side moves.
+fn row_of_side(own: &Groups, v: u32, side: Side) -> &[Mask]
+    requires { 3 * v + 2 < length own.now }
+    ensures { result.now ≡ side_row own.now side v }
+{
+    let place = 3 * v as usize;
+    match side {
+        Side::Low => own.two(place),
+        Side::High => own.two(place + 1),
+    }
+}
+
+/// Puts those kernels into the set too that a row or one of these lists has and that are in the wanted set.
+#[inline(always)]
+fn ask_row(row: &[Mask], lists: &[u32], users: &Groups, wanted: &TrailedSet, asked: &mut AskedSet)
     requires row { All (λ m. m.place * 32 ≤ length asked.old) row.now }
     requires lists { All (λ l. l < length users.now) lists.now }
     requires users { All (All (λ m. m.place * 32 ≤ length asked.old)) users.now }
     requires wanted { length wanted.now.current ≡ length asked.old }
-    requires also { length also.now.current ≡ length asked.old }
-    ensures { IsAsked asked.old (λ j. (names row.now j || some_uses users.now j lists.now) && are_both_in wanted.now.current also.now.current j) asked.new }
+    ensures { IsAsked asked.old (λ j. (names row.now j || some_uses users.now j lists.now) && slice_index_or wanted.now.current j false) asked.new }
 {
-    asked.unite_in(row, wanted, also);
+    asked.unite_in(row, wanted);
     for list in lists {
-        asked.unite_in(users.group(*list as usize), wanted, also);
+        asked.unite_in(users.group(*list as usize), wanted);
     }
 }
 

@@ -1,12 +1,13 @@
 //! Kernels' variables in two parts: a list that a kernel may have with others, and those before and behind it, which are
 //! its own. What is kept for each variable of a list is then kept once, however many kernels have the list.
 
-ghost use Rattle.std.specs.Prelude.{ℕ, ◌≡◌, ◌≢◌, ◌<◌, ◌≤◌, ◌-◌, ◌++◌, [], ◌∷◌, length, slice_index_or, slice_range, All, IsTrue, IfOk, OnOk, IfSome};
+ghost use Rattle.std.specs.Prelude.{ℕ, ◌≡◌, ◌≢◌, ◌<◌, ◌≤◌, ◌-◌, ◌++◌, [], ◌∷◌, drop, length, slice_index_or, All, IsTrue, IfOk, OnOk, IfSome};
 ghost use Rattle.clause_tells.specs.Clause.{clause_vars};
 ghost use Rattle.guarded_tell.specs.Kernels.{vars_of, IsKernel, HasNumbers};
-ghost use Rattle.moved_set.specs.Parts.{HasList, IsPart, AreLists, AreParts, own_at, own_reads_at, is_read, is_same_side, reads_from, Grows, GrowsBy};
+ghost use Rattle.guarded_tell.specs.Sides.{sides_of, is_sided};
+ghost use Rattle.moved_set.specs.Parts.{HasList, IsPart, AreLists, AreParts, keys_from, kind_at, kind_there, own_keys_at, Grows, GrowsBy};
 
-use guarded_tell::{Extended, Kernel, Literals, Side, side_at};
+use guarded_tell::{Extended, Kernel, Literals, Side, is_sided, side_at};
 use shared_list::SharedList;
 use std::alloc::{AllocError, Global};
 use std::collections::BTreeMap;
@@ -170,111 +171,65 @@ pub(crate) fn parts_of(alloc: Global, kernels: &[Kernel], count: u32) -> Result<
 }
 
 impl Parts {
-    /// Makes the list of the own variables of the kernel at a place.
+    /// Makes the list of the keys of the own variables of the kernel at a place.
     #[tactic(auto, using(crate::proofs::PartLaws::part_within))]
-    pub(crate) fn own_vars(
+    pub(crate) fn own_keys(
         &self,
-        vars: &mut Vec<u32>,
+        keys: &mut Vec<u32>,
         kernels: &[Kernel],
         j: usize,
     ) -> Result<(), AllocError>
         requires numbers { All HasNumbers kernels.now }
+        requires few { All (λ k. All (λ v. v < 1073741824) (vars_of k)) kernels.now }
         requires place { j < length kernels.now }
         requires parts { AreParts kernels.now (length kernels.now) self.now.lists.items self.now.of_kernels.items }
-        ensures { OnOk result (vars.new.items ≡ own_at kernels.now self.now.lists.items self.now.of_kernels.items j) }
+        ensures { OnOk result (keys.new.items ≡ own_keys_at kernels.now self.now.lists.items self.now.of_kernels.items j) }
     {
         let kernel = &kernels[j];
         let part = self.of_kernels[j];
         let count = kernel.var_count();
         let behind = part.before + self.lists[part.list].len();
-        vars.clear();
-        push_vars(vars, kernel, 0, part.before)?;
-        push_vars(vars, kernel, behind, count)
+        keys.clear();
+        push_keys(keys, kernel, 0, part.before)?;
+        push_keys(keys, kernel, behind, count)
     }
 }
 
-impl Parts {
-    /// Makes the list of those own variables of the kernel at a place of which it reads the bound on a side.
-    #[tactic(auto, using(crate::proofs::PartLaws::part_within))]
-    pub(crate) fn own_reads(
-        &self,
-        vars: &mut Vec<u32>,
-        kernels: &[Kernel],
-        j: usize,
-        side: Side,
-    ) -> Result<(), AllocError>
-        requires numbers { All HasNumbers kernels.now }
-        requires place { j < length kernels.now }
-        requires parts { AreParts kernels.now (length kernels.now) self.now.lists.items self.now.of_kernels.items }
-        ensures { OnOk result (vars.new.items ≡ own_reads_at side kernels.now self.now.lists.items self.now.of_kernels.items j) }
-    {
-        let kernel = &kernels[j];
-        let part = self.of_kernels[j];
-        let count = kernel.var_count();
-        let behind = part.before + self.lists[part.list].len();
-        vars.clear();
-        push_reads(vars, kernel, side, 0, part.before)?;
-        push_reads(vars, kernel, side, behind, count)
-    }
-}
-
-/// Puts those of a kernel's variables from one place up to another behind a list of which it reads the bound on a side.
-fn push_reads(
-    vars: &mut Vec<u32>,
-    kernel: &Kernel,
-    side: Side,
-    from: usize,
-    to: usize,
-) -> Result<(), AllocError>
+/// Puts the keys of a kernel's variables from one place up to another behind a list.
+fn push_keys(keys: &mut Vec<u32>, kernel: &Kernel, from: usize, to: usize) -> Result<(), AllocError>
     requires numbers { HasNumbers kernel.now }
+    requires few { All (λ v. v < 1073741824) (vars_of kernel.now) }
     requires order { from ≤ to }
     requires end { to ≤ length (vars_of kernel.now) }
-    ensures { OnOk result (vars.new.items ≡ vars.old.items ++ reads_from kernel.now side from (to - from)) }
+    ensures { OnOk result (keys.new.items ≡ keys.old.items ++ keys_from kernel.now from (to - from)) }
 {
+    let sided = is_sided(kernel);
     for place in from..to {
-        if reads(kernel, side, place) {
-            vars.push(kernel.var_at(place))?;
-        }
+        keys.push(3 * kernel.var_at(place) + kind_at(kernel, sided, place))?;
     }
     Ok(())
 }
 
-/// Whether the kernel reads the bound on this side of the variable that it names at a place.
-fn reads(kernel: &Kernel, side: Side, place: usize) -> bool
+/// By which bounds a kernel is asked at a place, where it is known whether it is sided.
+fn kind_at(kernel: &Kernel, sided: bool, place: usize) -> u32
     requires numbers { HasNumbers kernel.now }
     requires place { place < length (vars_of kernel.now) }
-    ensures { result ≡ is_read kernel.now side place }
+    requires sided { sided ≡ is_sided kernel.now }
+    ensures kind { result ≡ kind_at kernel.now place }
+    ensures below { result < 3 }
+{
+    if sided { kind_of(kernel, place) } else { 1 }
+}
+
+/// By which bounds a kernel that is one-sided is asked at a place: 0 by the lower one alone, 2 by the upper one, 1 by both.
+fn kind_of(kernel: &Kernel, place: usize) -> u32
+    requires numbers { HasNumbers kernel.now }
+    requires place { place < length (vars_of kernel.now) }
+    ensures { result ≡ kind_there (drop place (sides_of kernel.now)) }
 {
     match side_at(kernel, place) {
-        Some(read) => is_same(side, read),
-        None => false,
+        Some(Side::Low) => 0,
+        Some(Side::High) => 2,
+        None => 1,
     }
-}
-
-/// Whether both sides are the same.
-fn is_same(side: Side, other: Side) -> bool
-    ensures { result ≡ is_same_side side other }
-{
-    match side {
-        Side::Low => match other {
-            Side::Low => true,
-            Side::High => false,
-        },
-        Side::High => match other {
-            Side::Low => false,
-            Side::High => true,
-        },
-    }
-}
-
-/// Puts a kernel's variables from one place up to another behind a list.
-fn push_vars(vars: &mut Vec<u32>, kernel: &Kernel, from: usize, to: usize) -> Result<(), AllocError>
-    requires order { from ≤ to }
-    requires end { to ≤ length (vars_of kernel.now) }
-    ensures { OnOk result (vars.new.items ≡ vars.old.items ++ slice_range (vars_of kernel.now) from to) }
-{
-    for place in from..to {
-        vars.push(kernel.var_at(place))?;
-    }
-    Ok(())
 }

@@ -1,26 +1,22 @@
 //! For each variable the kernels that name it: a row of those of which it is an own variable, and a row of the lists that
 //! have it, each of which has a row of its kernels. A list's variables stand here once, however many kernels have it.
 
-ghost use Rattle.std.specs.Prelude.{◌≡◌, ◌<◌, ◌^◌, [], ◌∷◌, ℕ, List, length, All, IfOk, OnOk};
+ghost use Rattle.std.specs.Prelude.{◌≡◌, ◌<◌, ◌*◌, ◌^◌, [], ◌∷◌, ℕ, List, length, All, IfOk, OnOk};
 ghost use Rattle.guarded_tell.specs.Kernels.{IsKernel};
-ghost use Rattle.guarded_tell.specs.Words as words;
-ghost use Rattle.moved_set.specs.Parts.{AreLists, AreParts, list_at, part_at, own_at, own_reads_at};
+ghost use Rattle.moved_set.specs.Parts.{AreLists, AreParts, list_at, part_at, own_keys_at};
 ghost use Rattle.moved_set.specs.Rows.{AreRowsTo, PutsAll, PutsOnce, row_at};
 
 use crate::parts::{Part, Parts};
-use guarded_tell::{Kernel, Side};
+use guarded_tell::Kernel;
 use shared_list::SharedList;
 use std::alloc::{AllocError, Global};
 
 /// For each variable the kernels that name it.
 #[derive(Drop)]
 pub(crate) struct Rows {
-    /// For each variable the kernels that have it among their own.
+    /// For each variable three rows of the kernels that have it among their own: those that are asked by its lower bound alone,
+    /// by both, and by the upper one.
     pub(crate) own: Vec<Vec<u32>>,
-    /// For each variable the kernels that have it among their own and read its lower bound where they are one-sided.
-    pub(crate) low: Vec<Vec<u32>>,
-    /// For each variable those that read its upper bound.
-    pub(crate) high: Vec<Vec<u32>>,
     /// For each variable the lists that have it.
     pub(crate) lists_of: Vec<Vec<u32>>,
     /// For each list the kernels that have it.
@@ -37,26 +33,21 @@ impl Rows {
     ) -> Result<Rows, AllocError>
         requires few_kernels { length kernels.now < 2 ^ 32 }
         requires few_lists { length parts.now.lists.items < 2 ^ 32 }
+        requires few_variables { count < 1073741824 }
         requires kernels { All (IsKernel count) kernels.now }
         requires lists { AreLists count parts.now.lists.items }
         requires parts { AreParts kernels.now (length kernels.now) parts.now.lists.items parts.now.of_kernels.items }
-        ensures own { IfOk result (λ rows. AreRowsTo (own_at kernels.now parts.now.lists.items parts.now.of_kernels.items) (length kernels.now) count rows.own.items) }
-        ensures low { IfOk result (λ rows. AreRowsTo (own_reads_at words.Low kernels.now parts.now.lists.items parts.now.of_kernels.items) (length kernels.now) count rows.low.items) }
-        ensures high { IfOk result (λ rows. AreRowsTo (own_reads_at words.High kernels.now parts.now.lists.items parts.now.of_kernels.items) (length kernels.now) count rows.high.items) }
+        ensures own { IfOk result (λ rows. AreRowsTo (own_keys_at kernels.now parts.now.lists.items parts.now.of_kernels.items) (length kernels.now) (3 * count) rows.own.items) }
         ensures lists { IfOk result (λ rows. AreRowsTo (list_at parts.now.lists.items) (length parts.now.lists.items) count rows.lists_of.items) }
         ensures users { IfOk result (λ rows. AreRowsTo (λ j. (part_at parts.now.of_kernels.items j).list ∷ []) (length kernels.now) (length parts.now.lists.items) rows.users.items) }
     {
         let of_kernels = parts.of_kernels.as_slice();
         let lists = parts.lists.as_slice();
         let own = own_rows(alloc, kernels, parts, count)?;
-        let low = side_rows(alloc, kernels, parts, Side::Low, count)?;
-        let high = side_rows(alloc, kernels, parts, Side::High, count)?;
         let lists_of = list_rows(alloc, lists, count)?;
         let users = user_rows(alloc, of_kernels, lists.len())?;
         Ok(Rows {
             own,
-            low,
-            high,
             lists_of,
             users,
         })
@@ -75,7 +66,7 @@ pub(crate) fn row(rows: &[Vec<u32>], place: usize) -> &[u32]
 fn empty_rows(alloc: Global, count: usize) -> Result<Vec<Vec<u32>>, AllocError>
     ensures { IfOk result (λ rows. (keys : ℕ → List ℕ) → AreRowsTo keys 0 count rows.items) }
 {
-    let mut rows = Vec::new(alloc);
+    let mut rows = Vec::with_capacity(alloc, count)?;
     for made in 0..count {
         rows.push(Vec::new(alloc))?;
     }
@@ -105,7 +96,7 @@ fn put(rows: &mut Vec<Vec<u32>>, keys: &[u32], j: u32) -> Result<(), AllocError>
     Ok(())
 }
 
-/// For each variable the row of the kernels that have it among their own.
+/// For each key of own variables the row of the kernels that have it.
 fn own_rows(
     alloc: Global,
     kernels: &[Kernel],
@@ -113,37 +104,16 @@ fn own_rows(
     count: u32,
 ) -> Result<Vec<Vec<u32>>, AllocError>
     requires few { length kernels.now < 2 ^ 32 }
+    requires few_variables { count < 1073741824 }
     requires kernels { All (IsKernel count) kernels.now }
     requires parts { AreParts kernels.now (length kernels.now) parts.now.lists.items parts.now.of_kernels.items }
-    ensures { IfOk result (λ rows. AreRowsTo (own_at kernels.now parts.now.lists.items parts.now.of_kernels.items) (length kernels.now) count rows.items) }
+    ensures { IfOk result (λ rows. AreRowsTo (own_keys_at kernels.now parts.now.lists.items parts.now.of_kernels.items) (length kernels.now) (3 * count) rows.items) }
 {
-    let mut rows = empty_rows(alloc, count as usize)?;
-    let mut vars = Vec::new(alloc);
+    let mut rows = empty_rows(alloc, 3 * count as usize)?;
+    let mut keys = Vec::new(alloc);
     for j in 0..kernels.len() {
-        parts.own_vars(&mut vars, kernels, j)?;
-        put(&mut rows, vars.as_slice(), j as u32)?;
-    }
-    Ok(rows)
-}
-
-/// For each variable the row of the kernels that have it among their own and read its bound on a side.
-fn side_rows(
-    alloc: Global,
-    kernels: &[Kernel],
-    parts: &Parts,
-    side: Side,
-    count: u32,
-) -> Result<Vec<Vec<u32>>, AllocError>
-    requires few { length kernels.now < 2 ^ 32 }
-    requires kernels { All (IsKernel count) kernels.now }
-    requires parts { AreParts kernels.now (length kernels.now) parts.now.lists.items parts.now.of_kernels.items }
-    ensures { IfOk result (λ rows. AreRowsTo (own_reads_at side kernels.now parts.now.lists.items parts.now.of_kernels.items) (length kernels.now) count rows.items) }
-{
-    let mut rows = empty_rows(alloc, count as usize)?;
-    let mut vars = Vec::new(alloc);
-    for j in 0..kernels.len() {
-        parts.own_reads(&mut vars, kernels, j, side)?;
-        put(&mut rows, vars.as_slice(), j as u32)?;
+        parts.own_keys(&mut keys, kernels, j)?;
+        put(&mut rows, keys.as_slice(), j as u32)?;
     }
     Ok(rows)
 }

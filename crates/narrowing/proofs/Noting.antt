@@ -1,12 +1,14 @@
 -- What a narrower that notes variables may narrow.
-use Rattle.std.proofs.Common.{◌≡◌, ℕ, ℤ, true, false, ◌<◌, List, length, replicate, sym, subst, ap, ◌∙◌, arith}
-use Rattle.std.proofs.lemmas.List.{length-set, length-replicate}
+use Rattle.std.proofs.Common.{◌≡◌, ℕ, zero, suc, ℤ, true, false, ◌<◌, List, length, get_or, replicate, inl, inr, refl, sym, subst, ap, ◌∙◌, arith}
+use Rattle.std.proofs.lemmas.Bool.{cases_eq}
+use Rattle.std.proofs.lemmas.List.{length-set, length-replicate, get_or-set_other}
 use Rattle.std.specs.Prelude.{slice_set}
 use Rattle.std.specs.List.{All}
 use Rattle.interval.specs.Boxes.{Bounds, put_of}
 use Rattle.guarded_tell.specs.declared.kernel.Kernel.{Kernel}
 use Rattle.guarded_tell.specs.Kernels.{IsKernel}
 use Rattle.fixpoint_laws.specs.Fixpoints.{IsClosed}
+use Rattle.moved_set.specs.Sets.{IsIn}
 use Rattle.moved_fixpoint.specs.Made.{IsMadeAt}
 use Rattle.moved_fixpoint.specs.Moved.{Set, count_of, AreMovedOrQuiet, QuietUnlessMoved}
 use Rattle.moved_fixpoint.specs.Resting.{HasEach}
@@ -46,3 +48,18 @@ module _ (law : QuietUnlessMoved) where
         let put : AreMovedOrQuiet (slice_set none v true) (put_of made.closed v made.low made.high) kernels =
         law.put made.closed kernels none v made.low made.high (subst (λ (k : ℕ). All (IsKernel k) kernels) same are) (omega (arith, length-replicate (count_of alone.sets.moved) false)) (law.closed made.closed kernels none made.is_closed) in
         subst (λ (s : Set). AreMovedOrQuiet s b kernels) (sym set) (subst (λ (x : Bounds). AreMovedOrQuiet (slice_set none v true) x kernels) (sym made.is_put) put)
+
+-- ---- a set of one variable alone
+
+none_there : (count w : ℕ) → get_or (replicate count false) w false ≡ false
+none_there zero w = refl
+none_there (suc count) zero = refl
+none_there (suc count) (suc w) = none_there count w
+
+pub one_alone : (count v : ℕ) (moved : Set) → moved ≡ slice_set (replicate count false) v true → (w : ℕ) → IsIn moved w → w ≡ v
+one_alone count v moved e w is_in = elim (cases_eq w v) [
+  | inl same ↦ same
+  | inr other ↦
+      let there : get_or moved w false ≡ false = ap (λ (s : Set). get_or s w false) e ∙ get_or-set_other (replicate count false) v w true false other ∙ none_there count w in
+      absurd (let q : true ≡ false = sym is_in ∙ there in cc)
+]

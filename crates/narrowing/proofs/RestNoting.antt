@@ -1,15 +1,14 @@
 -- Kernels that rest: what a narrower knows of them, and what it kept of them where boxes were left for later.
-use Rattle.std.proofs.Common.{◌≡◌, ◌≢◌, ℕ, ℤ, true, ◌<◌, ◌≤ℤ◌, ◌⊎◌, inl, inr, List, [], ◌∷◌, ◌++◌, length, get_or, Bool, refl, sym, ◌∙◌, ap, subst, arith}
+use Rattle.std.proofs.Common.{◌≡◌, ◌≢◌, ℕ, ℤ, true, ◌<◌, ◌≤ℤ◌, ◌⊎◌, inl, inr, List, [], ◌∷◌, ◌++◌, length, get_or, refl, sym, ◌∙◌, ap, subst, arith}
 use Rattle.std.specs.Prelude.{slice_set}
 use Rattle.std.proofs.lemmas.Bool.{cases_eq}
 use Rattle.std.proofs.lemmas.List.{length-append, get_or_append_left, get_or_push}
 use Rattle.interval.specs.Boxes.{Bounds, put_of, IsInside}
 use Rattle.guarded_tell.specs.declared.kernel.Kernel.{Kernel}
 use Rattle.trailed_box.specs.Trailed.{Left, left_of}
-use Rattle.moved_set.specs.Sets.{IsIn}
 use Rattle.moved_fixpoint.specs.declared.rests.Rests.{Rests}
 use Rattle.moved_fixpoint.specs.Moved.{Set, count_of}
-use Rattle.moved_fixpoint.specs.Resting.{AreAwake, AreFresh, AreLeft, AreResting, FitRests, HasEach, IsBack, KeepCounts, KeepStacks, Knows as KnowsOn, KnownUnlessMoved}
+use Rattle.moved_fixpoint.specs.Resting.{AreAwake, AreFresh, AreLeft, AreResting, HasEach, IsBack, KeepCounts, KeepStacks, Knows as KnowsOn, KnownUnlessMoved}
 use Rattle.narrowing.specs.declared.alone.Alone.{Alone}
 use Rattle.narrowing.specs.declared.narrower.Narrower.{Narrower}
 use Rattle.narrowing.specs.Narrowers.{len_of, Fits, IsAloneFor, Knows, LetsRest, AreLayers, LetRest}

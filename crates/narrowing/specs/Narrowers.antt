@@ -4,6 +4,7 @@ use Rattle.interval.specs.Boxes.{Bounds}
 use Rattle.guarded_tell.specs.declared.kernel.Kernel.{Kernel}
 use Rattle.fixpoint_laws.specs.Fixpoints.{IsClosed}
 use Rattle.trailed_box.specs.Trailed.{Left}
+use Rattle.moved_set.specs.Sets.{IsIn}
 use Rattle.moved_fixpoint.specs.Moved.{Set, count_of, Fit, IsEmpty, AreMovedOrQuiet}
 use Rattle.moved_fixpoint.specs.Resting.{FitRests, AreResting, Knows as KnowsOn}
 use Rattle.rounds.specs.Shares.{IsCut}
@@ -59,6 +60,11 @@ AreQuietUnlessNoted (Narrower.Lanes lanes) kernels b = Unit {0}
 abbrev pub NotesNone : Narrower → Type 0
 NotesNone (Narrower.Alone alone) = IsEmpty alone.sets.moved
 NotesNone (Narrower.Lanes lanes) = Unit {0}
+
+-- it has noted this variable alone
+abbrev pub NotesAlone : Narrower → ℕ → Type 0
+NotesAlone (Narrower.Alone alone) v = (w : ℕ) → IsIn alone.sets.moved w → w ≡ v
+NotesAlone (Narrower.Lanes lanes) v = Unit {0}
 
 -- on a closed box all kernels are quiet, whatever is noted
 abbrev pub QuietWhereClosed : Type 0

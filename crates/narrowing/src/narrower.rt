@@ -11,7 +11,7 @@ ghost use Rattle.moved_fixpoint.specs.Made.{IsMadeAt};
 ghost use Rattle.moved_fixpoint.specs.Moved.{AreMasksOf};
 ghost use Rattle.rounds.specs.Shares.{share_limit};
 ghost use Rattle.narrowing.specs.Narrowing.{IsNarrowed};
-ghost use Rattle.narrowing.specs.Narrowers.{Fits, AreQuietUnlessNoted, NotesNone, Knows, LetsRest, LetRest, LetsRestWhereFixed, len_of, lanes_of, lanes_for};
+ghost use Rattle.narrowing.specs.Narrowers.{Fits, AreQuietUnlessNoted, NotesNone, NotesAlone, Knows, LetsRest, LetRest, LetsRestWhereFixed, len_of, lanes_of, lanes_for};
 
 use crate::alone::Alone;
 use crate::lanes::Lanes;
@@ -98,6 +98,7 @@ impl Narrower {
         requires { v < len_of self.old }
         ensures fits { (kernels : List Kernel) (count : ℕ) → Fits self.old kernels count → Fits self.new kernels count }
         ensures lanes { lanes_of self.new ≡ lanes_of self.old }
+        ensures alone { NotesAlone self.new v }
         ensures quiet { (kernels : List Kernel) (b : Bounds) → All (IsKernel (length b)) kernels → IsMadeAt kernels v b → AreQuietUnlessNoted self.new kernels b }
         ensures knows { (kernels : List Kernel) (count : ℕ) (b : Bounds) → Fits self.old kernels count → Knows self.new kernels b }
         ensures let_rest { (kernels : List Kernel) → LetRest self.new kernels [] }

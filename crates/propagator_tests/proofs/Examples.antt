@@ -212,6 +212,10 @@ pub clause_made : (lits : List Lit) → lits ≡ record { var = 0; positive = tr
 unfolding vars_of HasNumbers clause_vars
 clause_made lits e = subst (λ (ls : List Lit). IsKernel 4 (Clause ls)) (sym e) (record { variables = below_four (0 ∷ 1 ∷ []) refl; numbers = few_literals 2 (omega arith) })
 
+pub clause_of_three_made : (lits : List Lit) → lits ≡ record { var = 0; positive = true } ∷ record { var = 1; positive = false } ∷ record { var = 2; positive = true } ∷ [] → IsKernel 4 (Clause lits)
+unfolding vars_of HasNumbers clause_vars
+clause_of_three_made lits e = subst (λ (ls : List Lit). IsKernel 4 (Clause ls)) (sym e) (record { variables = below_four (0 ∷ 1 ∷ 2 ∷ []) refl; numbers = few_literals 3 (omega arith) })
+
 pub signed_clause_made : (lits : List Lit) (ps ns : List ℕ) → lits ≡ literals_by_sign ps ns → ps ≡ 0 ∷ [] → ns ≡ 1 ∷ [] → IsKernel 4 (Clause lits)
 signed_clause_made lits ps ns e f g = clause_made lits (e ∙ ap (λ (xs : List ℕ). literals_by_sign xs ns) f ∙ ap (literals_by_sign (0 ∷ [])) g)
 

@@ -173,6 +173,51 @@ fn the_clause_by_sign_gives_the_same_tells(rt: HostRuntime) -> Result<(), Fail> 
     Ok(())
 }
 
+/// Variable 0 is true, variable 1 is false or variable 2 is true.
+fn clause_of_three(alloc: Global) -> Result<Kernel, AllocError>
+    ensures { IfOk result (IsKernel 4) }
+{
+    let first = Lit {
+        var: 0,
+        positive: true,
+    };
+    let second = Lit {
+        var: 1,
+        positive: false,
+    };
+    let third = Lit {
+        var: 2,
+        positive: true,
+    };
+    let lits = SharedList::from_vec(vec![in alloc; first, second, third]?)?;
+    Ok(Kernel::Clause {
+        lits: Literals::from_list(lits),
+    })
+}
+
+/// Bounds of the three variables, and the tells.
+static THREE_TELLS: [(Pairs, &[Told]); 7] = [
+    ([(0, 0), (1, 1), (0, 1), (0, 0)], &[(2, Low, 1)]),
+    ([(0, 0), (0, 1), (0, 0), (0, 0)], &[(1, High, 0)]),
+    ([(0, 1), (1, 1), (0, 0), (0, 0)], &[(0, Low, 1)]),
+    (
+        [(0, 0), (1, 1), (0, 0), (0, 0)],
+        &[(0, Low, 1), (1, High, 0), (2, Low, 1)],
+    ),
+    ([(0, 0), (0, 1), (0, 1), (0, 0)], &[]),
+    ([(0, 1), (0, 1), (0, 0), (0, 0)], &[]),
+    (
+        [(-PAST, -PAST), (PAST, PAST), (-PAST, PAST), (0, 0)],
+        &[(2, Low, 1)],
+    ),
+];
+
+#[test]
+fn the_clause_of_three_gives_its_tells_in_order(rt: HostRuntime) -> Result<(), Fail> {
+    expect_tells(&rt, rt.alloc(), clause_of_three(rt.alloc())?, &THREE_TELLS)?;
+    Ok(())
+}
+
 /// Bounds of the two variables, and both after the tells.
 static CLAUSE_BOUNDS: [(&Pairs, &Pairs); 3] = [
     (

@@ -1,14 +1,14 @@
 -- A searcher's boxes, and what it knows of them, at each move.
 use Rattle.std.proofs.Common.{◌≡◌, ◌≢◌, ◌⊎◌, inl, inr, ℕ, ℤ, pos, ◌-ℤ◌, ◌≤ℤ◌, ◌<ℤ◌, Option, Some, None, ◌<◌, Bool, true, false, cond, List, [], ◌∷◌, ◌++◌, length, refl, sym, ap, subst, ◌∙◌, arith, length-append}
-use Rattle.std.specs.Prelude.{IfSome}
+use Rattle.std.specs.Prelude.{IfSome, ◌-◌, take, drop}
 use Rattle.std.specs.List.{All}
 use Rattle.std.specs.Bool.{OnTrue, OnFalse}
 use Rattle.std.proofs.lemmas.Int.{ints}
-use Rattle.std.proofs.lemmas.List.{append_assoc, map-append, length-set, get_or-set_same}
+use Rattle.std.proofs.lemmas.List.{append_assoc, map-append, length-set, get_or-set_same, take-append-drop, take_all, take-append-le, drop-append-le, drop_all}
 use Rattle.std.proofs.lemmas.List.Elements.{All-nil, All-cons, All-append}
 use Rattle.interval.specs.Boxes.{Bounds, low_of, high_of, IsInside, IsProper, IsCrossed, InsideOrder, put_of}
 use Rattle.constraint_model.specs.declared.model.FznModel.{FznModel}
-use Rattle.trailed_box.specs.Trailed.{Left, left_of, box_of, boxes_of as left_boxes}
+use Rattle.trailed_box.specs.Trailed.{Trailed, Left, IsOver, left_of, box_of, boxes_of as left_boxes}
 use Rattle.branching.specs.declared.fronts.Front.{Front}
 use Rattle.branching.specs.Fronts.{IsFrontOf, FrontsStay}
 use Rattle.guarded_tell.specs.declared.kernel.Kernel.{Kernel}
@@ -22,7 +22,7 @@ use Rattle.narrowing.specs.declared.narrower.Narrower.{Narrower}
 use Rattle.narrowing.specs.Narrowers.{Fits, len_of}
 use Rattle.search.specs.declared.run.Run.{Run}
 use Rattle.search.specs.declared.searcher.Searcher.{Searcher}
-use Rattle.search.specs.Stacks.{count_of, IsLeft, TellsCrossed, AreFronts, AreSound, IsFrontNear, AreLeft, CanRestart}
+use Rattle.search.specs.Stacks.{own_on, below_on, below_of, count_of, IsLeft, TellsCrossed, AreFronts, AreSound, IsFrontNear, AreLeft, CanRestart}
 use Rattle.search.proofs.StackLaws.{all_last, all_front}
 
 -- ---- fronts of what is left
@@ -49,9 +49,39 @@ fronts_pop model [] (f ∷ fronts) left front h = absurd (no_fronts model fronts
 fronts_pop model (l ∷ lefts) [] left front h = absurd (no_lefts model lefts left h.1)
 fronts_pop model (l ∷ lefts) (f ∷ fronts) left front h = let q = fronts_pop model lefts fronts left front h.1 in ((h.0, q.0), q.1)
 
-pub some_fronts : (model : FznModel) (stack lefts : List Left) (fronts : List Front) (left : Left) → stack ≡ lefts ++ left ∷ [] → AreFronts model stack fronts → fronts ≢ []
-some_fronts model stack lefts fronts left e h none =
-    no_lefts model lefts left (subst (λ (fs : List Front). AreFronts model (lefts ++ left ∷ []) fs) none (subst (λ (ls : List Left). AreFronts model ls fronts) e h))
+-- ---- what is the searcher's own on the stack
+
+-- with one more left, and a front of it, the others are its own as before, and what lies below is the same
+module _ (stack lefts : List Left) (fronts others : List Front) (left : Left) (front : Front) (e : stack ≡ lefts ++ left ∷ []) (f : fronts ≡ others ++ front ∷ []) where
+  depth : length stack - length fronts ≡ length lefts - length others
+  depth = omega (arith, ap length e, length-append lefts (left ∷ []), ap length f, length-append others (front ∷ []))
+
+  pub own_more : own_on stack fronts ≡ own_on lefts others ++ left ∷ []
+  own_more =
+      ap (λ (n : ℕ). drop n stack) depth ∙ ap (λ (ls : List Left). drop (length lefts - length others) ls) e
+      ∙ drop-append-le (length lefts - length others) lefts (left ∷ []) (omega arith)
+
+  pub below_more : below_on stack fronts ≡ below_on lefts others
+  below_more =
+      ap (λ (n : ℕ). take n stack) depth ∙ ap (λ (ls : List Left). take (length lefts - length others) ls) e
+      ∙ take-append-le (length lefts - length others) lefts (left ∷ []) (omega arith)
+
+module _ (stack : List Left) (fronts : List Front) where
+  -- without fronts nothing is its own
+  pub own_none : fronts ≡ [] → own_on stack fronts ≡ []
+  own_none e = drop_all (length stack - length fronts) stack (omega (arith, ap length e))
+
+  pub below_none : fronts ≡ [] → below_on stack fronts ≡ stack
+  below_none e = take_all (length stack - length fronts) stack (omega (arith, ap length e))
+
+  pub over_below : IsOver (below_on stack fronts) stack
+  over_below = (own_on stack fronts, sym (take-append-drop (length stack - length fronts) stack))
+
+  -- with a front something is left
+  pub some_lefts : (model : FznModel) (others : List Front) (front : Front) → fronts ≡ others ++ front ∷ [] → AreFronts model (own_on stack fronts) fronts → stack ≢ []
+  some_lefts model others front f h none =
+      let own : own_on stack fronts ≡ [] = ap (λ (ls : List Left). own_on ls fronts) none ∙ drop_all (0 - length fronts) [] (omega arith) in
+      no_fronts model others front (subst (λ (fs : List Front). AreFronts model [] fs) f (subst (λ (ls : List Left). AreFronts model ls fronts) own h))
 
 -- ---- what is left
 
@@ -194,6 +224,17 @@ pair_within n kernels b (Some pair) fits made =
     let len = fits.len in
     let within = made.in_box in
     omega arith
+
+-- the boxes are given back as they were given, with more left above
+pub given_back : (start boxes : Trailed) (kernels : List Kernel) (first last : Searcher) → first.boxes.current ≡ start.current → below_of first ≡ start.stack →
+    CanRestart kernels (count_of first) last → below_of last ≡ below_of first → boxes ≡ last.boxes → IsOver (below_of last) boxes.stack →
+    IsOver start.stack boxes.stack × (length boxes.current ≡ length start.current)
+given_back start boxes kernels first last current below again bottom same over =
+    (subst (λ (ls : List Left). IsOver ls boxes.stack) (bottom ∙ below) over, ap (λ (t : Trailed). length t.current) same ∙ again.same_count ∙ ap length current)
+
+-- what it leaves serves boxes of as many variables
+pub serves_start : (start : Bounds) (kernels : List Kernel) (first last : Searcher) → first.boxes.current ≡ start → CanRestart kernels (count_of first) last → CanRestart kernels (length start) last
+serves_start start kernels first last current again = subst (λ (b : Bounds). CanRestart kernels (length b) last) current again
 
 pub from_left : {L : Type 0} (run : Run L) (s : Searcher) (count : ℕ) → AreLeft run s → count_of s ≡ count → CanRestart run.program.now.kernels count s
 from_left run s count left same = record {

@@ -6,6 +6,7 @@ use Rattle.decompose.specs.declared.program.Program.{Program}
 use Rattle.branching.specs.Tree.{SolutionsIn}
 use Rattle.best_bound.specs.Lists.{IsLeastNumber}
 use Rattle.search.specs.declared.kind.Kind.{Kind}
+use Rattle.search.specs.declared.run.Run.{Run}
 use Rattle.search.specs.declared.ends.Why.{Why}
 use Rattle.search.specs.declared.ends.FirstEnd.{FirstEnd}
 use Rattle.search.specs.declared.ends.AllEnd.{AllEnd}
@@ -15,6 +16,10 @@ use Rattle.search.specs.Machine.{Search, State, Reached, IsDone, IsOutOfNodes, I
 abbrev pub search_of : FznModel → Program → ℕ → ℕ → Kind → Bounds → Search
 search_of model program node_limit round_limit kind sub =
     record { model = model; kernels = program.kernels; sub = sub; kind = kind; node_limit = node_limit; round_limit = round_limit; posted = [] }
+
+-- the search by a run
+abbrev pub search_in : {L : Type 0} → Run L → Kind → Bounds → Search
+search_in run kind sub = search_of run.model.now run.program.now run.node_limit run.round_limit kind sub
 
 -- the search reaches its end, with these solutions
 pub record EndsDone (s : Search) (found : List (List ℤ)) : Type 0 where

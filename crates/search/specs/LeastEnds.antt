@@ -8,6 +8,7 @@ use Rattle.best_bound.specs.Lists.{Among}
 use Rattle.decompose.specs.declared.program.Program.{Program}
 use Rattle.solution_lists.specs.Solutions.{SolvesInside}
 use Rattle.search.specs.declared.kind.Kind.{Kind}
+use Rattle.search.specs.declared.run.Run.{Run}
 use Rattle.search.specs.declared.ends.LeastEnd.{LeastEnd}
 use Rattle.search.specs.Machine.{Search, State, Reached}
 use Rattle.search.specs.Ends.{EndsDone, EndsSpent}
@@ -23,6 +24,10 @@ least_of model program node_limit round_limit posted sub = record {
   round_limit = round_limit;
   posted = posted;
 }
+
+-- the search by a run
+abbrev pub least_in : {L : Type 0} → Run L → List ℤ → Bounds → Search
+least_in run posted sub = least_of run.model.now run.program.now run.node_limit run.round_limit posted sub
 
 -- the cost of a solution of the model
 pub record IsCost (model : FznModel) (cost : ℤ) : Type 0 where

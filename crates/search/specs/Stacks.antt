@@ -1,5 +1,5 @@
 -- The boxes of a searcher, and what it knows of them.
-use Rattle.std.specs.Prelude.{◌≡◌, ℕ, Bool, true, false, cond, List, [], ◌∷◌, ◌++◌, length, All}
+use Rattle.std.specs.Prelude.{◌≡◌, ℕ, ◌-◌, Bool, true, false, cond, List, [], ◌∷◌, ◌++◌, length, take, drop, All}
 use Rattle.interval.specs.Boxes.{Bounds, IsInside, IsProper, IsCrossed}
 use Rattle.guarded_tell.specs.declared.kernel.Kernel.{Kernel}
 use Rattle.fixpoint_laws.specs.Fixpoints.{IsClosed}
@@ -11,16 +11,31 @@ use Rattle.narrowing.specs.Narrowers.{Fits, AreQuietUnlessNoted, Knows, LetRest}
 use Rattle.search.specs.declared.run.Run.{Run}
 use Rattle.search.specs.declared.searcher.Searcher.{Searcher}
 
--- the boxes that are still to be searched, the next one last: those that are left for later, and the current one; none where
--- that one is done
+-- the last of what is left on a stack, as many as there are fronts; and what lies below
+abbrev pub own_on : List Left → List Front → List Left
+own_on stack fronts = drop (length stack - length fronts) stack
+
+abbrev pub below_on : List Left → List Front → List Left
+below_on stack fronts = take (length stack - length fronts) stack
+
+-- what the searcher has left for later; and what lay on the stack before
+abbrev pub own_of : Searcher → List Left
+own_of s = own_on s.boxes.stack s.fronts.items
+
+abbrev pub below_of : Searcher → List Left
+below_of s = below_on s.boxes.stack s.fronts.items
+
+-- the boxes that are still to be searched, the next one last: those that it has left for later, and the current one; none
+-- where that one is done
 abbrev pub boxes_of : Searcher → List Bounds
-boxes_of s = cond s.is_open (left_boxes s.boxes.stack ++ s.boxes.current ∷ []) []
+boxes_of s = cond s.is_open (left_boxes (own_of s) ++ s.boxes.current ∷ []) []
 
 -- how many variables they have
 abbrev pub count_of : Searcher → ℕ
 count_of s = length s.boxes.current
 
--- it may begin anew with a box of so many variables: its own has as many, and the narrower serves the kernels
+-- another may begin with what it leaves, and a box of so many variables: its own has as many, and the narrower serves the
+-- kernels
 pub record CanRestart (kernels : List Kernel) (count : ℕ) (s : Searcher) : Type 0 where
   pub same_count : count_of s ≡ count
   pub fits : Fits s.narrower kernels count
@@ -54,11 +69,11 @@ pub record AreSound (model : FznModel) (kernels : List Kernel) (stack : List Lef
   pub parts : All (IsLeft kernels) stack
   pub fronts : AreFronts model stack kept
 
--- what is left is sound, and the narrower serves the kernels, and knows which rest in the boxes of which parts are left
+-- what it has left is sound, and the narrower serves the kernels, and knows which rest in the boxes of which parts are left
 pub record AreLeft {L : Type 0} (run : Run L) (s : Searcher) : Type 0 where
-  pub sound : AreSound run.model.now run.program.now.kernels s.boxes.stack s.fronts.items
+  pub sound : AreSound run.model.now run.program.now.kernels (own_of s) s.fronts.items
   pub fits : Fits s.narrower run.program.now.kernels (length s.boxes.current)
-  pub let_rest : LetRest s.narrower run.program.now.kernels s.boxes.stack
+  pub let_rest : LetRest s.narrower run.program.now.kernels (own_of s)
 
 -- so is the current box, if it is still to be searched: a kernel that narrows it names a variable that is noted, it is known
 -- whether it is crossed, and if it isn't, which kernels rest

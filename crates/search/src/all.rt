@@ -2,12 +2,14 @@
 
 ghost use Rattle.std.specs.Prelude.{◌≡◌, [], ◌∷◌, length, IfOk};
 ghost use Rattle.interval.specs.Boxes.{IsInside};
-ghost use Rattle.search.specs.Premises.{IsRun, CanSearch};
-ghost use Rattle.search.specs.Ends.{search_of, IsAllEnd};
-ghost use Rattle.search.specs.Closings.{IsClosing};
+ghost use Rattle.trailed_box.specs.Trailed.{IsOver};
 ghost use Rattle.moved_fixpoint.specs.Made.{IsMadeBy};
-ghost use Rattle.search.specs.Stacks.{boxes_of, count_of, IsReady, CanRestart};
-ghost use Rattle.search.specs.Keeping.{IsKeptFor};
+ghost use Rattle.search.specs.Machine.{Search};
+ghost use Rattle.search.specs.Premises.{IsRun, CanSearch};
+ghost use Rattle.search.specs.Ends.{search_of, search_in, IsAllEnd};
+ghost use Rattle.search.specs.Closings.{IsClosing};
+ghost use Rattle.search.specs.Stacks.{boxes_of, below_of, count_of, IsReady, CanRestart};
+ghost use Rattle.search.specs.Keeping.{HasKept, IsKeptFor};
 
 use crate::closing::{Closing, counted, is_full};
 use crate::ends::{AllEnd, Why};
@@ -15,7 +17,7 @@ use crate::kept::Kept;
 use crate::kind::Kind;
 use crate::laws::law_can_search;
 use crate::node::Visit;
-use crate::run::{Run, Start};
+use crate::run::{Over, Run, Start, alone};
 use crate::searcher::Searcher;
 use branching::law_branches;
 use interval::{BoxOf, NoMemory, law_inside_order};
@@ -29,20 +31,19 @@ fn search_all<R: Threads + Sync, L: Gate + Sync>(
     rt: &R,
     alloc: Global,
     run: &Run<'_, L>,
-    sub: &BoxOf,
     searcher: &mut Searcher,
 ) -> Result<Closing, NoMemory>
-    requires run { CanSearch run.now (length sub.now) }
-    requires boxes { boxes_of searcher.old ≡ sub.now ∷ [] }
-    requires count { count_of searcher.old ≡ length sub.now }
+    requires run { CanSearch run.now (count_of searcher.old) }
+    requires boxes { boxes_of searcher.old ≡ searcher.old.boxes.current ∷ [] }
     requires ready { IsReady run.now searcher.old }
-    ensures closing { IfOk result (IsClosing (search_of run.now.model.now run.now.program.now run.now.node_limit run.now.round_limit Kind.All sub.now)) }
-    ensures again { IfOk result (λ _. CanRestart run.now.program.now.kernels (length sub.now) searcher.new) }
+    ensures closing { IfOk result (IsClosing (search_in run.now Kind.All searcher.old.boxes.current)) }
+    ensures again { IfOk result (λ _. CanRestart run.now.program.now.kernels (count_of searcher.old) searcher.new) }
+    ensures bottom { IfOk result (λ _. below_of searcher.new ≡ below_of searcher.old) }
 {
     law_branches();
     law_inside_order();
     // its contract says that the bounds are in range
-    let _length = sub.len();
+    let _length = searcher.boxes.len();
     let mut found = ListOf::new(alloc);
     let mut nodes = 0u64;
     'boxes: while searcher.has_next() {
@@ -72,35 +73,22 @@ fn search_all<R: Threads + Sync, L: Gate + Sync>(
     })
 }
 
-/// The end of a search for all solutions.
-pub(crate) fn all_in<R: Threads + Sync, L: Gate + Sync>(
-    rt: &R,
-    alloc: Global,
-    run: &Run<'_, L>,
-    start: &Start<'_>,
-    kept: &mut Kept,
-) -> Result<AllEnd, NoMemory>
-    requires run { CanSearch run.now (length start.now.sub.now) }
-    requires made { IsMadeBy start.now.changed run.now.program.now.kernels start.now.sub.now }
-    requires searcher { IsKeptFor run.now.program.now.kernels (length start.now.sub.now) kept.old }
-    ensures end { IfOk result (IsAllEnd (search_of run.now.model.now run.now.program.now run.now.node_limit run.now.round_limit Kind.All start.now.sub.now)) }
-    ensures searcher { IsKeptFor run.now.program.now.kernels (length start.now.sub.now) kept.new }
+/// The end of a run, by how its search closed.
+fn all_end(closing: Closing) -> AllEnd
+    ensures { (s : Search) → s.kind ≡ Kind.All → IsClosing s closing → IsAllEnd s result }
 {
-    let mut searcher = kept.begin(alloc, run, start)?;
-    let closing = search_all(rt, alloc, run, start.sub, &mut searcher)?;
-    kept.keep(searcher);
     let Closing {
         found,
         nodes,
         stopped,
     } = closing;
     match stopped {
-        Some(why) => Ok(AllEnd::Spent {
+        Some(why) => AllEnd::Spent {
             nodes,
             why,
             solutions: found,
-        }),
-        None => Ok(AllEnd::Done(found)),
+        },
+        None => AllEnd::Done(found),
     }
 }
 
@@ -115,28 +103,38 @@ pub fn run_all<R: Threads + Sync, L: Gate + Sync>(
     requires inside { IsInside sub.now run.now.program.now.start }
     ensures { IfOk result (IsAllEnd (search_of run.now.model.now run.now.program.now run.now.node_limit run.now.round_limit Kind.All sub.now)) }
 {
-    law_can_search(run, sub);
-    let start = Start { sub, changed: None };
+    let start = Start {
+        boxes: alone(alloc, sub)?,
+        changed: None,
+    };
     let mut kept = Kept::new();
-    let end = all_in(rt, alloc, run, &start, &mut kept)?;
-    Ok(end)
+    let over = run_all_from(rt, alloc, run, start, &mut kept)?;
+    Ok(over.end)
 }
 
-/// The same, where it is known of what the box was made, and by a worker that has made other runs of as many variables.
+/// The same in place, where it is known of what the box was made, and by a worker that has made other runs of as many
+/// variables.
 pub fn run_all_from<R: Threads + Sync, L: Gate + Sync>(
     rt: &R,
     alloc: Global,
     run: &Run<'_, L>,
-    start: &Start<'_>,
+    start: Start,
     kept: &mut Kept,
-) -> Result<AllEnd, NoMemory>
+) -> Result<Over<AllEnd>, NoMemory>
     requires run { IsRun run.now }
-    requires inside { IsInside start.now.sub.now run.now.program.now.start }
-    requires made { IsMadeBy start.now.changed run.now.program.now.kernels start.now.sub.now }
-    requires searcher { IsKeptFor run.now.program.now.kernels (length start.now.sub.now) kept.old }
-    ensures end { IfOk result (IsAllEnd (search_of run.now.model.now run.now.program.now run.now.node_limit run.now.round_limit Kind.All start.now.sub.now)) }
-    ensures searcher { IsKeptFor run.now.program.now.kernels (length start.now.sub.now) kept.new }
+    requires inside { IsInside start.boxes.current run.now.program.now.start }
+    requires made { IsMadeBy start.changed run.now.program.now.kernels start.boxes.current }
+    requires searcher { IsKeptFor run.now.program.now.kernels (length start.boxes.current) kept.old }
+    ensures end { IfOk result (λ over. IsAllEnd (search_in run.now Kind.All start.boxes.current) over.end) }
+    ensures over { IfOk result (λ over. IsOver start.boxes.stack over.boxes.stack × (length over.boxes.current ≡ length start.boxes.current)) }
+    ensures searcher { IsKeptFor run.now.program.now.kernels (length start.boxes.current) kept.new }
+    ensures spare { IfOk result (λ _. HasKept kept.new) }
 {
-    law_can_search(run, start.sub);
-    all_in(rt, alloc, run, start, kept)
+    law_can_search(run, start.boxes.current());
+    let mut searcher = kept.begin(alloc, run, start)?;
+    let closing = search_all(rt, alloc, run, &mut searcher)?;
+    let (boxes, spare) = searcher.into_parts();
+    kept.keep(spare);
+    let end = all_end(closing);
+    Ok(Over { end, boxes })
 }

@@ -1,6 +1,6 @@
 //! What solutions cost, and the bounds that cut a box to lesser costs.
 
-ghost use Rattle.std.specs.Prelude.{◌≡◌, ◌<◌, ◌+◌, ◌-◌, ℤ, neg_ℤ, length, IfSome};
+ghost use Rattle.std.specs.Prelude.{◌≡◌, ◌<◌, ◌-◌, ℤ, neg_ℤ, length, IfSome};
 ghost use Rattle.interval.specs.Limits.{IsBound, IsNumber};
 ghost use Rattle.constraint_model.specs.Relations.{value, cost_of};
 ghost use Rattle.search.specs.declared.kind.Kind.TheVariants.{Least};
@@ -8,12 +8,13 @@ ghost use Rattle.search.specs.Costs.{up_to, from_on, where_at_most, at_most, IsT
 ghost use Rattle.search.specs.Cuts.{IsCut};
 ghost use Rattle.search.specs.Machine.{cut_by};
 
+use branching::pair_of;
 use constraint_model::{Goal, Term};
 use interval::BoxOf;
 use trailed_box::Part;
 
-/// The number of a term in an assignment.
-fn value(a: &[i64], term: Term) -> i64
+/// The number of a term in an assignment that has one for each variable.
+pub fn value(a: &[i64], term: Term) -> i64
     requires { IsTermIn (length a.now) term }
     ensures { result ≡ value a.now term }
 {
@@ -87,17 +88,6 @@ fn where_at_most(b: &BoxOf, cost: i64, most: i64) -> Option<Part>
     ensures { IsCut b.now (where_at_most cost most b.now) result }
 {
     if cost > most { up_to(b, 0, 0) } else { None }
-}
-
-/// The pair of a declared variable.
-#[tactic(auto, unfolding(interval::specs::Limits::box_limit))]
-fn pair_of(b: &BoxOf, var: u32) -> u32
-    requires { var + 1 < length b.now }
-    ensures { result ≡ var + 1 }
-{
-    // its contract says that there are few pairs
-    let _length = b.len();
-    var + 1
 }
 
 /// The bounds that cut the objective to costs up to `most`.

@@ -6,11 +6,12 @@ ghost use Rattle.interval.specs.Boxes.{IsInside};
 ghost use Rattle.branching.specs.Tree.{SolutionsIn};
 ghost use Rattle.best_bound.specs.Lists.{Among, IsLeastNumber};
 ghost use Rattle.best_bound.specs.Seats.{IsFoundSeatOf, found_parts, numbers_seen, numbers_posted};
-ghost use Rattle.search.specs.Premises.{IsRun, CanSearch};
-ghost use Rattle.search.specs.Ends.{search_of, IsFirstEnd, IsCut, posts_of};
+ghost use Rattle.trailed_box.specs.Trailed.{IsOver};
 ghost use Rattle.moved_fixpoint.specs.Made.{IsMadeBy};
-ghost use Rattle.search.specs.Stacks.{boxes_of, count_of, IsReady, CanRestart};
-ghost use Rattle.search.specs.Keeping.{IsKeptFor};
+ghost use Rattle.search.specs.Premises.{IsRun, CanSearch};
+ghost use Rattle.search.specs.Ends.{search_of, search_in, IsFirstEnd, IsCut, posts_of};
+ghost use Rattle.search.specs.Stacks.{boxes_of, below_of, count_of, IsReady, CanRestart};
+ghost use Rattle.search.specs.Keeping.{HasKept, IsKeptFor};
 
 use crate::closing::{counted, is_full};
 use crate::ends::{FirstEnd, Why};
@@ -18,7 +19,7 @@ use crate::kept::Kept;
 use crate::kind::Kind;
 use crate::laws::law_can_search;
 use crate::node::Visit;
-use crate::run::{Run, Start};
+use crate::run::{Over, Run, Start, alone};
 use crate::searcher::Searcher;
 use best_bound::{Found, FoundSeat, Numbers};
 use branching::{law_branches, law_every_list};
@@ -29,7 +30,7 @@ use std::alloc::Global;
 use std::thread::Threads;
 
 /// The least number of a subproblem with a solution that the seat then sees, if it is below `number`.
-fn lesser<N: Numbers>(found: &Found<N>, seat: &mut FoundSeat, number: u32) -> Option<u32>
+pub fn lesser_seen<N: Numbers>(found: &Found<N>, seat: &mut FoundSeat, number: u32) -> Option<u32>
     requires seat { IsFoundSeatOf found.now seat.old }
     ensures seat { IsFoundSeatOf found.now seat.new }
     ensures parts { found_parts seat.new ≡ found_parts seat.old }
@@ -59,23 +60,22 @@ fn search_first<R: Threads + Sync, L: Gate + Sync, N: Numbers>(
     rt: &R,
     alloc: Global,
     run: &Run<'_, L>,
-    sub: &BoxOf,
     searcher: &mut Searcher,
     number: u32,
     found: &Found<N>,
     seat: &mut FoundSeat,
 ) -> Result<FirstEnd, NoMemory>
-    requires run { CanSearch run.now (length sub.now) }
-    requires boxes { boxes_of searcher.old ≡ sub.now ∷ [] }
-    requires count { count_of searcher.old ≡ length sub.now }
+    requires run { CanSearch run.now (count_of searcher.old) }
+    requires boxes { boxes_of searcher.old ≡ searcher.old.boxes.current ∷ [] }
     requires ready { IsReady run.now searcher.old }
     requires seat { IsFoundSeatOf found.now seat.old }
-    ensures again { IfOk result (λ _. CanRestart run.now.program.now.kernels (length sub.now) searcher.new) }
+    ensures again { IfOk result (λ _. CanRestart run.now.program.now.kernels (count_of searcher.old) searcher.new) }
+    ensures bottom { IfOk result (λ _. below_of searcher.new ≡ below_of searcher.old) }
     ensures seat { IsFoundSeatOf found.now seat.new }
     ensures parts { found_parts seat.new ≡ found_parts seat.old }
     ensures posted { numbers_posted seat.new ≡ numbers_posted seat.old }
     ensures seen { (n : ℕ) → Among (numbers_seen seat.old) n → Among (numbers_seen seat.new) n }
-    ensures end { IfOk result (IsFirstEnd (search_of run.now.model.now run.now.program.now run.now.node_limit run.now.round_limit Kind.First sub.now) number (numbers_seen seat.new)) }
+    ensures end { IfOk result (IsFirstEnd (search_in run.now Kind.First searcher.old.boxes.current) number (numbers_seen seat.new)) }
     ensures cut { IfOk result (λ end. (n : ℕ) → end ≡ FirstEnd.Cut n → N.has_solution n) }
     ensures at_once { (n : ℕ) → Among (numbers_seen seat.old) n → n < number → IfOk result IsCut }
 {
@@ -83,11 +83,11 @@ fn search_first<R: Threads + Sync, L: Gate + Sync, N: Numbers>(
     law_every_list();
     law_inside_order();
     // its contract says that the bounds are in range
-    let _length = sub.len();
+    let _length = searcher.boxes.len();
     let mut solutions = ListOf::new(alloc);
     let mut nodes = 0u64;
     'boxes: while searcher.has_next() {
-        if let Some(n) = lesser(found, seat, number) {
+        if let Some(n) = lesser_seen(found, seat, number) {
             return Ok(FirstEnd::Cut(n));
         }
         if is_full(run.node_limit, nodes) {
@@ -113,48 +113,37 @@ fn search_first<R: Threads + Sync, L: Gate + Sync, N: Numbers>(
     Ok(FirstEnd::Done(None))
 }
 
-/// The end of a search for the first solution. Where there is one, `number` is posted.
-pub(crate) fn first_in<R: Threads + Sync, L: Gate + Sync, N: Numbers>(
+/// Searches the box where a run begins for its first solution. Nothing is posted.
+fn run_unposted<R: Threads + Sync, L: Gate + Sync, N: Numbers>(
     rt: &R,
     alloc: Global,
     run: &Run<'_, L>,
-    start: &Start<'_>,
+    start: Start,
     kept: &mut Kept,
     number: u32,
     found: &Found<N>,
     seat: &mut FoundSeat,
-) -> Result<FirstEnd, NoMemory>
-    requires run { CanSearch run.now (length start.now.sub.now) }
-    requires made { IsMadeBy start.now.changed run.now.program.now.kernels start.now.sub.now }
-    requires searcher { IsKeptFor run.now.program.now.kernels (length start.now.sub.now) kept.old }
+) -> Result<Over<FirstEnd>, NoMemory>
+    requires run { CanSearch run.now (length start.boxes.current) }
+    requires made { IsMadeBy start.changed run.now.program.now.kernels start.boxes.current }
+    requires searcher { IsKeptFor run.now.program.now.kernels (length start.boxes.current) kept.old }
     requires seat { IsFoundSeatOf found.now seat.old }
-    requires solution { (solutions : List (List ℤ)) → SolutionsIn run.now.model.now run.now.program.now.kernels start.now.sub.now solutions → solutions ≢ [] → N.has_solution number }
-    ensures searcher { IsKeptFor run.now.program.now.kernels (length start.now.sub.now) kept.new }
+    ensures over { IfOk result (λ over. IsOver start.boxes.stack over.boxes.stack × (length over.boxes.current ≡ length start.boxes.current)) }
+    ensures searcher { IsKeptFor run.now.program.now.kernels (length start.boxes.current) kept.new }
+    ensures spare { IfOk result (λ _. HasKept kept.new) }
     ensures seat { IsFoundSeatOf found.now seat.new }
     ensures parts { found_parts seat.new ≡ found_parts seat.old }
+    ensures posted { numbers_posted seat.new ≡ numbers_posted seat.old }
     ensures seen { (n : ℕ) → Among (numbers_seen seat.old) n → Among (numbers_seen seat.new) n }
-    ensures end { IfOk result (IsFirstEnd (search_of run.now.model.now run.now.program.now run.now.node_limit run.now.round_limit Kind.First start.now.sub.now) number (numbers_seen seat.new)) }
-    ensures cut { IfOk result (λ end. (n : ℕ) → end ≡ FirstEnd.Cut n → N.has_solution n) }
-    ensures at_once { (n : ℕ) → Among (numbers_seen seat.old) n → n < number → IfOk result IsCut }
-    ensures posts { IfOk result (λ end. numbers_posted seat.new ≡ posts_of number (numbers_posted seat.old) end) }
-    ensures err { OnErr result (numbers_posted seat.new ≡ numbers_posted seat.old) }
+    ensures end { IfOk result (λ over. IsFirstEnd (search_in run.now Kind.First start.boxes.current) number (numbers_seen seat.new) over.end) }
+    ensures cut { IfOk result (λ over. (n : ℕ) → over.end ≡ FirstEnd.Cut n → N.has_solution n) }
+    ensures at_once { (n : ℕ) → Among (numbers_seen seat.old) n → n < number → IfOk result (λ over. IsCut over.end) }
 {
     let mut searcher = kept.begin(alloc, run, start)?;
-    let end = search_first(
-        rt,
-        alloc,
-        run,
-        start.sub,
-        &mut searcher,
-        number,
-        found,
-        seat,
-    )?;
-    kept.keep(searcher);
-    if let FirstEnd::Done(Some(_)) = &end {
-        found.post(seat, number);
-    }
-    Ok(end)
+    let end = search_first(rt, alloc, run, &mut searcher, number, found, seat)?;
+    let (boxes, spare) = searcher.into_parts();
+    kept.keep(spare);
+    Ok(Over { end, boxes })
 }
 
 /// Searches a box, the subproblem `number`, for its first solution in the order of the search tree. It looks at `found`
@@ -172,50 +161,62 @@ pub fn run_first<R: Threads + Sync, L: Gate + Sync, N: Numbers>(
     requires run { IsRun run.now }
     requires inside { IsInside sub.now run.now.program.now.start }
     requires seat { IsFoundSeatOf found.now seat.old }
-    requires solution { (solutions : List (List ℤ)) → SolutionsIn run.now.model.now run.now.program.now.kernels sub.now solutions → solutions ≢ [] → N.has_solution number }
+    requires solution { (solutions : List (List ℤ)) → SolutionsIn run.now.model.now run.now.program.now.kernels sub.now solutions →
+        solutions ≢ [] → N.has_solution number }
     ensures seat { IsFoundSeatOf found.now seat.new }
     ensures parts { found_parts seat.new ≡ found_parts seat.old }
     ensures seen { (n : ℕ) → Among (numbers_seen seat.old) n → Among (numbers_seen seat.new) n }
-    ensures end { IfOk result (IsFirstEnd (search_of run.now.model.now run.now.program.now run.now.node_limit run.now.round_limit Kind.First sub.now) number (numbers_seen seat.new)) }
+    ensures end { IfOk result (IsFirstEnd
+        (search_of run.now.model.now run.now.program.now run.now.node_limit run.now.round_limit Kind.First sub.now) number (numbers_seen seat.new)) }
     ensures cut { IfOk result (λ end. (n : ℕ) → end ≡ FirstEnd.Cut n → N.has_solution n) }
     ensures at_once { (n : ℕ) → Among (numbers_seen seat.old) n → n < number → IfOk result IsCut }
     ensures posts { IfOk result (λ end. numbers_posted seat.new ≡ posts_of number (numbers_posted seat.old) end) }
     ensures err { OnErr result (numbers_posted seat.new ≡ numbers_posted seat.old) }
 {
-    law_can_search(run, sub);
-    let start = Start { sub, changed: None };
+    let start = Start {
+        boxes: alone(alloc, sub)?,
+        changed: None,
+    };
     let mut kept = Kept::new();
-    let end = first_in(rt, alloc, run, &start, &mut kept, number, found, seat)?;
-    Ok(end)
+    let over = run_first_from(rt, alloc, run, start, &mut kept, number, found, seat)?;
+    Ok(over.end)
 }
 
-/// The same, where it is known of what the box was made, and by a worker that has made other runs of as many variables.
+/// The same in place, where it is known of what the box was made, and by a worker that has made other runs of as many
+/// variables.
 pub fn run_first_from<R: Threads + Sync, L: Gate + Sync, N: Numbers>(
     rt: &R,
     alloc: Global,
     run: &Run<'_, L>,
-    start: &Start<'_>,
+    start: Start,
     kept: &mut Kept,
     number: u32,
     found: &Found<N>,
     seat: &mut FoundSeat,
-) -> Result<FirstEnd, NoMemory>
+) -> Result<Over<FirstEnd>, NoMemory>
     requires run { IsRun run.now }
-    requires inside { IsInside start.now.sub.now run.now.program.now.start }
-    requires made { IsMadeBy start.now.changed run.now.program.now.kernels start.now.sub.now }
-    requires searcher { IsKeptFor run.now.program.now.kernels (length start.now.sub.now) kept.old }
+    requires inside { IsInside start.boxes.current run.now.program.now.start }
+    requires made { IsMadeBy start.changed run.now.program.now.kernels start.boxes.current }
+    requires searcher { IsKeptFor run.now.program.now.kernels (length start.boxes.current) kept.old }
     requires seat { IsFoundSeatOf found.now seat.old }
-    requires solution { (solutions : List (List ℤ)) → SolutionsIn run.now.model.now run.now.program.now.kernels start.now.sub.now solutions → solutions ≢ [] → N.has_solution number }
-    ensures searcher { IsKeptFor run.now.program.now.kernels (length start.now.sub.now) kept.new }
+    requires solution { (solutions : List (List ℤ)) → SolutionsIn run.now.model.now run.now.program.now.kernels start.boxes.current solutions →
+        solutions ≢ [] → N.has_solution number }
+    ensures over { IfOk result (λ over. IsOver start.boxes.stack over.boxes.stack × (length over.boxes.current ≡ length start.boxes.current)) }
+    ensures searcher { IsKeptFor run.now.program.now.kernels (length start.boxes.current) kept.new }
+    ensures spare { IfOk result (λ _. HasKept kept.new) }
     ensures seat { IsFoundSeatOf found.now seat.new }
     ensures parts { found_parts seat.new ≡ found_parts seat.old }
     ensures seen { (n : ℕ) → Among (numbers_seen seat.old) n → Among (numbers_seen seat.new) n }
-    ensures end { IfOk result (IsFirstEnd (search_of run.now.model.now run.now.program.now run.now.node_limit run.now.round_limit Kind.First start.now.sub.now) number (numbers_seen seat.new)) }
-    ensures cut { IfOk result (λ end. (n : ℕ) → end ≡ FirstEnd.Cut n → N.has_solution n) }
-    ensures at_once { (n : ℕ) → Among (numbers_seen seat.old) n → n < number → IfOk result IsCut }
-    ensures posts { IfOk result (λ end. numbers_posted seat.new ≡ posts_of number (numbers_posted seat.old) end) }
+    ensures end { IfOk result (λ over. IsFirstEnd (search_in run.now Kind.First start.boxes.current) number (numbers_seen seat.new) over.end) }
+    ensures cut { IfOk result (λ over. (n : ℕ) → over.end ≡ FirstEnd.Cut n → N.has_solution n) }
+    ensures at_once { (n : ℕ) → Among (numbers_seen seat.old) n → n < number → IfOk result (λ over. IsCut over.end) }
+    ensures posts { IfOk result (λ over. numbers_posted seat.new ≡ posts_of number (numbers_posted seat.old) over.end) }
     ensures err { OnErr result (numbers_posted seat.new ≡ numbers_posted seat.old) }
 {
-    law_can_search(run, start.sub);
-    first_in(rt, alloc, run, start, kept, number, found, seat)
+    law_can_search(run, start.boxes.current());
+    let over = run_unposted(rt, alloc, run, start, kept, number, found, seat)?;
+    if let FirstEnd::Done(Some(_)) = &over.end {
+        found.post(seat, number);
+    }
+    Ok(over)
 }

@@ -1,22 +1,48 @@
 //! What a worker keeps over its runs.
 
-ghost use Rattle.std.specs.Prelude.{◌≡◌, ℕ, List, None, [], ◌∷◌, length, IfOk};
+ghost use Rattle.std.specs.Prelude.{◌≡◌, ◌≤◌, ℕ, List, None, [], ◌∷◌, length, IfOk, IfSome, OnErr, Ok};
+ghost use Rattle.interval.specs.Limits.{box_limit};
 ghost use Rattle.guarded_tell.specs.declared.kernel.Kernel.{Kernel};
+ghost use Rattle.rounds.specs.Shares.{share_limit};
 ghost use Rattle.moved_fixpoint.specs.Made.{IsMadeBy};
 ghost use Rattle.search.specs.Premises.{CanSearch};
-ghost use Rattle.search.specs.Stacks.{boxes_of, count_of, IsReady, CanRestart};
-ghost use Rattle.search.specs.Keeping.{IsKeptFor};
+ghost use Rattle.search.specs.Stacks.{boxes_of, below_of, IsReady};
+ghost use Rattle.search.specs.Keeping.{CanServe, HasKept, IsKeptFor};
 
 use crate::run::{Run, Start};
 use crate::searcher::Searcher;
-use interval::{BoxOf, NoMemory};
+use branching::Front;
+use interval::NoMemory;
+use narrowing::Narrower;
 use std::alloc::Global;
 
-/// The searcher of the last run, if memory sufficed for that. The next run needs no boxes and sets of its own then; what it
-/// finds is the same.
+/// What a searcher needs besides boxes.
+#[derive(Drop)]
+pub(crate) struct Spare {
+    pub(crate) fronts: Vec<Front>,
+    pub(crate) narrower: Narrower,
+}
+
+impl Spare {
+    /// For boxes of so many variables.
+    #[tactic(auto, unfolding(rounds::specs::Shares::share_limit))]
+    fn new<L>(alloc: Global, run: &Run<'_, L>, count: u32) -> Result<Spare, NoMemory>
+        requires run { CanSearch run.now count }
+        requires short { count ≤ box_limit }
+        ensures { IfOk result (CanServe run.now.program.now.kernels count) }
+    {
+        let kernels = run.program.kernels.as_slice();
+        Ok(Spare {
+            fronts: Vec::new(alloc),
+            narrower: Narrower::new(alloc, kernels, count, run.lanes)?,
+        })
+    }
+}
+
+/// What the last run kept, if memory sufficed for that. The next run needs no sets of its own then; what it finds is the same.
 #[derive(Drop)]
 pub struct Kept {
-    pub(crate) searcher: Option<Searcher>,
+    pub(crate) spare: Option<Spare>,
 }
 
 impl Kept {
@@ -24,49 +50,54 @@ impl Kept {
     pub fn new() -> Kept
         ensures { (kernels : List Kernel) (count : ℕ) → IsKeptFor kernels count result }
     {
-        Kept { searcher: None }
+        Kept { spare: None }
     }
 
-    /// Takes the searcher, or makes one.
-    fn take<L>(&mut self, alloc: Global, run: &Run<'_, L>, b: &BoxOf) -> Result<Searcher, NoMemory>
-        requires run { CanSearch run.now (length b.now) }
-        requires kept { IsKeptFor run.now.program.now.kernels (length b.now) self.old }
-        ensures taken { self.new.searcher ≡ None }
-        ensures spare { IfOk result (CanRestart run.now.program.now.kernels (length b.now)) }
+    /// Takes what is kept, or makes it.
+    fn take<L>(&mut self, alloc: Global, run: &Run<'_, L>, count: u32) -> Result<Spare, NoMemory>
+        requires run { CanSearch run.now count }
+        requires short { count ≤ box_limit }
+        requires kept { IsKeptFor run.now.program.now.kernels count self.old }
+        ensures taken { self.new.spare ≡ None }
+        ensures same { IfSome self.old.spare (λ spare. result ≡ Ok spare) }
+        ensures spare { IfOk result (CanServe run.now.program.now.kernels count) }
+        ensures err { OnErr result (self.old.spare ≡ None) }
     {
-        match self.searcher.take() {
-            Some(searcher) => Ok(searcher),
+        match self.spare.take() {
+            Some(spare) => Ok(spare),
             None => {
-                let searcher = Searcher::new(alloc, run, b)?;
-                Ok(searcher)
+                let spare = Spare::new(alloc, run, count)?;
+                Ok(spare)
             }
         }
     }
 
-    /// Takes a searcher of the box where a run begins.
+    /// Gives a searcher of the box where a run begins. Memory is wanted only where nothing is kept.
     pub(crate) fn begin<L>(
         &mut self,
         alloc: Global,
         run: &Run<'_, L>,
-        start: &Start<'_>,
+        start: Start,
     ) -> Result<Searcher, NoMemory>
-        requires run { CanSearch run.now (length start.now.sub.now) }
-        requires kept { IsKeptFor run.now.program.now.kernels (length start.now.sub.now) self.old }
-        requires made { IsMadeBy start.now.changed run.now.program.now.kernels start.now.sub.now }
-        ensures taken { self.new.searcher ≡ None }
-        ensures boxes { IfOk result (λ s. boxes_of s ≡ start.now.sub.now ∷ []) }
-        ensures count { IfOk result (λ s. count_of s ≡ length start.now.sub.now) }
+        requires run { CanSearch run.now (length start.boxes.current) }
+        requires kept { IsKeptFor run.now.program.now.kernels (length start.boxes.current) self.old }
+        requires made { IsMadeBy start.changed run.now.program.now.kernels start.boxes.current }
+        ensures taken { self.new.spare ≡ None }
+        ensures current { IfOk result (λ s. s.boxes.current ≡ start.boxes.current) }
+        ensures boxes { IfOk result (λ s. boxes_of s ≡ s.boxes.current ∷ []) }
+        ensures below { IfOk result (λ s. below_of s ≡ start.boxes.stack) }
         ensures ready { IfOk result (IsReady run.now) }
+        ensures err { OnErr result (self.old.spare ≡ None) }
     {
-        let mut searcher = self.take(alloc, run, start.sub)?;
-        searcher.restart(run, start);
-        Ok(searcher)
+        let spare = self.take(alloc, run, start.boxes.len())?;
+        Ok(Searcher::new(run, start, spare))
     }
 
-    /// Keeps the searcher of a run that is over.
-    pub(crate) fn keep(&mut self, searcher: Searcher)
-        ensures { (kernels : List Kernel) (count : ℕ) → CanRestart kernels count searcher → IsKeptFor kernels count self.new }
+    /// Keeps what the next run may use.
+    pub(crate) fn keep(&mut self, spare: Spare)
+        ensures serves { (kernels : List Kernel) (count : ℕ) → CanServe kernels count spare → IsKeptFor kernels count self.new }
+        ensures kept { HasKept self.new }
     {
-        self.searcher = Some(searcher);
+        self.spare = Some(spare);
     }
 }

@@ -1,8 +1,10 @@
 //! The run for the least cost: branch and bound, with the best cost shared.
 
-ghost use Rattle.std.specs.Prelude.{◌≡◌, ◌≢◌, ◌≤◌, ◌++◌, ◌↔◌, ℤ, [], ◌∷◌, length, All, IfOk, OnOk, OnErr};
+ghost use Rattle.std.specs.Prelude.{◌≡◌, ◌≢◌, ◌≤◌, ◌++◌, ◌↔◌, ℤ, List, [], ◌∷◌, length, All, IfOk, OnOk, OnErr};
 ghost use Rattle.interval.specs.Limits.{IsNumber};
-ghost use Rattle.interval.specs.Boxes.{IsInside};
+ghost use Rattle.interval.specs.Boxes.{Bounds, IsInside};
+ghost use Rattle.trailed_box.specs.Trailed.{IsOver};
+ghost use Rattle.moved_fixpoint.specs.Made.{IsMadeBy};
 ghost use Rattle.constraint_model.specs.declared.model.Goal.TheVariants.{Satisfy};
 ghost use Rattle.constraint_model.specs.Relations.{cost_of};
 ghost use Rattle.best_bound.specs.Lists.{Among};
@@ -10,10 +12,11 @@ ghost use Rattle.best_bound.specs.Seats.{IsBestSeatOf, best_parts, costs_seen, c
 ghost use Rattle.search.specs.Costs.{IsObjectiveIn};
 ghost use Rattle.search.specs.Premises.{IsRun};
 ghost use Rattle.search.specs.Closings.{IsClosing};
-ghost use Rattle.moved_fixpoint.specs.Made.{IsMadeBy};
-ghost use Rattle.search.specs.Stacks.{boxes_of, count_of, IsReady, CanRestart};
-ghost use Rattle.search.specs.Keeping.{IsKeptFor};
-ghost use Rattle.search.specs.LeastEnds.{least_of, IsCost, PostsCosts, SeesCosts, IsLeastEnd, IsBrokenOff, CostsLess, CostsBelow, CostAtLeast, OnDone};
+ghost use Rattle.search.specs.Machine.{Search};
+ghost use Rattle.search.specs.Stacks.{boxes_of, below_of, count_of, IsReady, CanRestart};
+ghost use Rattle.search.specs.Keeping.{HasKept, IsKeptFor};
+ghost use Rattle.search.specs.LeastEnds.{least_of, least_in, IsCost, PostsCosts, SeesCosts, EndsLeast, IsLeastEnd, IsBrokenOff};
+ghost use Rattle.search.specs.LeastEnds.{CostsLess, CostsBelow, CostAtLeast, OnDone};
 
 use crate::closing::{Closing, counted, is_full};
 use crate::costs::cost;
@@ -23,11 +26,11 @@ use crate::laws::{
     law_can_search, law_finds_least, law_more_posted, law_records_below, law_records_solutions,
 };
 use crate::node::Visit;
-use crate::run::{Run, Start};
+use crate::run::{Over, Run, Start, alone};
 use crate::searcher::Searcher;
 use best_bound::{Best, BestSeat, Costs};
 use branching::law_branches;
-use constraint_model::Goal;
+use constraint_model::{FznModel, Goal};
 use interval::{BoxOf, NoMemory, law_inside_order};
 use list_of::ListOf;
 use rounds::Gate;
@@ -71,28 +74,28 @@ fn search_least<R: Threads + Sync, L: Gate + Sync, C: Costs>(
     rt: &R,
     alloc: Global,
     run: &Run<'_, L>,
-    sub: &BoxOf,
     searcher: &mut Searcher,
     best: &Best<C>,
     seat: &mut BestSeat,
 ) -> Result<Closing, NoMemory>
     requires run { IsRun run.now }
     requires objective { run.now.model.now.goal ≢ Satisfy }
-    requires inside { IsInside sub.now run.now.program.now.start }
-    requires boxes { boxes_of searcher.old ≡ sub.now ∷ [] }
-    requires count { count_of searcher.old ≡ length sub.now }
+    requires inside { IsInside searcher.old.boxes.current run.now.program.now.start }
+    requires boxes { boxes_of searcher.old ≡ searcher.old.boxes.current ∷ [] }
     requires ready { IsReady run.now searcher.old }
     requires seat { IsBestSeatOf best.now seat.old }
     requires costs { (cost : ℤ) → C.is_cost cost ↔ IsCost run.now.model.now cost }
-    ensures again { IfOk result (λ _. CanRestart run.now.program.now.kernels (length sub.now) searcher.new) }
+    ensures again { IfOk result (λ _. CanRestart run.now.program.now.kernels (count_of searcher.old) searcher.new) }
+    ensures bottom { IfOk result (λ _. below_of searcher.new ≡ below_of searcher.old) }
     ensures seat { IsBestSeatOf best.now seat.new }
     ensures parts { best_parts seat.new ≡ best_parts seat.old }
     ensures kept { (cost : ℤ) → Among (costs_seen seat.old) cost → Among (costs_seen seat.new) cost }
-    ensures closing { IfOk result (λ closing. IsClosing (least_of run.now.model.now run.now.program.now run.now.node_limit run.now.round_limit (costs_seen seat.new) sub.now) closing) }
+    ensures closing { IfOk result (λ closing. IsClosing (least_in run.now (costs_seen seat.new) searcher.old.boxes.current) closing) }
     ensures posted { IfOk result (λ closing. PostsCosts run.now.model.now.goal closing.found (costs_posted seat.old) (costs_posted seat.new)) }
-    ensures least { IfOk result (λ closing. closing.stopped ≡ None → CostAtLeast run.now.model.now sub.now (costs_seen seat.new)) }
+    ensures least { IfOk result (λ closing. closing.stopped ≡ None → CostAtLeast run.now.model.now searcher.old.boxes.current (costs_seen seat.new)) }
     ensures below { IfOk result (λ closing. All (CostsLess run.now.model.now.goal (costs_seen seat.old)) closing.found) }
-    ensures err { OnErr result (IsBrokenOff (least_of run.now.model.now run.now.program.now run.now.node_limit run.now.round_limit (costs_seen seat.new) sub.now) (costs_posted seat.old) (costs_posted seat.new)) }
+    ensures err { OnErr result (
+        IsBrokenOff (least_in run.now (costs_seen seat.new) searcher.old.boxes.current) (costs_posted seat.old) (costs_posted seat.new)) }
 {
     law_branches();
     law_inside_order();
@@ -101,7 +104,7 @@ fn search_least<R: Threads + Sync, L: Gate + Sync, C: Costs>(
     law_finds_least();
     law_records_below();
     // its contract says that the bounds are in range
-    let _length = sub.len();
+    let _length = searcher.boxes.len();
     let mut found = ListOf::new(alloc);
     let mut nodes = 0u64;
     'boxes: while searcher.has_next() {
@@ -133,6 +136,30 @@ fn search_least<R: Threads + Sync, L: Gate + Sync, C: Costs>(
     })
 }
 
+/// The end of a run, by how its search closed.
+fn least_end(closing: Closing) -> LeastEnd
+    ensures ends { (s : Search) → IsClosing s closing → EndsLeast s closing.found result }
+    ensures least { (model : FznModel) (sub : Bounds) (seen : List ℤ) → (closing.stopped ≡ None → CostAtLeast model sub seen) →
+        OnDone result (CostAtLeast model sub seen) }
+    ensures below { (goal : Goal) (costs : List ℤ) → All (CostsLess goal costs) closing.found → CostsBelow goal costs result }
+{
+    let Closing {
+        found,
+        nodes,
+        stopped,
+    } = closing;
+    let mut solutions = found.into_vec();
+    let last = solutions.pop();
+    match stopped {
+        Some(why) => LeastEnd::Spent {
+            nodes,
+            why,
+            so_far: last,
+        },
+        None => LeastEnd::Done(last),
+    }
+}
+
 /// Searches a box for a solution of least cost, one that costs less than all that the seat has seen. Costs that other seats
 /// post are used as the best, and each that is found is posted; those stay posted where memory is refused later.
 pub fn run_least<R: Threads + Sync, L: Gate + Sync, C: Costs>(
@@ -151,60 +178,59 @@ pub fn run_least<R: Threads + Sync, L: Gate + Sync, C: Costs>(
     ensures seat { IsBestSeatOf best.now seat.new }
     ensures parts { best_parts seat.new ≡ best_parts seat.old }
     ensures kept { (cost : ℤ) → Among (costs_seen seat.old) cost → Among (costs_seen seat.new) cost }
-    ensures end { IfOk result (λ end. IsLeastEnd (least_of run.now.model.now run.now.program.now run.now.node_limit run.now.round_limit (costs_seen seat.new) sub.now) (costs_posted seat.old) (costs_posted seat.new) end) }
+    ensures end { IfOk result (λ end. IsLeastEnd
+        (least_of run.now.model.now run.now.program.now run.now.node_limit run.now.round_limit (costs_seen seat.new) sub.now)
+        (costs_posted seat.old) (costs_posted seat.new) end) }
     ensures least { IfOk result (λ end. OnDone end (CostAtLeast run.now.model.now sub.now (costs_seen seat.new))) }
     ensures below { IfOk result (CostsBelow run.now.model.now.goal (costs_seen seat.old)) }
-    ensures err { OnErr result (IsBrokenOff (least_of run.now.model.now run.now.program.now run.now.node_limit run.now.round_limit (costs_seen seat.new) sub.now) (costs_posted seat.old) (costs_posted seat.new)) }
+    ensures err { OnErr result (IsBrokenOff
+        (least_of run.now.model.now run.now.program.now run.now.node_limit run.now.round_limit (costs_seen seat.new) sub.now)
+        (costs_posted seat.old) (costs_posted seat.new)) }
 {
-    let start = Start { sub, changed: None };
+    let start = Start {
+        boxes: alone(alloc, sub)?,
+        changed: None,
+    };
     let mut kept = Kept::new();
-    let end = run_least_from(rt, alloc, run, &start, &mut kept, best, seat)?;
-    Ok(end)
+    let over = run_least_from(rt, alloc, run, start, &mut kept, best, seat)?;
+    Ok(over.end)
 }
 
-/// The same, where it is known of what the box was made, and by a worker that has made other runs of as many variables.
+/// The same in place, where it is known of what the box was made, and by a worker that has made other runs of as many
+/// variables.
 pub fn run_least_from<R: Threads + Sync, L: Gate + Sync, C: Costs>(
     rt: &R,
     alloc: Global,
     run: &Run<'_, L>,
-    start: &Start<'_>,
+    start: Start,
     kept: &mut Kept,
     best: &Best<C>,
     seat: &mut BestSeat,
-) -> Result<LeastEnd, NoMemory>
+) -> Result<Over<LeastEnd>, NoMemory>
     requires run { IsRun run.now }
     requires objective { run.now.model.now.goal ≢ Satisfy }
-    requires inside { IsInside start.now.sub.now run.now.program.now.start }
-    requires made { IsMadeBy start.now.changed run.now.program.now.kernels start.now.sub.now }
-    requires searcher { IsKeptFor run.now.program.now.kernels (length start.now.sub.now) kept.old }
+    requires inside { IsInside start.boxes.current run.now.program.now.start }
+    requires made { IsMadeBy start.changed run.now.program.now.kernels start.boxes.current }
+    requires searcher { IsKeptFor run.now.program.now.kernels (length start.boxes.current) kept.old }
     requires seat { IsBestSeatOf best.now seat.old }
     requires costs { (cost : ℤ) → C.is_cost cost ↔ IsCost run.now.model.now cost }
-    ensures searcher { IsKeptFor run.now.program.now.kernels (length start.now.sub.now) kept.new }
+    ensures over { IfOk result (λ over. IsOver start.boxes.stack over.boxes.stack × (length over.boxes.current ≡ length start.boxes.current)) }
+    ensures searcher { IsKeptFor run.now.program.now.kernels (length start.boxes.current) kept.new }
+    ensures spare { IfOk result (λ _. HasKept kept.new) }
     ensures seat { IsBestSeatOf best.now seat.new }
     ensures parts { best_parts seat.new ≡ best_parts seat.old }
     ensures kept { (cost : ℤ) → Among (costs_seen seat.old) cost → Among (costs_seen seat.new) cost }
-    ensures end { IfOk result (λ end. IsLeastEnd (least_of run.now.model.now run.now.program.now run.now.node_limit run.now.round_limit (costs_seen seat.new) start.now.sub.now) (costs_posted seat.old) (costs_posted seat.new) end) }
-    ensures least { IfOk result (λ end. OnDone end (CostAtLeast run.now.model.now start.now.sub.now (costs_seen seat.new))) }
-    ensures below { IfOk result (CostsBelow run.now.model.now.goal (costs_seen seat.old)) }
-    ensures err { OnErr result (IsBrokenOff (least_of run.now.model.now run.now.program.now run.now.node_limit run.now.round_limit (costs_seen seat.new) start.now.sub.now) (costs_posted seat.old) (costs_posted seat.new)) }
+    ensures end { IfOk result (λ over.
+        IsLeastEnd (least_in run.now (costs_seen seat.new) start.boxes.current) (costs_posted seat.old) (costs_posted seat.new) over.end) }
+    ensures least { IfOk result (λ over. OnDone over.end (CostAtLeast run.now.model.now start.boxes.current (costs_seen seat.new))) }
+    ensures below { IfOk result (λ over. CostsBelow run.now.model.now.goal (costs_seen seat.old) over.end) }
+    ensures err { OnErr result (IsBrokenOff (least_in run.now (costs_seen seat.new) start.boxes.current) (costs_posted seat.old) (costs_posted seat.new)) }
 {
-    law_can_search(run, start.sub);
+    law_can_search(run, start.boxes.current());
     let mut searcher = kept.begin(alloc, run, start)?;
-    let closing = search_least(rt, alloc, run, start.sub, &mut searcher, best, seat)?;
-    kept.keep(searcher);
-    let Closing {
-        found,
-        nodes,
-        stopped,
-    } = closing;
-    let mut solutions = found.into_vec();
-    let last = solutions.pop();
-    match stopped {
-        Some(why) => Ok(LeastEnd::Spent {
-            nodes,
-            why,
-            so_far: last,
-        }),
-        None => Ok(LeastEnd::Done(last)),
-    }
+    let closing = search_least(rt, alloc, run, &mut searcher, best, seat)?;
+    let (boxes, spare) = searcher.into_parts();
+    kept.keep(spare);
+    let end = least_end(closing);
+    Ok(Over { end, boxes })
 }

@@ -1,9 +1,13 @@
 //! What is searched, and how.
 
+ghost use Rattle.std.specs.Prelude.{◌≡◌, IfOk};
+
 use constraint_model::FznModel;
 use decompose::Program;
-use interval::BoxOf;
+use interval::{BoxOf, NoMemory};
 use moved_set::Masks;
+use std::alloc::Global;
+use trailed_box::TrailedBox;
 
 /// What a run searches, how far, and with how many lanes. Several runs may share it.
 #[derive(Drop)]
@@ -25,10 +29,27 @@ pub struct Run<'a, L> {
 }
 
 /// Where a run begins.
-#[derive(Clone, Copy)]
-pub struct Start<'a> {
-    /// The box that is searched.
-    pub sub: &'a BoxOf,
+#[derive(Drop)]
+pub struct Start {
+    /// The current box is the one that is searched. What is left on the stack isn't the run's, and stays as it is.
+    pub boxes: TrailedBox,
     /// The pair whose bounds were put in a closed box, which made it; none: nothing is known of it.
     pub changed: Option<u32>,
+}
+
+/// A run that is over.
+#[derive(Drop)]
+pub struct Over<E> {
+    /// How it ended.
+    pub end: E,
+    /// The boxes that it was given. What was left on the stack is still left, and more may lie above it.
+    pub boxes: TrailedBox,
+}
+
+/// A box alone, with nothing left for later.
+pub(crate) fn alone(alloc: Global, sub: &BoxOf) -> Result<TrailedBox, NoMemory>
+    ensures { IfOk result (λ boxes. boxes.current ≡ sub.now) }
+{
+    let boxes = TrailedBox::new(alloc, sub.copy(alloc)?)?;
+    Ok(boxes)
 }

@@ -1,6 +1,6 @@
 //! The boxes that are still to be searched, and what narrows them.
 
-ghost use Rattle.std.specs.Prelude.{◌≡◌, ◌≢◌, ◌<◌, ◌-◌, ◌<ℤ◌, ◌≤ℤ◌, ◌⊎◌, ℕ, List, true, false, [], ◌∷◌, ◌++◌, length, All, IfOk, OnOk, IfSome};
+ghost use Rattle.std.specs.Prelude.{◌≡◌, ◌≢◌, ◌<◌, ◌-◌, ◌<ℤ◌, ◌≤ℤ◌, ◌⊎◌, ℕ, List, true, false, [], ◌∷◌, ◌++◌, length, All, IfOk, OnOk, IfSome, IfNone};
 ghost use Rattle.std.specs.Bool.{OnTrue, OnFalse};
 ghost use Rattle.interval.specs.Limits.{IsNumber};
 ghost use Rattle.interval.specs.Boxes.{Bounds, IsInside, IsProper, IsCrossed, put_of};
@@ -8,7 +8,7 @@ ghost use Rattle.guarded_tell.specs.declared.kernel.Kernel.{Kernel};
 ghost use Rattle.guarded_tell.specs.Kernels.{IsKernel};
 ghost use Rattle.fixpoint_laws.specs.Fixpoints.{IsClosed};
 ghost use Rattle.moved_fixpoint.specs.Made.{IsMadeBy};
-ghost use Rattle.trailed_box.specs.Trailed.{Left, IsPart, left_of, boxes_of as left_boxes};
+ghost use Rattle.trailed_box.specs.Trailed.{Left, IsPart, IsOver, left_of, boxes_of as left_boxes};
 ghost use Rattle.branching.specs.Fronts.{IsFrontOf, FitsBox, left_by, right_by};
 ghost use Rattle.branching.specs.Parts.{AreParts};
 ghost use Rattle.narrowing.specs.Narrowing.{IsNarrowed};
@@ -18,9 +18,11 @@ ghost use Rattle.search.specs.Costs.{IsObjectiveIn};
 ghost use Rattle.search.specs.Machine.{cut_by};
 ghost use Rattle.search.specs.Premises.{CanSearch};
 ghost use Rattle.search.specs.Nodes.{IsSettled, IsTopVisit};
-ghost use Rattle.search.specs.Stacks.{boxes_of, count_of, CanRestart, IsReady, IsFrontNear, AreLeft};
+ghost use Rattle.search.specs.Stacks.{boxes_of, own_of, below_of, count_of, CanRestart, IsReady, IsFrontNear, AreLeft};
+ghost use Rattle.search.specs.Keeping.{CanServe};
 
 use crate::costs::cut_below;
+use crate::kept::Spare;
 use crate::node::{Visit, record};
 use crate::run::{Run, Start};
 use branching::{Branching, Front, branch_from, law_fronts};
@@ -35,7 +37,7 @@ use std::thread::Threads;
 use trailed_box::{Part, TrailedBox};
 
 /// The boxes that are still to be searched, and what narrows them. One is the current box of a trailed box, and the others
-/// are left for later on its stack: so no box is copied.
+/// are the last on its stack, as many as there are fronts: so no box is copied. What lies below them stays as it is.
 #[derive(Drop)]
 pub(crate) struct Searcher {
     pub(crate) boxes: TrailedBox,
@@ -59,7 +61,8 @@ fn put(boxes: &mut TrailedBox, narrower: &mut Narrower, part: Part) -> Result<()
     ensures fits { OnOk result ((kernels : List Kernel) (count : ℕ) → Fits narrower.old kernels count → Fits narrower.new kernels count) }
     ensures quiet { OnOk result ((kernels : List Kernel) → All (IsKernel (length boxes.old.current)) kernels →
         AreQuietUnlessNoted narrower.old kernels boxes.old.current → AreQuietUnlessNoted narrower.new kernels boxes.new.current) }
-    ensures knows { OnOk result ((kernels : List Kernel) → IsInside (put_of boxes.old.current part.var part.low part.high) boxes.old.current → part.low ≤ℤ part.high →
+    ensures knows { OnOk result ((kernels : List Kernel) →
+        IsInside (put_of boxes.old.current part.var part.low part.high) boxes.old.current → part.low ≤ℤ part.high →
         Knows narrower.old kernels boxes.old.current → Knows narrower.new kernels boxes.new.current) }
     ensures let_rest { OnOk result ((kernels : List Kernel) (stack : List Left) → LetRest narrower.old kernels stack → LetRest narrower.new kernels stack) }
 {
@@ -96,17 +99,6 @@ fn first_part(parts: Branching) -> Part
     }
 }
 
-/// A narrower for boxes of as many variables.
-#[tactic(auto, unfolding(rounds::specs::Shares::share_limit))]
-fn narrower_for<L>(alloc: Global, run: &Run<'_, L>, b: &BoxOf) -> Result<Narrower, NoMemory>
-    requires { CanSearch run.now (length b.now) }
-    ensures { IfOk result (λ n. Fits n run.now.program.now.kernels (length b.now)) }
-{
-    let kernels = run.program.kernels.as_slice();
-    let narrower = Narrower::new(alloc, kernels, b.len(), run.lanes)?;
-    Ok(narrower)
-}
-
 /// Notes of a box where a run begins what is known of it.
 fn note_start(narrower: &mut Narrower, changed: Option<u32>)
     requires { IfSome changed (λ pair. pair < len_of narrower.old) }
@@ -124,11 +116,11 @@ fn note_start(narrower: &mut Narrower, changed: Option<u32>)
 
 /// Whether the box where a run begins is crossed. One that was made of a closed one isn't; only a box of which nothing is
 /// known is looked at.
-fn is_crossed_start(start: &Start<'_>) -> bool
-    ensures crossed { OnTrue result (IsCrossed start.now.sub.now) }
-    ensures proper { OnFalse result ((kernels : List Kernel) → IsMadeBy start.now.changed kernels start.now.sub.now → IsProper start.now.sub.now) }
+fn is_crossed_start(b: &BoxOf, changed: Option<u32>) -> bool
+    ensures crossed { OnTrue result (IsCrossed b.now) }
+    ensures proper { OnFalse result ((kernels : List Kernel) → IsMadeBy changed kernels b.now → IsProper b.now) }
 {
-    start.changed.is_none() && is_crossed(start.sub)
+    changed.is_none() && is_crossed(b)
 }
 
 /// Keeps a front.
@@ -139,53 +131,71 @@ fn keep(fronts: &mut Vec<Front>, front: Front) -> Result<(), AllocError>
     Ok(())
 }
 
-/// Takes the last front.
-fn last(fronts: &mut Vec<Front>) -> Front
-    requires { fronts.old.items ≢ [] }
-    ensures { fronts.old.items ≡ fronts.new.items ++ result ∷ [] }
+/// Takes the last front, if there is one.
+fn last(fronts: &mut Vec<Front>) -> Option<Front>
+    ensures none { IfNone result (fronts.old.items ≡ []) }
+    ensures unchanged { IfNone result (fronts.new.items ≡ []) }
+    ensures some { IfSome result (λ front. fronts.old.items ≡ fronts.new.items ++ front ∷ []) }
 {
-    match fronts.pop() {
-        Some(front) => front,
+    fronts.pop()
+}
+
+/// Goes back to the base of the box that was left last, and gives the part in which that box differs from it.
+fn unwind(boxes: &mut TrailedBox) -> Part
+    requires { boxes.old.stack ≢ [] }
+    ensures stack { boxes.old.stack ≡ boxes.new.stack ++ left_of boxes.new.current result.var result.low result.high ∷ [] }
+    ensures part { IsPart (length boxes.new.current) result.var result.low result.high }
+    ensures same_length { length boxes.new.current ≡ length boxes.old.current }
+{
+    match boxes.pop() {
+        Some(part) => part,
         None => unreachable!(),
     }
 }
 
 impl Searcher {
-    /// A searcher for boxes of as many variables. No box is left.
-    pub(crate) fn new<L>(alloc: Global, run: &Run<'_, L>, b: &BoxOf) -> Result<Searcher, NoMemory>
-        requires { CanSearch run.now (length b.now) }
-        ensures { IfOk result (CanRestart run.now.program.now.kernels (length b.now)) }
-    {
-        let boxes = TrailedBox::new(alloc, b.copy(alloc)?)?;
-        let narrower = narrower_for(alloc, run, b)?;
-        let fronts = Vec::new(alloc);
-        let front = Front::first();
-        Ok(Searcher {
-            boxes,
-            fronts,
-            front,
-            narrower,
-            is_open: false,
-            is_crossed: false,
-        })
-    }
-
-    /// Begins anew with one box, whatever it searched before. That takes no memory.
-    pub(crate) fn restart<L>(&mut self, run: &Run<'_, L>, start: &Start<'_>)
-        requires run { CanSearch run.now (length start.now.sub.now) }
-        requires can { CanRestart run.now.program.now.kernels (length start.now.sub.now) self.old }
-        requires made { IsMadeBy start.now.changed run.now.program.now.kernels start.now.sub.now }
-        ensures boxes { boxes_of self.new ≡ start.now.sub.now ∷ [] }
-        ensures count { count_of self.new ≡ length start.now.sub.now }
-        ensures ready { IsReady run.now self.new }
+    /// A searcher of the box where a run begins. That takes no memory.
+    pub(crate) fn new<L>(run: &Run<'_, L>, start: Start, spare: Spare) -> Searcher
+        requires run { CanSearch run.now (length start.boxes.current) }
+        requires spare { CanServe run.now.program.now.kernels (length start.boxes.current) spare }
+        requires made { IsMadeBy start.changed run.now.program.now.kernels start.boxes.current }
+        ensures current { result.boxes.current ≡ start.boxes.current }
+        ensures boxes { boxes_of result ≡ result.boxes.current ∷ [] }
+        ensures below { below_of result ≡ start.boxes.stack }
+        ensures ready { IsReady run.now result }
     {
         law_inside_order();
-        self.boxes.restart(start.sub);
-        self.fronts.clear();
-        self.front = Front::first();
-        note_start(&mut self.narrower, start.changed);
-        self.is_open = true;
-        self.is_crossed = is_crossed_start(start);
+        let Start { boxes, changed } = start;
+        let Spare {
+            mut fronts,
+            mut narrower,
+        } = spare;
+        fronts.clear();
+        note_start(&mut narrower, changed);
+        let is_crossed = is_crossed_start(boxes.current(), changed);
+        Searcher {
+            boxes,
+            fronts,
+            front: Front::first(),
+            narrower,
+            is_open: true,
+            is_crossed,
+        }
+    }
+
+    /// What it was given: the boxes, and what the next one may use.
+    pub(crate) fn into_parts(self) -> (TrailedBox, Spare)
+        ensures boxes { result.0 ≡ self.boxes }
+        ensures over { IsOver (below_of self) result.0.stack }
+        ensures spare { (kernels : List Kernel) (count : ℕ) → CanRestart kernels count self → CanServe kernels count result.1 }
+    {
+        let Searcher {
+            boxes,
+            fronts,
+            narrower,
+            ..
+        } = self;
+        (boxes, Spare { fronts, narrower })
     }
 
     /// Whether a box is left.
@@ -203,17 +213,18 @@ impl Searcher {
         requires open { self.old.is_open ≡ true }
         ensures ready { OnOk result (IsReady run.now self.new) }
         ensures count { OnOk result (count_of self.new ≡ count_of self.old) }
-        ensures boxes { OnOk result (boxes_of self.new ≡ left_boxes self.old.boxes.stack) }
+        ensures boxes { OnOk result (boxes_of self.new ≡ left_boxes (own_of self.old)) }
+        ensures below { OnOk result (below_of self.new ≡ below_of self.old) }
     {
         law_quiet_where_closed();
         law_known_where_rests();
-        match self.boxes.pop() {
+        match last(&mut self.fronts) {
             None => {
                 self.is_open = false;
                 Ok(())
             }
-            Some(part) => {
-                let front = last(&mut self.fronts);
+            Some(front) => {
+                let part = unwind(&mut self.boxes);
                 self.front = front;
                 self.is_crossed = false;
                 self.narrower.back();
@@ -235,7 +246,9 @@ impl Searcher {
         requires parts { AreParts self.old.boxes.current (left_by self.old.boxes.current parts) (right_by self.old.boxes.current parts) }
         ensures ready { OnOk result (IsReady run.now self.new) }
         ensures count { OnOk result (count_of self.new ≡ count_of self.old) }
-        ensures boxes { OnOk result (boxes_of self.new ≡ left_boxes self.old.boxes.stack ++ right_by self.old.boxes.current parts ∷ left_by self.old.boxes.current parts ∷ []) }
+        ensures boxes { OnOk result (boxes_of self.new ≡
+            left_boxes (own_of self.old) ++ right_by self.old.boxes.current parts ∷ left_by self.old.boxes.current parts ∷ []) }
+        ensures below { OnOk result (below_of self.new ≡ below_of self.old) }
     {
         law_quiet_where_closed();
         law_known_where_rests();
@@ -263,7 +276,9 @@ impl Searcher {
         requires front { IsFrontNear run.now.model.now self.old.boxes.current self.old.front }
         ensures ready { OnOk result (IsReady run.now self.new) }
         ensures count { OnOk result (count_of self.new ≡ count_of self.old) }
-        ensures settled { OnOk result (IsSettled run.now.model.now self.old.boxes.current (left_boxes self.old.boxes.stack) (boxes_of self.new) found.old found.new) }
+        ensures settled { OnOk result (
+            IsSettled run.now.model.now self.old.boxes.current (left_boxes (own_of self.old)) (boxes_of self.new) found.old found.new) }
+        ensures below { OnOk result (below_of self.new ≡ below_of self.old) }
     {
         law_fronts();
         match branch_from(run.model, self.boxes.current(), self.front) {
@@ -289,7 +304,8 @@ impl Searcher {
         ensures open { OnOk result (self.new.is_open ≡ true) }
         ensures count { OnOk result (count_of self.new ≡ count_of self.old) }
         ensures current { OnOk result (self.new.boxes.current ≡ cut_by Least run.now.model.now.goal best self.old.boxes.current) }
-        ensures stack { OnOk result (self.new.boxes.stack ≡ self.old.boxes.stack) }
+        ensures own { OnOk result (own_of self.new ≡ own_of self.old) }
+        ensures below { OnOk result (below_of self.new ≡ below_of self.old) }
     {
         law_inside_order();
         law_tightens_one();
@@ -318,7 +334,8 @@ impl Searcher {
         ensures open { IfOk result (λ _. self.new.is_open ≡ true) }
         ensures front { IfOk result (λ _. self.new.front ≡ self.old.front) }
         ensures count { IfOk result (λ _. count_of self.new ≡ count_of self.old) }
-        ensures stack { IfOk result (λ _. self.new.boxes.stack ≡ self.old.boxes.stack) }
+        ensures own { IfOk result (λ _. own_of self.new ≡ own_of self.old) }
+        ensures below { IfOk result (λ _. below_of self.new ≡ below_of self.old) }
         ensures rests { IfOk result (LetsRestWhereFixed self.new.narrower run.now.program.now.kernels self.new.boxes.current) }
         ensures narrowed { IfOk result (IsNarrowed run.now.program.now.kernels run.now.round_limit self.old.boxes.current self.new.boxes.current) }
     {
@@ -353,7 +370,9 @@ impl Searcher {
         ensures ready { IfOk result (λ how. how ≡ Visit.Done → IsReady run.now self.new) }
         ensures count { IfOk result (λ how. how ≡ Visit.Done → count_of self.new ≡ count_of self.old) }
         ensures again { IfOk result (λ _. CanRestart run.now.program.now.kernels (count_of self.old) self.new) }
-        ensures visit { IfOk result (IsTopVisit run.now.model.now run.now.program.now.kernels run.now.round_limit best (boxes_of self.old) (boxes_of self.new) found.old found.new) }
+        ensures below { IfOk result (λ _. below_of self.new ≡ below_of self.old) }
+        ensures visit { IfOk result (
+            IsTopVisit run.now.model.now run.now.program.now.kernels run.now.round_limit best (boxes_of self.old) (boxes_of self.new) found.old found.new) }
     {
         law_inside_order();
         self.cut(run, best)?;

@@ -1,7 +1,11 @@
 //! A model of one variable, cut by hand: all subproblems at once, each by its number alone, and one after another.
 
-ghost use Rattle.std.specs.Prelude.{◌≡◌, ◌<◌, ◌≤◌, ◌^◌};
-ghost use Rattle.subproblem_walk.specs.Walks.{IsWalkFrom};
+ghost use Rattle.std.specs.Prelude.{◌≡◌, ◌<◌, ◌≤◌, ◌^◌, List, length, OnOk};
+ghost use Rattle.interval.specs.Boxes.{Bounds};
+ghost use Rattle.guarded_tell.specs.declared.kernel.Kernel.{Kernel};
+ghost use Rattle.constraint_model.specs.declared.model.FznModel.{FznModel};
+ghost use Rattle.trailed_box.specs.Trailed.{IsOver};
+ghost use Rattle.subproblem_walk.specs.Walks.{IsWalkFrom, StandsOn};
 ghost use Rattle.search_tests.specs.Models.{IsCompiled};
 
 use crate::models::{Compiled, compile_text};
@@ -9,8 +13,9 @@ use interval::{BoxOf, NoMemory};
 use std::alloc::{AllocError, Global};
 use std::process::Abort;
 use std::test::Fail;
-use subproblem_walk::{Found, Tree, Walk};
-use subproblems::{expand, path_box};
+use subproblem_walk::{Subproblem, Tree, Walk};
+use subproblems::{expand, numbers_to, path_box};
+use trailed_box::TrailedBox;
 
 const FOUR: &str = "var 0..3: x; solve satisfy;";
 
@@ -26,14 +31,6 @@ fn bounds(b: &BoxOf) -> Option<(i64, i64)> {
 fn bounds_in(found: &Option<BoxOf>) -> Option<(i64, i64)> {
     match found {
         Some(b) => bounds(b),
-        None => None,
-    }
-}
-
-/// The same where a walk has found one.
-fn bounds_found(found: &Option<Found>) -> Option<(i64, i64)> {
-    match found {
-        Some(found) => bounds(&found.sub),
         None => None,
     }
 }
@@ -75,6 +72,32 @@ fn it_is_cut_into_its_subproblems(rt: HostRuntime) -> Result<(), Fail> {
     Ok(())
 }
 
+/// Leaves a box of one variable for later, and goes to another.
+fn cover(boxes: &mut TrailedBox) -> Result<(), NoMemory>
+    ensures over { OnOk result (IsOver boxes.old.stack boxes.new.stack) }
+    ensures length { OnOk result (length boxes.new.current ≡ length boxes.old.current) }
+{
+    if boxes.len() != 2 {
+        return Ok(());
+    }
+    let (low, high) = (boxes.low(1), boxes.high(1));
+    boxes.push(1, low, low)?;
+    boxes.put(1, high, high)?;
+    Ok(())
+}
+
+/// The bounds of the variable in a box that a walk gave out, which takes it back with another above it.
+fn given_back(walk: &mut Walk, sub: Subproblem) -> Result<Option<(i64, i64)>, NoMemory>
+    ensures { (model : FznModel) (kernels : List Kernel) (start : Bounds) → IsWalkFrom model kernels start walk.old → length sub.boxes.current ≡ length start →
+        StandsOn model kernels start walk.old sub.boxes.stack → IsWalkFrom model kernels start walk.new }
+{
+    let mut boxes = sub.boxes;
+    let found = bounds(boxes.current());
+    cover(&mut boxes)?;
+    walk.take_back(boxes);
+    Ok(found)
+}
+
 /// What a walk gives for the number, and what the path alone gives.
 fn asked(
     alloc: Global,
@@ -101,17 +124,12 @@ fn asked(
         start: &program.start,
         depth,
     };
-    let walked = walk.path_box(alloc, &tree, number)?;
     let alone = path_box(alloc, model, program, &program.start, depth, number)?;
-    Ok([bounds_found(&walked), bounds_in(&alone)])
-}
-
-/// How many numbers there are to a depth.
-fn numbers_to(depth: u32) -> u32
-    requires { depth ≤ 16 }
-    ensures { result ≡ 2 ^ depth }
-{
-    1 << depth
+    let expected = bounds_in(&alone);
+    match walk.path_box(alloc, &tree, number)? {
+        None => Ok([None, expected]),
+        Some(sub) => Ok([given_back(walk, sub)?, expected]),
+    }
 }
 
 /// A depth, a number, and the bounds where it leads to.

@@ -1,18 +1,16 @@
 -- How boxes on a way are cut.
-use Rattle.std.proofs.Common.{◌≡◌, ℕ, Option, None, Some, true, false, ◌<◌, List, length, replicate, refl, sym, subst, ap, ◌∙◌, arith}
+use Rattle.std.proofs.Common.{◌≡◌, ℕ, true, false, ◌<◌, List, length, replicate, refl, sym, subst, ap, ◌∙◌, arith}
 use Rattle.std.specs.Prelude.{slice_set}
 use Rattle.std.specs.List.{All}
 use Rattle.std.proofs.lemmas.List.{get_or-replicate, length-set}
 use Rattle.interval.specs.Boxes.{Bounds, put_of}
 use Rattle.guarded_tell.specs.declared.kernel.Kernel.{Kernel}
 use Rattle.guarded_tell.specs.Kernels.{IsKernel}
-use Rattle.fixpoint_laws.specs.Fixpoints.{IsClosed, IsGreatest, Fails}
+use Rattle.fixpoint_laws.specs.Fixpoints.{IsGreatest, Fails}
 use Rattle.fixpoint_laws.specs.LimitedEnds.{IfFixedIn, IfFailedIn, IfSpent}
 use Rattle.fixpoint_laws.specs.declared.limited.Limited.{Limited}
 use Rattle.fixpoint_laws.specs.declared.limited.Limited.TheVariants.{Fixed, Failed, RoundsSpent}
 use Rattle.constraint_model.specs.declared.model.FznModel.{FznModel}
-use Rattle.branching.specs.Tree.{AreFixed}
-use Rattle.trailed_box.specs.declared.trail.Part.{Part}
 use Rattle.moved_set.specs.Sets.{IsIn}
 use Rattle.moved_fixpoint.specs.Made.{IsMadeAt}
 use Rattle.moved_fixpoint.specs.Moved.{Set, count_of, AreMovedOrQuiet, QuietUnlessMoved}
@@ -20,7 +18,7 @@ use Rattle.moved_fixpoint.specs.declared.rests.Rests.{Rests}
 use Rattle.moved_fixpoint.specs.Resting.{AreAwake, FitRests, KeepCounts, Knows, KnownUnlessMoved}
 use Rattle.moved_fixpoint.specs.Ends.{HasEnded, AreSpent}
 use Rattle.subproblem_walk.specs.declared.cutter.Node.{Node}
-use Rattle.subproblem_walk.specs.Nodes.{put_in, IsNodeOf, IsKeptOrParted}
+use Rattle.subproblem_walk.specs.Nodes.{IsNodeOf, IsKeptOrParted}
 
 -- a variable of a closed box is noted
 pub one_noted : QuietUnlessMoved → (old new : Set) (pair : ℕ) → new ≡ slice_set old pair true → pair < count_of old →
@@ -63,19 +61,7 @@ module _ (kernels : List Kernel) (start after : Bounds) (ending : Limited) (ende
 
 -- a closed box that is kept or parted is what the box around it is cut into
 pub node_of_closed : (model : FznModel) (kernels : List Kernel) (b closed : Bounds) → IsGreatest closed b kernels → (node : Node) →
-    IsKeptOrParted model closed node → IsNodeOf model kernels b node
+    IsKeptOrParted model closed node → IsNodeOf model kernels b closed node
 node_of_closed model kernels b closed greatest Node.Failed h = absurd h
-node_of_closed model kernels b closed greatest (Node.Fixed kept) h = record {
-  is_cut = (subst (λ (x : Bounds). IsGreatest x b kernels) (sym h.0) greatest, subst (AreFixed model) (sym h.0) h.1);
-  parts = subst (λ (x : Bounds). IsClosed x kernels) (sym h.0) greatest.closed;
-}
-node_of_closed model kernels b closed greatest (Node.Parted kept branching) h =
-    subst (λ (x : Bounds). IsNodeOf model kernels b (Node.Parted x branching)) (sym h.0) (record {
-      is_cut = record { closed = closed; greatest = greatest; branch = h.1.branch };
-      parts = record { is_closed = greatest.closed; fits = h.1.fits; left_proper = h.1.are_parts.first_part.proper; right_proper = h.1.are_parts.second_part.proper };
-    })
-
--- what is put in a box keeps its length
-pub same_length : (b : Bounds) (part : Option Part) → length (put_in b part) ≡ length b
-same_length b None = refl
-same_length b (Some part) = length-set b part.var (part.low, part.high)
+node_of_closed model kernels b closed greatest Node.Fixed h = (greatest, h)
+node_of_closed model kernels b closed greatest (Node.Parted branching) h = (greatest, h)

@@ -1,3 +1,4 @@
 pub mod CutterLemmas
 pub mod StartLemmas
+pub mod TurnLemmas
 pub mod WalkLemmas

@@ -1,71 +1,149 @@
 -- What a walk knows of the way to the number that it was asked for last.
-use Rattle.std.specs.Prelude.{◌≡◌, ◌≢◌, ℕ, zero, suc, ◌-◌, ◌^◌, ◌<◌, ◌≤◌, Bool, true, false, List, [], ◌∷◌, ◌++◌, length, Option, None, Some, IfSome}
+use Rattle.std.specs.Prelude.{◌≡◌, ◌≢◌, ℕ, ◌<◌, List, [], ◌∷◌, ◌++◌, length, Option, None, Some, IfSome, MatchOption}
 use Rattle.interval.specs.Boxes.{Bounds}
 use Rattle.guarded_tell.specs.declared.kernel.Kernel.{Kernel}
+use Rattle.fixpoint_laws.specs.Fixpoints.{IsGreatest, Fails}
 use Rattle.constraint_model.specs.declared.model.FznModel.{FznModel}
-use Rattle.subproblems.specs.declared.cutting.Cut.{Cut}
-use Rattle.subproblems.specs.declared.cutting.Cut.TheVariants.{Failed, Fixed, Parted}
-use Rattle.subproblem_walk.specs.declared.walk.Level.{Level}
-use Rattle.subproblem_walk.specs.declared.walk.Walk.{Walk}
-use Rattle.subproblem_walk.specs.declared.walk.Found.{Found}
+use Rattle.branching.specs.declared.branch.Branching.{Branching}
+use Rattle.branching.specs.Fronts.{left_by, right_by}
+use Rattle.branching.specs.Tree.{AreFixed}
+use Rattle.trailed_box.specs.Trailed.{Trailed, Left, IsOver, box_of as left_box}
 use Rattle.moved_fixpoint.specs.Made.{IsMadeBy}
-use Rattle.subproblems.specs.Cuts.{IsCutInto}
-use Rattle.subproblem_walk.specs.Nodes.{cut_of, IsNodeOf, MayServe}
+use Rattle.subproblems.specs.Paths.{LeadsTo}
+use Rattle.subproblem_walk.specs.declared.turns.Turn.{Turn}
+use Rattle.subproblem_walk.specs.declared.turns.Address.{Address}
+use Rattle.subproblem_walk.specs.declared.cutter.Subproblem.{Subproblem}
+use Rattle.subproblem_walk.specs.declared.walk.End.{End}
+use Rattle.subproblem_walk.specs.declared.walk.Reached.{Reached}
+use Rattle.subproblem_walk.specs.declared.walk.Walk.{Walk}
+use Rattle.subproblem_walk.specs.Turns.{side_of, AreTurnsTo}
+use Rattle.subproblem_walk.specs.Nodes.{IsPartedAt, MayServe}
 
--- the part on the side of a turn
-abbrev pub side_of : Bool → Bounds → Bounds → Bounds
-side_of false left right = left
-side_of true left right = right
+-- a turn at the greatest closed box of a box: that is the base of what is left on the stack, which is the part on the turn's side
+pub record IsStep (model : FznModel) (kernels : List Kernel) (b : Bounds) (turn : Turn) (left : Left) : Type 0 where
+  pub greatest : IsGreatest left.base b kernels
+  pub parted : IsPartedAt model left.base turn.branching
+  pub taken : left_box left ≡ side_of turn.goes_right (left_by left.base turn.branching) (right_by left.base turn.branching)
 
--- the first turn of the way to a number, and the number to which it goes on: where half is how many numbers a part has, the
--- lower half turns to the left and the upper half to the right
-pub record IsTurn (half number : ℕ) (turn : Bool) (rest : ℕ) : Type 0 where
-  pub lower : number < half → (turn ≡ false) × (rest ≡ number)
-  pub upper : half ≤ number → (turn ≡ true) × (rest ≡ number - half)
+-- the turns on a way down from a box, with what they leave on the stack
+abbrev pub AreSteps : FznModel → List Kernel → Bounds → List Turn → List Left → Type 0
+AreSteps model kernels b [] [] = Unit {0}
+AreSteps model kernels b [] (left ∷ way) = ⊥
+AreSteps model kernels b (turn ∷ turns) [] = ⊥
+AreSteps model kernels b (turn ∷ turns) (left ∷ way) = IsStep model kernels b turn left × AreSteps model kernels (left_box left) turns way
 
--- the levels of the search tree on a way down from a box, the lowest first: nothing, or what the box is cut into and, where
--- it is parted, the levels on the way down from one side
-pub data AreLevelsBelow : FznModel → List Kernel → Bounds → List Level → Type 0 where
-  nothing : (model : FznModel) (kernels : List Kernel) (b : Bounds) (levels : List Level) → levels ≡ [] → AreLevelsBelow model kernels b levels
-  level : (model : FznModel) (kernels : List Kernel) (b : Bounds) (levels lower : List Level) (top : Level) → levels ≡ lower ++ top ∷ [] →
-      IsNodeOf model kernels b top.node →
-      ((left right : Bounds) → cut_of top.node ≡ Parted left right → AreLevelsBelow model kernels (side_of top.goes_right left right) lower) →
-      AreLevelsBelow model kernels b levels
+-- the box to which they lead
+abbrev pub end_of : Bounds → List Left → Bounds
+end_of b [] = b
+end_of b (left ∷ way) = end_of (left_box left) way
 
--- what is known of the cut of a box, with the levels below it
-pub record IsTop (model : FznModel) (kernels : List Kernel) (b : Bounds) (top : Level) (lower : List Level) : Type 0 where
-  pub is_node : IsNodeOf model kernels b top.node
-  pub below : (left right : Bounds) → cut_of top.node ≡ Parted left right → AreLevelsBelow model kernels (side_of top.goes_right left right) lower
+-- the greatest closed box of a box fixes each declared variable
+pub record IsSolvedBy (model : FznModel) (kernels : List Kernel) (b closed : Bounds) : Type 0 where
+  pub greatest : IsGreatest closed b kernels
+  pub fixed : AreFixed model closed
+
+-- what is known of the box at the end of the way
+abbrev pub IsEnd : FznModel → List Kernel → Bounds → End → Type 0
+IsEnd model kernels b End.Part = Unit {0}
+IsEnd model kernels b End.Failed = Fails b kernels
+IsEnd model kernels b End.Fixed = (closed : Bounds) × IsSolvedBy model kernels b closed
+
+-- what the walk knows of its way stands on a stack
+pub record StandsOn (model : FznModel) (kernels : List Kernel) (start : Bounds) (walk : Walk) (way : List Left) : Type 0 where
+  pub steps : AreSteps model kernels start walk.turns.items way
+  pub end : IsEnd model kernels (end_of start way) walk.end
+
+-- so it does on that of the walk's box, whatever is left above it
+pub record IsOnWay (model : FznModel) (kernels : List Kernel) (start : Bounds) (walk : Walk) (boxes : Trailed) : Type 0 where
+  pub way : List Left
+  pub stands : StandsOn model kernels start walk way
+  pub over : IsOver way boxes.stack
+  pub same_length : length boxes.current ≡ length start
 
 -- the walk goes down from this box
 pub record IsWalkFrom (model : FznModel) (kernels : List Kernel) (start : Bounds) (walk : Walk) : Type 0 where
-  pub levels : AreLevelsBelow model kernels start walk.levels.items
-  pub bench : MayServe walk.bench kernels (length start)
+  pub boxes : IfSome walk.boxes (λ boxes. IsOnWay model kernels start walk boxes)
+  pub sets : MayServe walk.sets kernels (length start)
 
 -- the box that was found, if one was
-abbrev pub box_of : Option Found → Option Bounds
+abbrev pub box_of : Option Subproblem → Option Bounds
 box_of None = None
-box_of (Some found) = Some found.sub
+box_of (Some sub) = Some sub.boxes.current
 
 -- it is rightly told by which pair that box differs from a closed one
-abbrev pub IsMadeFrom : List Kernel → Option Found → Type 0
-IsMadeFrom kernels found = IfSome found (λ f. IsMadeBy f.changed kernels f.sub)
+abbrev pub IsMadeFrom : List Kernel → Option Subproblem → Type 0
+IsMadeFrom kernels found = IfSome found (λ sub. IsMadeBy sub.changed kernels sub.boxes.current)
 
 -- some such pair is told
-abbrev pub IsTold : Option Found → Type 0
-IsTold found = IfSome found (λ f. f.changed ≢ None)
+abbrev pub IsTold : Option Subproblem → Type 0
+IsTold found = IfSome found (λ sub. sub.changed ≢ None)
 
--- how a way goes on below what the box is cut into, where `Way` says it of a part and half is how many numbers a part has:
--- where the box is parted, the lower half of the numbers turns to the left part and the upper half to the right one
-abbrev pub GoesOn : Cut → Bool → ℕ → (Bounds → ℕ → List Level → Type 0) → ℕ → List Level → Type 0
-GoesOn Failed turn half Way number lower = Unit {0}
-GoesOn (Fixed closed) turn half Way number lower = Unit {0}
-GoesOn (Parted left right) turn half Way number lower =
-    (number < half → (turn ≡ false) × Way left number lower) × (half ≤ number → (turn ≡ true) × Way right (number - half) lower)
+-- what the walk knows of its way stands on the stack of the box that is given out, or of its own where none is
+abbrev pub StandsUnder : FznModel → List Kernel → Bounds → Walk → Option Subproblem → Type 0
+StandsUnder model kernels start walk None = MatchOption walk.boxes ⊥ (λ boxes. IsOnWay model kernels start walk boxes)
+StandsUnder model kernels start walk (Some sub) = StandsOn model kernels start walk sub.boxes.stack
 
--- these levels are known on the whole way down to a number below 2 ^ depth
-abbrev pub IsWayTo : FznModel → List Kernel → ℕ → Bounds → ℕ → List Level → Type 0
-IsWayTo model kernels zero b number levels = Unit {0}
-IsWayTo model kernels (suc depth) b number levels =
-    (lower : List Level) × (top : Level) × (levels ≡ lower ++ top ∷ []) × IsCutInto model kernels b (cut_of top.node) ×
-    GoesOn (cut_of top.node) top.goes_right (2 ^ depth) (IsWayTo model kernels depth) number lower
+-- the way ends no higher than it must: after all turns, or where a box can't be parted
+abbrev pub EndsAt : ℕ → End → Type 0
+EndsAt below End.Part = below ≡ 0
+EndsAt below End.Failed = 0 < below
+EndsAt below End.Fixed = 0 < below
+
+-- the walk's way is the whole one to a number to a depth
+pub record IsWayTo (depth number : ℕ) (walk : Walk) : Type 0 where
+  pub below : ℕ
+  pub rest : ℕ
+  pub turns : AreTurnsTo depth number walk.turns.items below rest
+  pub ends : EndsAt below walk.end
+
+-- a box whose current one is at the end of a way
+pub record IsAt (model : FznModel) (kernels : List Kernel) (start : Bounds) (turns : List Turn) (boxes : Trailed) : Type 0 where
+  pub steps : AreSteps model kernels start turns boxes.stack
+  pub current : boxes.current ≡ end_of start boxes.stack
+
+-- a box whose current one is the greatest closed box of the one at the end of a way, and how that is parted
+pub record IsBackAt (model : FznModel) (kernels : List Kernel) (start : Bounds) (turns : List Turn) (boxes : Trailed) (branching : Branching) : Type 0 where
+  pub steps : AreSteps model kernels start turns boxes.stack
+  pub greatest : IsGreatest boxes.current (end_of start boxes.stack) kernels
+  pub parted : IsPartedAt model boxes.current branching
+
+-- a turn was taken at a closed box: it is left on the stack, and the current box is the part on the turn's side
+pub record TakesTurn (branching : Branching) (old new : Trailed) (before after : List Turn) (turn : Turn) : Type 0 where
+  pub left : Left
+  pub turns : after ≡ before ++ turn ∷ []
+  pub stack : new.stack ≡ old.stack ++ left ∷ []
+  pub base : left.base ≡ old.current
+  pub same : turn.branching ≡ branching
+  pub taken : left_box left ≡ side_of turn.goes_right (left_by old.current branching) (right_by old.current branching)
+  pub current : new.current ≡ left_box left
+
+-- what the box is where a way ends
+abbrev pub IsEndAt : FznModel → List Kernel → Bounds → Bounds → End → Type 0
+IsEndAt model kernels b now End.Part = now ≡ b
+IsEndAt model kernels b now End.Failed = Fails b kernels
+IsEndAt model kernels b now End.Fixed = IsSolvedBy model kernels b now
+
+-- how a way was gone on from a box
+pub record IsReached (model : FznModel) (kernels : List Kernel) (address : Address) (old new : Trailed) (before after : List Turn) (reached : Reached) : Type 0 where
+  pub turns : List Turn
+  pub way : List Left
+  pub are_turns : after ≡ before ++ turns
+  pub is_way : new.stack ≡ old.stack ++ way
+  pub steps : AreSteps model kernels old.current turns way
+  pub to : AreTurnsTo address.depth address.number turns reached.rest.depth reached.rest.number
+  pub ends : EndsAt reached.rest.depth reached.end
+  pub end : IsEndAt model kernels (end_of old.current way) new.current reached.end
+
+-- the box at the end of a way is what the number leads to: one that fixes each declared variable is so by number 0 alone
+abbrev pub IsLedTo : End → ℕ → Type 0
+IsLedTo End.Part number = Unit {0}
+IsLedTo End.Failed number = ⊥
+IsLedTo End.Fixed number = number ≡ 0
+
+-- what a walk answers
+pub record IsAnswer (model : FznModel) (kernels : List Kernel) (start : Bounds) (depth number : ℕ) (walk : Walk) (found : Option Subproblem) : Type 0 where
+  pub path : LeadsTo model kernels depth start number (box_of found)
+  pub made : IsMadeFrom kernels found
+  pub told : depth ≢ 0 → IsTold found
+  pub under : StandsUnder model kernels start walk found
+  pub way : IsWayTo depth number walk

@@ -8,7 +8,9 @@
 
 mod cutter;
 mod tree;
+mod turns;
 mod walk;
 
+pub use cutter::Subproblem;
 pub use tree::Tree;
-pub use walk::{Found, Walk};
+pub use walk::Walk;

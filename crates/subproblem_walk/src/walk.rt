@@ -1,280 +1,210 @@
 //! Subproblems of one number after another: what the way to the last one shares with the way to the next isn't cut again.
 
-ghost use Rattle.std.specs.Prelude.{◌≡◌, ◌≢◌, ◌⊎◌, ◌<◌, ◌≤◌, ◌-◌, ◌^◌, List, [], ◌∷◌, ◌++◌, length, IfOk, IfSome, OnOk};
-ghost use Rattle.interval.specs.Boxes.{Bounds, IsInside};
+ghost use Rattle.std.specs.Prelude.{◌≡◌, ◌≢◌, ◌<◌, ◌≤◌, ◌-◌, ◌^◌, List, [], ◌∷◌, ◌++◌, length, take, Some, None, IfOk, IfSome, OnOk};
+ghost use Rattle.std.specs.Bool.{OnTrue, OnFalse};
+ghost use Rattle.interval.specs.Boxes.{Bounds, IsInside, put_of};
 ghost use Rattle.guarded_tell.specs.declared.kernel.Kernel.{Kernel};
 ghost use Rattle.constraint_model.specs.declared.model.FznModel.{FznModel};
 ghost use Rattle.constraint_model.specs.Searches.{IsSearchOf};
 ghost use Rattle.decompose.specs.Program.{IsProgramOf};
 ghost use Rattle.fixpoint_laws.specs.Fixpoints.{IsClosed};
-ghost use Rattle.branching.specs.Fronts.{FitsBox, left_by, right_by};
-ghost use Rattle.trailed_box.specs.Trailed.{IsPart};
+ghost use Rattle.branching.specs.Fronts.{FitsBox};
+ghost use Rattle.trailed_box.specs.Trailed.{Left, left_of, IsPart, IsOver};
 ghost use Rattle.moved_fixpoint.specs.Made.{IsMadeBy};
 ghost use Rattle.moved_fixpoint.specs.Moved.{AreMasksOf};
 ghost use Rattle.subproblems.specs.Cuts.{CanBeCut};
 ghost use Rattle.subproblems.specs.Paths.{LeadsTo};
-ghost use Rattle.subproblem_walk.specs.Nodes.{put_in, box_at, changed_at, HasPartIn, IsNodeOf, IsBenchFor, MayServe};
-ghost use Rattle.subproblem_walk.specs.Walks.{side_of, IsTurn, AreLevelsBelow, IsTop, IsWalkFrom, IsWayTo, box_of, IsMadeFrom, IsTold};
+ghost use Rattle.subproblem_walk.specs.Nodes.{IsPartedAt, Serve, MayServe};
+ghost use Rattle.subproblem_walk.specs.Turns.{IsTurn, AreTurnsTo};
+ghost use Rattle.subproblem_walk.specs.Walks.{IsWalkFrom, IsOnWay, IsWayTo, StandsOn, StandsUnder, AreSteps, IsAt, IsBackAt, IsReached, IsAnswer, IsLedTo, TakesTurn, box_of, IsMadeFrom, IsTold};
 
-use crate::cutter::{Bench, Node, Spot, changed_by, cut, made};
+use crate::cutter::{Node, Subproblem, cut};
 use crate::tree::Tree;
+use crate::turns::{Address, Turn, first_turn, fork, part_on, shared_turns};
 use branching::Branching;
-use interval::{BoxOf, NoMemory};
+use interval::NoMemory;
+use moved_fixpoint::MovedSets;
 use std::alloc::{AllocError, Global};
 use subproblems::{law_cuts, law_paths};
-use trailed_box::Part;
+use trailed_box::{Part, TrailedBox};
 
-/// What a box on the way is cut into, and whether the way goes on to the right.
-#[derive(Drop)]
-pub struct Level {
-    node: Node,
-    goes_right: bool,
+/// What the box at the end of the way is.
+#[derive(Clone, Copy)]
+pub enum End {
+    /// A part, to which a number leads. It wasn't cut.
+    Part,
+    /// One that has no closed box inside.
+    Failed,
+    /// One whose greatest closed box fixes each declared variable.
+    Fixed,
+}
+
+/// What a way comes to.
+#[derive(Clone, Copy)]
+pub struct Reached {
+    pub(crate) end: End,
+    // what is left of the number there
+    pub(crate) rest: Address,
 }
 
 /// The way to the number that was asked for last.
 #[derive(Drop)]
 pub struct Walk {
-    // the start's level is the last one
-    levels: Vec<Level>,
-    // made when the first box is cut
-    bench: Option<Bench>,
+    // the first turn is the first one; each has a box on the stack, the closed one where the way turns
+    turns: Vec<Turn>,
+    end: End,
+    // none: no number was asked for, or the box was given out
+    boxes: Option<TrailedBox>,
+    // what propagation works with
+    sets: Option<MovedSets>,
 }
 
-/// A box that a number leads to.
-#[derive(Drop)]
-pub struct Found {
-    /// The box.
-    pub sub: BoxOf,
-    /// A pair: the box is a closed one but for the bounds of that pair. None: nothing is known of it, as of the start.
-    pub changed: Option<u32>,
-}
-
-/// A number of a subproblem, to a depth.
-#[derive(Clone, Copy)]
-struct Address {
-    /// How many turns lead to it.
-    depth: u32,
-    /// The turns, the highest bit first.
-    number: u32,
-}
-
-/// The bench, or a new one.
-fn take_bench(
+/// The sets, or new ones.
+fn take_sets(
     alloc: Global,
     tree: &Tree<'_>,
-    bench: &mut Option<Bench>,
-    b: &BoxOf,
-) -> Result<Bench, NoMemory>
-    requires { MayServe bench.old tree.now.program.now.kernels (length b.now) }
-    ensures taken { bench.new ≡ None }
-    ensures bench { IfOk result (λ bench. IsBenchFor bench tree.now.program.now.kernels (length b.now)) }
+    sets: &mut Option<MovedSets>,
+) -> Result<MovedSets, NoMemory>
+    requires { MayServe sets.old tree.now.program.now.kernels (length tree.now.start.now) }
+    ensures taken { sets.new ≡ None }
+    ensures sets { IfOk result (λ s. Serve s tree.now.program.now.kernels (length tree.now.start.now)) }
 {
-    match bench.take() {
+    match sets.take() {
         Some(kept) => Ok(kept),
         None => {
-            let made = Bench::new(alloc, b, tree.program.kernels.as_slice())?;
+            let made = MovedSets::new(alloc, tree.start.len(), tree.program.kernels.len())?;
             Ok(made)
         }
     }
 }
 
-/// Cuts a box at a bench, which is made where there is none and lost where memory is refused.
-fn cut_at(
-    alloc: Global,
-    tree: &Tree<'_>,
-    spot: &Spot<'_>,
-    bench: &mut Option<Bench>,
-) -> Result<Node, NoMemory>
-    requires cut { CanBeCut tree.now.model.now tree.now.program.now.kernels (box_at spot.now) }
-    requires part { HasPartIn spot.now }
-    requires masks { AreMasksOf tree.now.program.now.kernels (length (box_at spot.now)) tree.now.masks.now }
-    requires changed { IsMadeBy (changed_at spot.now) tree.now.program.now.kernels (box_at spot.now) }
-    requires bench { MayServe bench.old tree.now.program.now.kernels (length (box_at spot.now)) }
-    ensures node { IfOk result (IsNodeOf tree.now.model.now tree.now.program.now.kernels (box_at spot.now)) }
-    ensures bench { MayServe bench.new tree.now.program.now.kernels (length (box_at spot.now)) }
+/// Keeps a turn.
+fn keep(turns: &mut Vec<Turn>, turn: Turn) -> Result<(), AllocError>
+    ensures { OnOk result (turns.new.items ≡ turns.old.items ++ turn ∷ []) }
 {
-    let mut own = take_bench(alloc, tree, bench, spot.whole)?;
-    let node = cut(alloc, tree, spot, &mut own)?;
-    *bench = Some(own);
-    Ok(node)
-}
-
-/// The level of a box, as it is known or as the box is cut now. The levels below it are left.
-fn top_level(
-    alloc: Global,
-    tree: &Tree<'_>,
-    spot: &Spot<'_>,
-    bench: &mut Option<Bench>,
-    levels: &mut Vec<Level>,
-) -> Result<Level, NoMemory>
-    requires cut { CanBeCut tree.now.model.now tree.now.program.now.kernels (box_at spot.now) }
-    requires part { HasPartIn spot.now }
-    requires masks { AreMasksOf tree.now.program.now.kernels (length (box_at spot.now)) tree.now.masks.now }
-    requires changed { IsMadeBy (changed_at spot.now) tree.now.program.now.kernels (box_at spot.now) }
-    requires bench { MayServe bench.old tree.now.program.now.kernels (length (box_at spot.now)) }
-    requires levels { AreLevelsBelow tree.now.model.now tree.now.program.now.kernels (box_at spot.now) levels.old.items }
-    ensures top { IfOk result (λ top. IsTop tree.now.model.now tree.now.program.now.kernels (box_at spot.now) top levels.new.items) }
-    ensures bench { MayServe bench.new tree.now.program.now.kernels (length (box_at spot.now)) }
-{
-    match levels.pop() {
-        Some(level) => Ok(level),
-        None => {
-            let node = cut_at(alloc, tree, spot, bench)?;
-            Ok(Level {
-                node,
-                goes_right: false,
-            })
-        }
-    }
-}
-
-/// Forgets the levels below where the way takes another turn.
-fn take_turn(levels: &mut Vec<Level>, goes_right: bool, turn: bool)
-    ensures { (levels.new.items ≡ []) ⊎ ((goes_right ≡ turn) × (levels.new.items ≡ levels.old.items)) }
-{
-    if goes_right != turn {
-        levels.clear();
-    }
-}
-
-/// Puts a level above the others.
-fn put(levels: &mut Vec<Level>, node: Node, goes_right: bool) -> Result<(), AllocError>
-    ensures { OnOk result (levels.new.items ≡ levels.old.items ++ record { node = node; goes_right = goes_right } ∷ []) }
-{
-    levels.push(Level { node, goes_right })?;
+    turns.push(turn)?;
     Ok(())
 }
 
-/// A closed box that is a solution, which number 0 alone leads to. It is made of itself: by any pair, put as it is.
-fn solution(alloc: Global, closed: &BoxOf, number: u32) -> Result<Option<Found>, NoMemory>
-    ensures first { number ≡ 0 → IfOk result (λ found. box_of found ≡ Some closed.now) }
-    ensures others { number ≢ 0 → IfOk result (λ found. box_of found ≡ None) }
-    ensures made { (kernels : List Kernel) → IsClosed closed.now kernels → 0 < length closed.now → IfOk result (IsMadeFrom kernels) }
-    ensures told { IfOk result IsTold }
+/// Goes into a part of a closed box, which is left on the stack.
+fn enter(sub: &mut Subproblem, part: Part) -> Result<(), NoMemory>
+    requires part { IsPart (length sub.old.boxes.current) part.var part.low part.high }
+    ensures current { OnOk result (sub.new.boxes.current ≡ put_of sub.old.boxes.current part.var part.low part.high) }
+    ensures stack { OnOk result (sub.new.boxes.stack ≡ sub.old.boxes.stack ++ left_of sub.old.boxes.current part.var part.low part.high ∷ []) }
+    ensures changed { OnOk result (sub.new.changed ≡ Some part.var) }
+    ensures length { length sub.new.boxes.current ≡ length sub.old.boxes.current }
 {
-    if number != 0 {
-        return Ok(None);
-    }
-    let sub = closed.copy(alloc)?;
-    let changed = Some(0);
-    Ok(Some(Found { sub, changed }))
+    sub.boxes.push(part.var, part.low, part.high)?;
+    sub.boxes.put(part.var, part.low, part.high)?;
+    sub.changed = Some(part.var);
+    Ok(())
 }
 
-/// The box of a spot.
-fn found_at(alloc: Global, spot: &Spot<'_>) -> Result<Option<Found>, NoMemory>
-    requires { HasPartIn spot.now }
-    ensures found { IfOk result (λ found. box_of found ≡ Some (box_at spot.now)) }
-    ensures made { (kernels : List Kernel) → IsMadeBy (changed_at spot.now) kernels (box_at spot.now) → IfOk result (IsMadeFrom kernels) }
-    ensures told { changed_at spot.now ≢ None → IfOk result IsTold }
-{
-    let sub = made(alloc, spot)?;
-    let changed = changed_by(spot);
-    Ok(Some(Found { sub, changed }))
-}
-
-/// How many numbers there are to a depth.
-fn numbers_to(depth: u32) -> u32
-    requires { depth ≤ 16 }
-    ensures { result ≡ 2 ^ depth }
-{
-    1 << depth
-}
-
-/// Whether the way turns to the right, and the number to which it goes on in the part on that side.
-fn first_turn(address: Address) -> (bool, Address)
+/// Goes on from a closed box to one of its parts. The closed box is left on the stack.
+fn take_turn(
+    sub: &mut Subproblem,
+    turns: &mut Vec<Turn>,
+    branching: Branching,
+    address: Address,
+) -> Result<Address, NoMemory>
     requires some { 0 < address.depth }
     requires depth { address.depth ≤ 16 }
-    ensures depth { result.1.depth ≡ address.depth - 1 }
-    ensures turn { IsTurn (2 ^ (address.depth - 1)) address.number result.0 result.1.number }
+    requires fits { FitsBox sub.old.boxes.current branching }
+    ensures depth { IfOk result (λ rest. rest.depth ≡ address.depth - 1) }
+    ensures turn { IfOk result (λ rest. (turn : Turn) × IsTurn (2 ^ (address.depth - 1)) address.number turn.goes_right rest.number ×
+        TakesTurn branching sub.old.boxes sub.new.boxes turns.old.items turns.new.items turn) }
+    ensures made { (model : FznModel) (kernels : List Kernel) → IsClosed sub.old.boxes.current kernels → IsPartedAt model sub.old.boxes.current branching →
+        OnOk result (IsMadeBy sub.new.changed kernels sub.new.boxes.current) }
+    ensures told { OnOk result (sub.new.changed ≢ None) }
+    ensures length { length sub.new.boxes.current ≡ length sub.old.boxes.current }
 {
-    let depth = address.depth - 1;
-    let half = numbers_to(depth);
-    if address.number < half {
-        return (
-            false,
-            Address {
-                depth,
-                number: address.number,
-            },
-        );
-    }
-    let number = address.number - half;
-    (true, Address { depth, number })
+    let (goes_right, rest) = first_turn(address);
+    let part = part_on(goes_right, &branching);
+    enter(sub, part)?;
+    keep(
+        turns,
+        Turn {
+            branching,
+            goes_right,
+        },
+    )?;
+    Ok(rest)
 }
 
-/// The bounds that are put in the part on the side of a turn.
-fn part_on(goes_right: bool, branching: &Branching) -> Part
-    ensures part { (closed : Bounds) → put_in closed (Some result) ≡ side_of goes_right (left_by closed branching.now) (right_by closed branching.now) }
-    ensures pair { result.var ≡ branching.now.pair }
-    ensures fits { (closed : Bounds) → FitsBox closed branching.now → IsPart (length closed) result.var result.low result.high }
-{
-    let var = branching.pair;
-    if goes_right {
-        Part {
-            var,
-            low: branching.right_low,
-            high: branching.right_high,
-        }
-    } else {
-        Part {
-            var,
-            low: branching.left_low,
-            high: branching.left_high,
-        }
-    }
-}
-
-/// What the address leads to from a box.
+/// Goes down from a box to where the address leads.
 fn lead(
-    alloc: Global,
     tree: &Tree<'_>,
-    spot: &Spot<'_>,
+    sub: &mut Subproblem,
+    turns: &mut Vec<Turn>,
+    sets: &mut MovedSets,
     address: Address,
-    bench: &mut Option<Bench>,
-    levels: &mut Vec<Level>,
-) -> Result<Option<Found>, NoMemory>
-    requires cut { CanBeCut tree.now.model.now tree.now.program.now.kernels (box_at spot.now) }
-    requires part { HasPartIn spot.now }
-    requires masks { AreMasksOf tree.now.program.now.kernels (length (box_at spot.now)) tree.now.masks.now }
-    requires changed { IsMadeBy (changed_at spot.now) tree.now.program.now.kernels (box_at spot.now) }
+) -> Result<Reached, NoMemory>
+    requires cut { CanBeCut tree.now.model.now tree.now.program.now.kernels sub.old.boxes.current }
+    requires masks { AreMasksOf tree.now.program.now.kernels (length sub.old.boxes.current) tree.now.masks.now }
+    requires made { IsMadeBy sub.old.changed tree.now.program.now.kernels sub.old.boxes.current }
+    requires sets { Serve sets.old tree.now.program.now.kernels (length sub.old.boxes.current) }
     requires depth { address.depth ≤ 16 }
-    requires bench { MayServe bench.old tree.now.program.now.kernels (length (box_at spot.now)) }
-    requires levels { AreLevelsBelow tree.now.model.now tree.now.program.now.kernels (box_at spot.now) levels.old.items }
-    ensures path { IfOk result (λ found. LeadsTo tree.now.model.now tree.now.program.now.kernels address.depth (box_at spot.now) address.number (box_of found)) }
-    ensures made { IfOk result (IsMadeFrom tree.now.program.now.kernels) }
-    ensures told { (address.depth ≡ 0 → changed_at spot.now ≢ None) → IfOk result IsTold }
-    ensures bench { MayServe bench.new tree.now.program.now.kernels (length (box_at spot.now)) }
-    ensures levels { OnOk result (AreLevelsBelow tree.now.model.now tree.now.program.now.kernels (box_at spot.now) levels.new.items) }
-    ensures kept { OnOk result (IsWayTo tree.now.model.now tree.now.program.now.kernels address.depth (box_at spot.now) address.number levels.new.items) }
+    ensures way { IfOk result (IsReached tree.now.model.now tree.now.program.now.kernels address sub.old.boxes sub.new.boxes turns.old.items turns.new.items) }
+    ensures made { IfOk result (λ reached. reached.end ≢ End.Failed → IsMadeBy sub.new.changed tree.now.program.now.kernels sub.new.boxes.current) }
+    ensures told { (address.depth ≡ 0 → sub.old.changed ≢ None) → IfOk result (λ reached. reached.end ≢ End.Failed → sub.new.changed ≢ None) }
+    ensures length { length sub.new.boxes.current ≡ length sub.old.boxes.current }
+    ensures sets { OnOk result (Serve sets.new tree.now.program.now.kernels (length sub.old.boxes.current)) }
 {
-    law_cuts();
     if address.depth == 0 {
-        let found = found_at(alloc, spot)?;
-        return Ok(found);
+        return Ok(Reached {
+            end: End::Part,
+            rest: address,
+        });
     }
-    let Level { node, goes_right } = top_level(alloc, tree, spot, bench, levels)?;
-    match node {
-        Node::Failed => {
-            put(levels, Node::Failed, goes_right)?;
-            Ok(None)
+    match cut(tree, sub, sets)? {
+        Node::Failed => Ok(Reached {
+            end: End::Failed,
+            rest: address,
+        }),
+        Node::Fixed => {
+            // it is made of itself: by any pair, put as it is
+            sub.changed = Some(0);
+            Ok(Reached {
+                end: End::Fixed,
+                rest: address,
+            })
         }
-        Node::Fixed(closed) => {
-            let found = solution(alloc, &closed, address.number)?;
-            put(levels, Node::Fixed(closed), goes_right)?;
-            Ok(found)
-        }
-        Node::Parted { closed, branching } => {
-            let (turn, rest) = first_turn(address);
-            take_turn(levels, goes_right, turn);
-            let part = Spot {
-                whole: &closed,
-                part: Some(part_on(turn, &branching)),
-            };
-            let found = lead(alloc, tree, &part, rest, bench, levels)?;
-            put(levels, Node::Parted { closed, branching }, turn)?;
-            Ok(found)
+        Node::Parted(branching) => {
+            let rest = take_turn(sub, turns, branching, address)?;
+            // its contract says that the bounds are in range
+            let _length = sub.boxes.len();
+            let reached = lead(tree, sub, turns, sets, rest)?;
+            Ok(reached)
         }
     }
+}
+
+/// Whether the box at the end of a way is what the number leads to: a solution is so by number 0 alone.
+fn is_led_to(end: End, number: u32) -> bool
+    ensures led { OnTrue result (IsLedTo end number) }
+    ensures not { OnFalse result (IsLedTo end number → ⊥) }
+{
+    match end {
+        End::Part => true,
+        End::Failed => false,
+        End::Fixed => number == 0,
+    }
+}
+
+/// Goes back to the closed box where the way took the turn at this place, and says how that box is parted.
+fn back_to(boxes: &mut TrailedBox, turns: &mut Vec<Turn>, place: usize) -> Branching
+    requires place { place < length turns.old.items }
+    requires short { place ≤ 16 }
+    ensures turns { turns.new.items ≡ take place turns.old.items }
+    ensures back { (model : FznModel) (kernels : List Kernel) (start : Bounds) (way : List Left) → AreSteps model kernels start turns.old.items way →
+        IsOver way boxes.old.stack → IsBackAt model kernels start turns.new.items boxes.new result }
+    ensures length { length boxes.new.current ≡ length boxes.old.current }
+{
+    boxes.truncate(place + 1);
+    boxes.pop();
+    let branching = turns[place].branching;
+    turns.truncate(place);
+    branching
 }
 
 impl Walk {
@@ -283,20 +213,22 @@ impl Walk {
         ensures { (model : FznModel) (kernels : List Kernel) (start : Bounds) → IsWalkFrom model kernels start result }
     {
         Walk {
-            levels: Vec::new(alloc),
-            bench: None,
+            turns: Vec::new(alloc),
+            end: End::Part,
+            boxes: None,
+            sets: None,
         }
     }
 
     /// The box that the number leads to from the walk's start, if there is one, and by which pair it differs from a closed
-    /// one. What each box on the way to it is cut into stays known, so that the next number's boxes are cut only from where
-    /// the two ways part.
+    /// one. The box is the walk's own, and it is to be given back by `take_back`. The way to it stays known, so that the next
+    /// number's boxes are cut only from where the two ways part.
     pub fn path_box(
         &mut self,
         alloc: Global,
         tree: &Tree<'_>,
         number: u32,
-    ) -> Result<Option<Found>, NoMemory>
+    ) -> Result<Option<Subproblem>, NoMemory>
         requires program { IsProgramOf tree.now.model.now tree.now.program.now }
         requires masks { AreMasksOf tree.now.program.now.kernels (length tree.now.program.now.start) tree.now.masks.now }
         requires phases { IsSearchOf tree.now.model.now }
@@ -309,32 +241,141 @@ impl Walk {
         ensures made { IfOk result (IsMadeFrom tree.now.program.now.kernels) }
         ensures told { tree.now.depth ≢ 0 → IfOk result IsTold }
         ensures walk { IsWalkFrom tree.now.model.now tree.now.program.now.kernels tree.now.start.now self.new }
-        ensures kept { OnOk result (IsWayTo tree.now.model.now tree.now.program.now.kernels tree.now.depth tree.now.start.now number self.new.levels.items) }
+        ensures over { IfOk result (StandsUnder tree.now.model.now tree.now.program.now.kernels tree.now.start.now self.new) }
+        ensures kept { OnOk result (IsWayTo tree.now.depth number self.new) }
     {
         law_paths();
         // its contract says that the bounds are in range
         let _length = tree.start.len();
-        let spot = Spot {
-            whole: tree.start,
-            part: None,
-        };
         let address = Address {
             depth: tree.depth,
             number,
         };
-        match lead(
-            alloc,
-            tree,
-            &spot,
-            address,
-            &mut self.bench,
-            &mut self.levels,
-        ) {
-            Ok(found) => Ok(found),
-            Err(NoMemory) => {
-                self.levels.clear();
-                Err(NoMemory)
+        match self.boxes.take() {
+            None => self.from_start(alloc, tree, address),
+            Some(boxes) => self.from_last(alloc, tree, address, boxes),
+        }
+    }
+
+    /// Goes from the way to the last number to another.
+    fn from_last(
+        &mut self,
+        alloc: Global,
+        tree: &Tree<'_>,
+        address: Address,
+        boxes: TrailedBox,
+    ) -> Result<Option<Subproblem>, NoMemory>
+        requires cut { CanBeCut tree.now.model.now tree.now.program.now.kernels tree.now.start.now }
+        requires masks { AreMasksOf tree.now.program.now.kernels (length tree.now.start.now) tree.now.masks.now }
+        requires depth { address.depth ≤ 16 }
+        requires sets { MayServe self.old.sets tree.now.program.now.kernels (length tree.now.start.now) }
+        requires none { self.old.boxes ≡ None }
+        requires way { IsOnWay tree.now.model.now tree.now.program.now.kernels tree.now.start.now self.old boxes }
+        ensures answer { IfOk result (IsAnswer tree.now.model.now tree.now.program.now.kernels tree.now.start.now address.depth address.number self.new) }
+        ensures walk { IsWalkFrom tree.now.model.now tree.now.program.now.kernels tree.now.start.now self.new }
+    {
+        if self.ends_before(address) {
+            self.boxes = Some(boxes);
+            return Ok(None);
+        }
+        match fork(self.turns.as_slice(), address) {
+            None => self.from_start(alloc, tree, address),
+            Some(shared) => {
+                let mut boxes = boxes;
+                let branching = back_to(&mut boxes, &mut self.turns, shared.count);
+                let mut sub = Subproblem {
+                    boxes,
+                    changed: None,
+                };
+                let rest = take_turn(&mut sub, &mut self.turns, branching, shared.rest)?;
+                self.go_down(alloc, tree, sub, address, rest)
             }
         }
+    }
+
+    /// Whether the way to the last number ends at a box below which this number leads nowhere.
+    fn ends_before(&self, address: Address) -> bool
+        requires { address.depth ≤ 16 }
+        ensures none { (model : FznModel) (kernels : List Kernel) (start : Bounds) (way : List Left) → StandsOn model kernels start self.now way →
+            OnTrue result (LeadsTo model kernels address.depth start address.number None) }
+        ensures way { OnTrue result (IsWayTo address.depth address.number self.now) }
+    {
+        if let End::Part = self.end {
+            return false;
+        }
+        let turns = self.turns.as_slice();
+        let shared = shared_turns(turns, turns.len(), address);
+        if shared.count < turns.len() || shared.rest.depth == 0 {
+            return false;
+        }
+        if is_led_to(self.end, shared.rest.number) {
+            return false;
+        }
+        true
+    }
+
+    /// Goes all the way.
+    fn from_start(
+        &mut self,
+        alloc: Global,
+        tree: &Tree<'_>,
+        address: Address,
+    ) -> Result<Option<Subproblem>, NoMemory>
+        requires cut { CanBeCut tree.now.model.now tree.now.program.now.kernels tree.now.start.now }
+        requires masks { AreMasksOf tree.now.program.now.kernels (length tree.now.start.now) tree.now.masks.now }
+        requires depth { address.depth ≤ 16 }
+        requires sets { MayServe self.old.sets tree.now.program.now.kernels (length tree.now.start.now) }
+        requires none { self.old.boxes ≡ None }
+        ensures answer { IfOk result (IsAnswer tree.now.model.now tree.now.program.now.kernels tree.now.start.now address.depth address.number self.new) }
+        ensures walk { IsWalkFrom tree.now.model.now tree.now.program.now.kernels tree.now.start.now self.new }
+    {
+        self.turns.clear();
+        let sub = Subproblem {
+            boxes: TrailedBox::new(alloc, tree.start.copy(alloc)?)?,
+            changed: None,
+        };
+        self.go_down(alloc, tree, sub, address, address)
+    }
+
+    /// Goes down from a box to where the address leads.
+    fn go_down(
+        &mut self,
+        alloc: Global,
+        tree: &Tree<'_>,
+        sub: Subproblem,
+        whole: Address,
+        rest: Address,
+    ) -> Result<Option<Subproblem>, NoMemory>
+        requires cut { CanBeCut tree.now.model.now tree.now.program.now.kernels tree.now.start.now }
+        requires masks { AreMasksOf tree.now.program.now.kernels (length tree.now.start.now) tree.now.masks.now }
+        requires depth { rest.depth ≤ 16 }
+        requires sets { MayServe self.old.sets tree.now.program.now.kernels (length tree.now.start.now) }
+        requires none { self.old.boxes ≡ None }
+        requires at { IsAt tree.now.model.now tree.now.program.now.kernels tree.now.start.now self.old.turns.items sub.boxes }
+        requires turns { AreTurnsTo whole.depth whole.number self.old.turns.items rest.depth rest.number }
+        requires length { length sub.boxes.current ≡ length tree.now.start.now }
+        requires made { IsMadeBy sub.changed tree.now.program.now.kernels sub.boxes.current }
+        requires told { whole.depth ≢ 0 → rest.depth ≡ 0 → sub.changed ≢ None }
+        ensures answer { IfOk result (IsAnswer tree.now.model.now tree.now.program.now.kernels tree.now.start.now whole.depth whole.number self.new) }
+        ensures walk { IsWalkFrom tree.now.model.now tree.now.program.now.kernels tree.now.start.now self.new }
+    {
+        let mut sub = sub;
+        let mut sets = take_sets(alloc, tree, &mut self.sets)?;
+        let reached = lead(tree, &mut sub, &mut self.turns, &mut sets, rest)?;
+        self.sets = Some(sets);
+        self.end = reached.end;
+        if is_led_to(reached.end, reached.rest.number) {
+            return Ok(Some(sub));
+        }
+        self.boxes = Some(sub.boxes);
+        Ok(None)
+    }
+
+    /// Takes the box back that was given out for the last number, whatever was put and left above the way.
+    pub fn take_back(&mut self, boxes: TrailedBox)
+        ensures { (model : FznModel) (kernels : List Kernel) (start : Bounds) → IsWalkFrom model kernels start self.old →
+            IsOnWay model kernels start self.old boxes → IsWalkFrom model kernels start self.new }
+    {
+        self.boxes = Some(boxes);
     }
 }

@@ -13,4 +13,4 @@ mod path;
 pub use cutting::Cut;
 pub use expansion::expand;
 pub use laws::{law_cuts, law_paths, law_subproblems};
-pub use path::path_box;
+pub use path::{numbers_to, path_box};

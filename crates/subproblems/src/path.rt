@@ -40,8 +40,8 @@ pub fn path_box(
     Ok(found)
 }
 
-/// How many numbers there are to a depth.
-fn numbers_to(depth: u32) -> u32
+/// How many numbers there are to a depth of at most 16.
+pub fn numbers_to(depth: u32) -> u32
     requires { depth ≤ 16 }
     ensures { result ≡ 2 ^ depth }
 {

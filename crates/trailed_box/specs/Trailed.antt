@@ -1,5 +1,5 @@
 -- A box that is changed, and a stack of boxes that are left for later.
-use Rattle.std.specs.Prelude.{ℕ, ℤ, ◌<◌, List, map}
+use Rattle.std.specs.Prelude.{◌≡◌, ℕ, ℤ, ◌<◌, List, ◌++◌, map}
 use Rattle.interval.specs.Limits.{IsBound}
 use Rattle.interval.specs.Boxes.{Bounds, put_of}
 
@@ -20,6 +20,10 @@ box_of left = put_of left.base left.var left.low left.high
 
 abbrev pub boxes_of : List Left → List Bounds
 boxes_of stack = map box_of stack
+
+-- what is left on a stack is still left, with more above it
+abbrev pub IsOver : List Left → List Left → Type 0
+IsOver base stack = (rest : List Left) × (stack ≡ base ++ rest)
 
 -- the box as it is now, and what is left for later, the next one last
 pub record Trailed : Type 0 where

@@ -1,6 +1,6 @@
 //! The trailed box.
 
-ghost use Rattle.std.specs.Prelude.{◌≡◌, ◌<◌, ◌++◌, [], ◌∷◌, length, IfOk, OnOk, OnErr, IfSome, IfNone};
+ghost use Rattle.std.specs.Prelude.{◌≡◌, ◌<◌, ◌++◌, [], ◌∷◌, length, take, IfOk, OnOk, OnErr, IfSome, IfNone};
 ghost use Rattle.interval.specs.Limits.{IsBound};
 ghost use Rattle.interval.specs.Boxes.{low_of, high_of, put_of, IsInRange};
 ghost use Rattle.trailed_box.specs.Trailed.{left_of, IsPart};
@@ -131,6 +131,14 @@ impl TrailedBox {
             return Err(NoMemory);
         }
         Ok(())
+    }
+
+    /// Drops the boxes that are left for later, but for so many of those that were left first. The box stays.
+    pub fn truncate(&mut self, count: usize)
+        ensures current { self.new.current ≡ self.old.current }
+        ensures stack { self.new.stack ≡ take count self.old.stack }
+    {
+        self.marks.truncate(count);
     }
 
     /// Goes back to the base of the box that was left for later last, and gives the part in which that box differs from

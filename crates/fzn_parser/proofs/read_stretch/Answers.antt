@@ -1,8 +1,7 @@
-use Rattle.std.proofs.Common.{◌≡◌, ◌∙◌, Option, Some, true, false, drop, sym, subst, refl, arith, IfOk}
+use Rattle.std.proofs.Common.{◌≡◌, ◌∙◌, Option, Some, drop, sym, subst, refl, arith, IfOk}
 use Rattle.fzn_lexer.specs.declared.Kind.{Kind}
 use Rattle.fzn_lexer.specs.declared.Token.{Token}
 use Rattle.fzn_parser.specs.declared.cursor.Symbol.{Symbol}
-use Rattle.fzn_parser.specs.Texts.{is_at}
 use Rattle.fzn_parser.specs.Parsing.{ItemTree, item_tree}
 use Rattle.fzn_parser.proofs.Whole.{begins_first, item_empty, item_other}
 use Rattle.fzn_parser.proofs.Progress.{first_of}

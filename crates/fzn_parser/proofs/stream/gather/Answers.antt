@@ -1,8 +1,6 @@
-use Rattle.std.proofs.Common.{◌∙◌, List, Some, sym, subst, arith}
-use Rattle.fzn_lexer.specs.declared.Token.{Token}
+use Rattle.std.proofs.Common.{◌≡◌, ◌∙◌, ◌==◌, length, Some, sym, subst, arith, rules}
 use Rattle.fzn_lexer.specs.Lexing.{IsNext}
-use Rattle.fzn_parser.specs.Stream.{IsStretch}
-use Rattle.fzn_parser.proofs.Gathered.{TurnLaws, gathered_none, gathered_more, stretch_here, stretch_end, stretch_out, stuck_behind, stuck_next}
+use Rattle.fzn_parser.proofs.Gathered.{TurnLaws, lexemes_none, lexemes_more, lexemes_here, lexemes_end, lexemes_out, stuck_behind, stuck_next}
 use Rattle.fzn_parser.proofs.stream.gather.Goals as goal
 
 pub loop-at-init : goal.loop-at-init
@@ -12,33 +10,48 @@ loop-at-init c =
       joined = c.law_tokens_in_turn.ensures.joined c.args.text.now;
       one_rest = c.law_tokens_in_turn.ensures.one_rest c.args.text.now;
     } in
-    rw (c.clear.ensures.items, c.clear-2.ensures.items) (gathered_none c.args.text.now c.args.from laws c.requires)
+    rw (c.clear.ensures.items) (lexemes_none c.args.text.now c.args.from _ laws c.requires)
 
 pub returns-then-branch-clause-stretch : goal.returns-then-branch-clause-stretch
 returns-then-branch-clause-stretch c =
+    let kept = c.in_ok-keep.ensures in
+    let none : c.is_empty.result ≡ (length c.loop-at.lexemes.items == 0) = search rules in
+    let next : IsNext c.args.text.now c.loop-at.at (Some c.in-Some.token) = c.in-Some.ensures in
+    rw (kept.lexemes, c.first_with-first.ensures) (lexemes_here c.args.text.now c.args.from c.loop-at.at c.loop-at.lexemes.items c.loop-at.first c.in-Some.token c.is_empty.result c.loop-at.invariant none next (sym kept.ends ∙ c.if-branch.true))
+
+pub loop-at-preserved-else-branch : goal.loop-at-preserved-else-branch
+loop-at-preserved-else-branch c =
+    let kept = c.in_ok-keep.ensures in
+    let none : c.is_empty.result ≡ (length c.loop-at.lexemes.items == 0) = search rules in
+    let next : IsNext c.args.text.now c.loop-at.at (Some c.in-Some.token) = c.in-Some.ensures in
+    rw (kept.lexemes, c.first_with-first.ensures) (lexemes_more c.args.text.now c.args.from c.loop-at.at c.loop-at.lexemes.items c.loop-at.first c.in-Some.token c.is_empty.result c.loop-at.invariant none next (sym kept.ends ∙ c.if-branch.false))
+
+pub returns-then-branch-2-clause-stretch : goal.returns-then-branch-2-clause-stretch
+returns-then-branch-2-clause-stretch c =
     let kept = c.in_ok-keep-in-Ok-Some.ensures in
+    let none : c.is_empty-in-Ok-Some.result ≡ (length c.loop-at.lexemes.items == 0) = search rules in
     let next : IsNext c.args.text.now c.loop-at.at (Some c.in-Ok-Some.token) = subst (λ o. IsNext c.args.text.now c.loop-at.at o) c.in-Ok-Some.field-0-is c.in-Ok-Some.ensures in
-    subst (λ (us : List Token). IsStretch c.args.text.now c.args.from c.in-Ok-Some.token.to us) (sym kept.tokens)
-    (stretch_here c.args.text.now c.args.from c.loop-at.at c.loop-at.tokens.items c.loop-at.lexemes.items c.in-Ok-Some.token c.loop-at.invariant next (sym kept.ends ∙ c.if-branch.true))
+    rw (kept.lexemes, c.first_with-first-in-Ok-Some.ensures) (lexemes_here c.args.text.now c.args.from c.loop-at.at c.loop-at.lexemes.items c.loop-at.first c.in-Ok-Some.token c.is_empty-in-Ok-Some.result c.loop-at.invariant none next (sym kept.ends ∙ c.if-branch-2.true))
 
 pub loop-at-preserved : goal.loop-at-preserved
 loop-at-preserved c =
     let kept = c.in_ok-keep-in-Ok-Some.ensures in
+    let none : c.is_empty-in-Ok-Some.result ≡ (length c.loop-at.lexemes.items == 0) = search rules in
     let next : IsNext c.args.text.now c.loop-at.at (Some c.in-Ok-Some.token) = subst (λ o. IsNext c.args.text.now c.loop-at.at o) c.in-Ok-Some.field-0-is c.in-Ok-Some.ensures in
-    rw (kept.tokens, kept.lexemes) (gathered_more c.args.text.now c.args.from c.loop-at.at c.loop-at.tokens.items c.loop-at.lexemes.items c.in-Ok-Some.token c.loop-at.invariant next (sym kept.ends ∙ c.if-branch.false))
+    rw (kept.lexemes, c.first_with-first-in-Ok-Some.ensures) (lexemes_more c.args.text.now c.args.from c.loop-at.at c.loop-at.lexemes.items c.loop-at.first c.in-Ok-Some.token c.is_empty-in-Ok-Some.result c.loop-at.invariant none next (sym kept.ends ∙ c.if-branch-2.false))
 
 pub returns-in-Ok-None-clause-stretch : goal.returns-in-Ok-None-clause-stretch
 returns-in-Ok-None-clause-stretch c =
-    stretch_end c.args.text.now c.args.from c.loop-at.at c.loop-at.tokens.items c.loop-at.lexemes.items c.loop-at.invariant (subst (λ o. IsNext c.args.text.now c.loop-at.at o) c.in-Ok-None.field-0-is c.in-Ok-None.ensures)
+    lexemes_end c.args.text.now c.args.from c.loop-at.at c.loop-at.lexemes.items c.loop-at.first c.loop-at.invariant (subst (λ o. IsNext c.args.text.now c.loop-at.at o) c.in-Ok-None.field-0-is c.in-Ok-None.ensures)
 
 pub returns-in-Err-clause-cause : goal.returns-in-Err-clause-cause
 returns-in-Err-clause-cause c =
-    stuck_behind c.args.text.now c.args.from c.loop-at.at c.in-Err.none.at c.loop-at.tokens.items c.loop-at.lexemes.items c.loop-at.invariant c.in-Err.ensures
+    stuck_behind c.args.text.now c.args.from c.loop-at.at c.in-Err.none.at c.loop-at.invariant.tokens c.loop-at.invariant.gathered c.in-Err.ensures
 
 pub returns-clause-stretch : goal.returns-clause-stretch
 returns-clause-stretch c =
-    stretch_out c.args.text.now c.args.from c.loop-at.at c.loop-at.tokens.items c.loop-at.lexemes.items c.loop-at.invariant (omega (arith, c.loop-at-test.false))
+    lexemes_out c.args.text.now c.args.from c.loop-at.at c.loop-at.lexemes.items c.loop-at.first c.loop-at.invariant (omega (arith, c.loop-at-test.false))
 
 pub returns-in-Err-clause-next : goal.returns-in-Err-clause-next
 returns-in-Err-clause-next c =
-    stuck_next c.args.text.now c.args.from c.loop-at.at c.in-Err.none.at c.loop-at.tokens.items c.loop-at.lexemes.items c.loop-at.invariant c.in-Err.ensures
+    stuck_next c.args.text.now c.args.from c.loop-at.at c.in-Err.none.at c.loop-at.invariant.tokens c.loop-at.invariant.gathered c.in-Err.ensures

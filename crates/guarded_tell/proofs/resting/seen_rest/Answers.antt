@@ -2,8 +2,8 @@
 use Rattle.std.proofs.Common.{subst}
 use Rattle.guarded_tell.specs.declared.shape.Shape.{Shape}
 use Rattle.guarded_tell.specs.Shapes.{IsShapeOf}
-use Rattle.guarded_tell.proofs.ShapeQuiet.{at_most_places, same_places, either_places}
-use Rattle.guarded_tell.proofs.SeenLaws.{at_most_seen, same_seen, either_seen}
+use Rattle.guarded_tell.proofs.ShapeQuiet.{at_most_places, same_places, either_places, triple_places}
+use Rattle.guarded_tell.proofs.SeenLaws.{at_most_seen, same_seen, either_seen, triple_seen}
 use Rattle.guarded_tell.proofs.resting.seen_rest.Goals as goal
 
 pub difference-requires-clause-first : goal.difference-requires-clause-first
@@ -68,3 +68,26 @@ pub returns-in-Either : goal.returns-in-Either
 returns-in-Either c =
     either_seen c.law_quotient_order.ensures c.law_clamp_order.ensures c.args.b.now c.args.k.now c.requires.kernel c.requires.proper c.in-Either.first c.in-Either.second
     (subst (λ (s : Shape). IsShapeOf c.args.k.now s) c.in-Either.is c.requires.shape) c.either_rest.result c.either_rest.ensures
+
+pub triple_rest-requires-clause-first : goal.triple_rest-requires-clause-first
+triple_rest-requires-clause-first c = (triple_places c.args.k.now c.args.b.now c.in-Triple.first c.in-Triple.second c.in-Triple.third c.requires.kernel c.requires.proper (subst (λ (s : Shape). IsShapeOf c.args.k.now s) c.in-Triple.is c.requires.shape)).first
+
+pub triple_rest-requires-clause-second : goal.triple_rest-requires-clause-second
+triple_rest-requires-clause-second c = (triple_places c.args.k.now c.args.b.now c.in-Triple.first c.in-Triple.second c.in-Triple.third c.requires.kernel c.requires.proper (subst (λ (s : Shape). IsShapeOf c.args.k.now s) c.in-Triple.is c.requires.shape)).second
+
+pub triple_rest-requires-clause-third : goal.triple_rest-requires-clause-third
+triple_rest-requires-clause-third c = (triple_places c.args.k.now c.args.b.now c.in-Triple.first c.in-Triple.second c.in-Triple.third c.requires.kernel c.requires.proper (subst (λ (s : Shape). IsShapeOf c.args.k.now s) c.in-Triple.is c.requires.shape)).third
+
+pub triple_rest-requires-clause-proper_first : goal.triple_rest-requires-clause-proper_first
+triple_rest-requires-clause-proper_first c = (triple_places c.args.k.now c.args.b.now c.in-Triple.first c.in-Triple.second c.in-Triple.third c.requires.kernel c.requires.proper (subst (λ (s : Shape). IsShapeOf c.args.k.now s) c.in-Triple.is c.requires.shape)).first_proper
+
+pub triple_rest-requires-clause-proper_second : goal.triple_rest-requires-clause-proper_second
+triple_rest-requires-clause-proper_second c = (triple_places c.args.k.now c.args.b.now c.in-Triple.first c.in-Triple.second c.in-Triple.third c.requires.kernel c.requires.proper (subst (λ (s : Shape). IsShapeOf c.args.k.now s) c.in-Triple.is c.requires.shape)).second_proper
+
+pub triple_rest-requires-clause-proper_third : goal.triple_rest-requires-clause-proper_third
+triple_rest-requires-clause-proper_third c = (triple_places c.args.k.now c.args.b.now c.in-Triple.first c.in-Triple.second c.in-Triple.third c.requires.kernel c.requires.proper (subst (λ (s : Shape). IsShapeOf c.args.k.now s) c.in-Triple.is c.requires.shape)).third_proper
+
+pub returns-in-Triple : goal.returns-in-Triple
+returns-in-Triple c =
+    triple_seen c.law_quotient_order.ensures c.law_clamp_order.ensures c.args.b.now c.args.k.now c.requires.kernel c.requires.proper c.in-Triple.first c.in-Triple.second c.in-Triple.third
+    (subst (λ (s : Shape). IsShapeOf c.args.k.now s) c.in-Triple.is c.requires.shape) c.triple_rest.result c.triple_rest.ensures

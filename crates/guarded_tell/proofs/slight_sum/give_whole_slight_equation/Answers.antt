@@ -1,28 +1,10 @@
 -- The variables of the terms stand behind the literal's, and the sums say how long the kernel rests.
-use Rattle.std.proofs.Common.{ℤ, suc, refl, subst, arith}
-use Rattle.std.specs.Prelude.{Option, Some, None, IfSome, MatchOption}
-use Rattle.std.specs.List.{All}
+use Rattle.std.proofs.Common.{ℤ, suc, subst, arith}
 use Rattle.std.proofs.lemmas.Int.{to_z-of_z}
 use mir.Syntax.{w64}
-use Rattle.guarded_tell.specs.Words.{Keeps}
-use Rattle.sum_tells.specs.Equality.{eq_tells}
 use Rattle.guarded_tell.specs.Settled.{IsEquationSumFor}
-use Rattle.short_tells.proofs.ShortSumLaws.{quiet_heard}
 use Rattle.guarded_tell.proofs.SettledLaws.{equation_rests}
 use Rattle.guarded_tell.proofs.slight_sum.give_whole_slight_equation.Goals as goal
-
--- what is so where something is said, and where nothing is
-by_saying : {R : Type 0} (r : Option R) (N S K : Type 0) → N → (K → S) → IfSome r (λ x. K) → MatchOption r N (λ x. S)
-by_saying None N S K none some said = none
-by_saying (Some x) N S K none some said = some said
-
-pub returns-then-stands_false-clause-given : goal.returns-then-stands_false-clause-given
-returns-then-stands_false-clause-given g c =
-    let Q : ℤ → Type 0 = λ z. All (Keeps c.args.b.now) (eq_tells c.args.lit c.args.coeffs.now c.args.vars.now z c.args.b.now) in
-    by_saying c.slight_inequation_rest.result _ _ _ refl
-    (λ kept. quiet_heard g.H.Hear.hears c.args.h.now c.args.b.now (eq_tells c.args.lit c.args.coeffs.now c.args.vars.now c.args.limit c.args.b.now)
-    (subst Q (to_z-of_z w64 c.args.limit c.ranges.limit) kept))
-    c.slight_inequation_rest.ensures.quiet
 
 pub stands_false-requires-clause-proper : goal.stands_false-requires-clause-proper
 stands_false-requires-clause-proper g c = c.requires.proper 0 (omega arith)

@@ -1,5 +1,5 @@
 -- Two open terms, and sums that leave room, say that nothing narrows, and how long the kernel rests.
-use Rattle.std.proofs.Common.{ℤ, suc, sym, subst, arith}
+use Rattle.std.proofs.Common.{ℤ, suc, subst, arith}
 use Rattle.std.proofs.lemmas.Bool.{OnTrue_at}
 use Rattle.std.proofs.lemmas.Int.{to_z-of_z}
 use mir.Syntax.{w64}

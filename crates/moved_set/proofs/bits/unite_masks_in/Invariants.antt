@@ -5,5 +5,5 @@ use Rattle.moved_set.proofs.bits.unite_masks_in.Given as goal
 abbrev pub invariant-loop-mask : goal.invariant-loop-mask
 invariant-loop-mask l = record {
   same : length l.words ≡ length l.initial.words;
-  named : (j : ℕ) → has l.words j ≡ (has l.initial.words j || (names (take l.mask-index l.row) j && (has l.wanted j && has l.also j)));
+  named : (j : ℕ) → has l.words j ≡ (has l.initial.words j || (names (take l.mask-index l.row) j && has l.wanted j));
 }

@@ -1,9 +1,9 @@
-use Rattle.std.proofs.Common.{◌≡◌, ℕ, length, None}
+use Rattle.std.proofs.Common.{◌≡◌, ℕ, None}
 use Rattle.std.specs.List.{sum_by}
 use Rattle.search.specs.declared.kind.Kind.{Kind}
 use Rattle.search.specs.Machine.{Reached}
-use Rattle.search.specs.Ends.{search_of}
-use Rattle.search.specs.Stacks.{boxes_of, count_of, IsReady}
+use Rattle.search.specs.Ends.{search_in}
+use Rattle.search.specs.Stacks.{boxes_of, below_of, count_of, IsReady}
 use Rattle.search.proofs.StackLaws.{weight}
 use Rattle.search.proofs.SearchLaws.{IsCounted}
 use Rattle.search.proofs.all.search_all.Given as goal
@@ -12,11 +12,12 @@ use Rattle.search.proofs.all.search_all.Given as goal
 abbrev pub invariant-boxes : goal.invariant-boxes
 invariant-boxes g l = record {
   count : ℕ;
-  reached : Reached (search_of l.run.model.now l.run.program.now l.run.node_limit l.run.round_limit Kind.All l.sub)
+  reached : Reached (search_in l.run Kind.All l.initial.searcher.boxes.current)
       (record { stack = boxes_of l.searcher; best = None; count = count; found = l.found });
   counted : IsCounted l.run.node_limit l.nodes count;
   ready : IsReady l.run l.searcher;
-  same_count : count_of l.searcher ≡ length l.sub;
+  same_count : count_of l.searcher ≡ count_of l.initial.searcher;
+  bottom : below_of l.searcher ≡ below_of l.initial.searcher;
 }
 
 abbrev pub decreases-boxes : goal.decreases-boxes

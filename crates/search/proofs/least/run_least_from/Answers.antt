@@ -1,48 +1,45 @@
-use Rattle.std.proofs.Common.{ℤ, List, Option, sym, subst}
-use Rattle.std.specs.Prelude.{IfSome}
+use Rattle.std.proofs.Common.{length, sym, subst}
+use Rattle.interval.specs.Boxes.{Bounds, IsInside}
 use Rattle.best_bound.specs.Seats.{costs_seen, costs_posted}
-use Rattle.search.specs.LeastEnds.{least_of, CostsLess}
-use Rattle.search.proofs.LeastRunLaws.{popped_last, last_holds, done_of, spent_of, on_any_err, broken_at_start}
+use Rattle.search.specs.LeastEnds.{least_in, EndsLeast, IsBrokenOff, CostAtLeast, OnDone}
+use Rattle.search.proofs.LeastRunLaws.{on_any_err, broken_at_start}
+use Rattle.search.proofs.SearcherLaws.{given_back, serves_start}
 use Rattle.search.proofs.least.run_least_from.Goals as goal
 
-pub returns-in-Some-clause-end : goal.returns-in-Some-clause-end
-returns-in-Some-clause-end g c = record {
-  found = c.in_ok-closing.closing.found;
-  ends = (
-    spent_of (least_of c.args.run.now.model.now c.args.run.now.program.now c.args.run.now.node_limit c.args.run.now.round_limit (costs_seen c.search_least.new.seat) c.args.start.now.sub.now) c.in_ok-closing.closing c.in-Some.why c.in-Some.is c.in_ok-closing.ensures.closing,
-    (popped_last c.in_ok-closing.closing.found c.pop-last.new.self.items c.into_vec-solutions.result.items c.pop-last.result c.into_vec-solutions.result.len c.pop-last.new.self.len
-        c.into_vec-solutions.ensures c.pop-last.ensures.items c.pop-last.ensures.rest c.pop-last.ensures.cases),
-  );
-  posts = c.in_ok-closing.ensures.posted;
-}
+pub search_least-requires-clause-inside : goal.search_least-requires-clause-inside
+search_least-requires-clause-inside g c = λ ks b. subst (λ (b : Bounds). IsInside b c.args.run.now.program.now.start) (sym c.in_ok-searcher.ensures.current) c.requires.inside
 
 pub returns-clause-end : goal.returns-clause-end
 returns-clause-end g c = record {
   found = c.in_ok-closing.closing.found;
-  ends = (
-    done_of (least_of c.args.run.now.model.now c.args.run.now.program.now c.args.run.now.node_limit c.args.run.now.round_limit (costs_seen c.search_least.new.seat) c.args.start.now.sub.now) c.in_ok-closing.closing c.in-None.is c.in_ok-closing.ensures.closing,
-    (popped_last c.in_ok-closing.closing.found c.pop-last.new.self.items c.into_vec-solutions.result.items c.pop-last.result c.into_vec-solutions.result.len c.pop-last.new.self.len
-        c.into_vec-solutions.ensures c.pop-last.ensures.items c.pop-last.ensures.rest c.pop-last.ensures.cases),
-  );
+  ends = subst (λ (b : Bounds). EndsLeast (least_in c.args.run.now (costs_seen c.search_least.new.seat) b) c.in_ok-closing.closing.found c.least_end-end.result) c.in_ok-searcher.ensures.current
+      (c.least_end-end.ensures.ends (least_in c.args.run.now (costs_seen c.search_least.new.seat) c.in_ok-searcher.searcher.boxes.current) c.in_ok-closing.ensures.closing);
   posts = c.in_ok-closing.ensures.posted;
 }
 
-pub returns-in-Some-clause-below : goal.returns-in-Some-clause-below
-returns-in-Some-clause-below g c =
-    let less = CostsLess c.args.run.now.model.now.goal (costs_seen c.args.seat.now) in
-    let last = popped_last c.in_ok-closing.closing.found c.pop-last.new.self.items c.into_vec-solutions.result.items c.pop-last.result c.into_vec-solutions.result.len c.pop-last.new.self.len
-    c.into_vec-solutions.ensures c.pop-last.ensures.items c.pop-last.ensures.rest c.pop-last.ensures.cases in
-    subst (λ (answer : Option (List ℤ)). IfSome answer less) (sym last) (last_holds less c.in_ok-closing.closing.found c.in_ok-closing.ensures.below)
+pub returns-clause-least : goal.returns-clause-least
+returns-clause-least g c =
+    subst (λ (b : Bounds). OnDone c.least_end-end.result (CostAtLeast c.args.run.now.model.now b (costs_seen c.search_least.new.seat))) c.in_ok-searcher.ensures.current
+    (c.least_end-end.ensures.least c.args.run.now.model.now c.in_ok-searcher.searcher.boxes.current (costs_seen c.search_least.new.seat) c.in_ok-closing.ensures.least)
 
 pub returns-clause-below : goal.returns-clause-below
-returns-clause-below g c =
-    let less = CostsLess c.args.run.now.model.now.goal (costs_seen c.args.seat.now) in
-    let last = popped_last c.in_ok-closing.closing.found c.pop-last.new.self.items c.into_vec-solutions.result.items c.pop-last.result c.into_vec-solutions.result.len c.pop-last.new.self.len
-    c.into_vec-solutions.ensures c.pop-last.ensures.items c.pop-last.ensures.rest c.pop-last.ensures.cases in
-    subst (λ (answer : Option (List ℤ)). IfSome answer less) (sym last) (last_holds less c.in_ok-closing.closing.found c.in_ok-closing.ensures.below)
+returns-clause-below g c = c.least_end-end.ensures.below c.args.run.now.model.now.goal (costs_seen c.args.seat.now) c.in_ok-closing.ensures.below
+
+pub returns-clause-over : goal.returns-clause-over
+returns-clause-over g c =
+    given_back c.args.start.boxes c.into_parts-boxes.result.0 c.args.run.now.program.now.kernels c.in_ok-searcher.searcher c.search_least.new.searcher
+    c.in_ok-searcher.ensures.current c.in_ok-searcher.ensures.below c.in_ok-closing.ensures.again c.in_ok-closing.ensures.bottom c.into_parts-boxes.ensures.boxes c.into_parts-boxes.ensures.over
+
+pub returns-clause-searcher : goal.returns-clause-searcher
+returns-clause-searcher g c =
+    let kernels = c.args.run.now.program.now.kernels in
+    c.keep.ensures.serves kernels _ (c.into_parts-boxes.ensures.spare kernels _
+    (serves_start c.args.start.boxes.current kernels c.in_ok-searcher.searcher c.search_least.new.searcher c.in_ok-searcher.ensures.current c.in_ok-closing.ensures.again))
 
 pub returns-in_err-searcher-clause-err : goal.returns-in_err-searcher-clause-err
-returns-in_err-searcher-clause-err g c = on_any_err _ (broken_at_start (least_of c.args.run.now.model.now c.args.run.now.program.now c.args.run.now.node_limit c.args.run.now.round_limit (costs_seen c.args.seat.now) c.args.start.now.sub.now) (costs_posted c.args.seat.now))
+returns-in_err-searcher-clause-err g c = on_any_err _ (broken_at_start (least_in c.args.run.now (costs_seen c.args.seat.now) c.args.start.boxes.current) (costs_posted c.args.seat.now))
 
-pub returns-clause-least : goal.returns-clause-least
-returns-clause-least g c = c.in_ok-closing.ensures.least c.in-None.is
+pub returns-in_err-closing-clause-err : goal.returns-in_err-closing-clause-err
+returns-in_err-closing-clause-err g c = on_any_err _
+    (subst (λ (b : Bounds). IsBrokenOff (least_in c.args.run.now (costs_seen c.search_least.new.seat) b) (costs_posted c.args.seat.now) (costs_posted c.search_least.new.seat)) c.in_ok-searcher.ensures.current
+    c.in_err-closing.ensures.err)

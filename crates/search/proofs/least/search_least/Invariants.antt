@@ -1,10 +1,10 @@
-use Rattle.std.proofs.Common.{◌≡◌, ℕ, ℤ, Option, length}
+use Rattle.std.proofs.Common.{◌≡◌, ℕ, ℤ, Option}
 use Rattle.std.specs.List.{All, sum_by}
 use Rattle.best_bound.specs.Lists.{Among}
 use Rattle.best_bound.specs.Seats.{IsBestSeatOf, best_parts, costs_seen, costs_posted}
 use Rattle.search.specs.Machine.{Reached}
-use Rattle.search.specs.LeastEnds.{least_of, PostsCosts, CostsLess}
-use Rattle.search.specs.Stacks.{boxes_of, count_of, IsReady}
+use Rattle.search.specs.LeastEnds.{least_in, PostsCosts, CostsLess}
+use Rattle.search.specs.Stacks.{boxes_of, below_of, count_of, IsReady}
 use Rattle.search.proofs.StackLaws.{weight}
 use Rattle.search.proofs.SearchLaws.{IsCounted}
 use Rattle.search.proofs.LeastRunLaws.{IsLow}
@@ -15,12 +15,13 @@ abbrev pub invariant-boxes : goal.invariant-boxes
 invariant-boxes g l = record {
   lowest : Option ℤ;
   count : ℕ;
-  reached : Reached (least_of l.run.model.now l.run.program.now l.run.node_limit l.run.round_limit (costs_seen l.seat) l.sub)
+  reached : Reached (least_in l.run (costs_seen l.seat) l.initial.searcher.boxes.current)
       (record { stack = boxes_of l.searcher; best = lowest; count = count; found = l.found });
   low : IsLow lowest (costs_seen l.seat);
   counted : IsCounted l.run.node_limit l.nodes count;
   ready : IsReady l.run l.searcher;
-  same_count : count_of l.searcher ≡ length l.sub;
+  same_count : count_of l.searcher ≡ count_of l.initial.searcher;
+  bottom : below_of l.searcher ≡ below_of l.initial.searcher;
   seat : IsBestSeatOf l.best l.seat;
   parts : best_parts l.seat ≡ best_parts l.initial.seat;
   kept : (cost : ℤ) → Among (costs_seen l.initial.seat) cost → Among (costs_seen l.seat) cost;

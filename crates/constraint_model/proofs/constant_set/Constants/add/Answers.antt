@@ -13,9 +13,9 @@ invariant_of-self-in_err-push c =
     let items = c.self.inside.numbers.items in
     let past : c.len-count.result ≤ c.place_of.result = omega (arith, c.if-place_of-count.false) in
     rw c.in_err-push.ensures.items (record {
-      found = finds_stale c.self.inside.places c.insert.new.self items _ _ c.self.invariant.found
+      found = finds_stale c.self.inside.places c.put.new.self items _ _ c.self.invariant.found
           (lacks_it items c.args.self.now.numbers _ c.place_of.result c.len-count.result (view_numbers c.self.view_is) c.place_of.ensures.place c.len-count.ensures past)
-          c.in_ok-insert.ensures.updates;
+          c.in_ok-put.ensures.put;
       counted = c.self.invariant.counted;
     })
 
@@ -24,10 +24,10 @@ invariant_of-self-2 c =
     let items = c.self.inside.numbers.items in
     let past : c.len-count.result ≤ c.place_of.result = omega (arith, c.if-place_of-count.false) in
     rw c.in_ok-push.ensures.items (record {
-      found = finds_more c.self.inside.places c.insert.new.self items _ c.len-count.result
+      found = finds_more c.self.inside.places c.put.new.self items _ c.len-count.result
           (c.len-count.ensures ∙ ap length (sym (view_numbers c.self.view_is))) c.self.invariant.found
           (lacks_it items c.args.self.now.numbers _ c.place_of.result c.len-count.result (view_numbers c.self.view_is) c.place_of.ensures.place c.len-count.ensures past)
-          c.in_ok-insert.ensures.updates;
+          c.in_ok-put.ensures.put;
       counted = number_more items _ c.self.inside.arrays c.self.inside.counted c.self.invariant.counted;
     })
 

@@ -10,27 +10,27 @@ pub returns-in_default-clause-place : goal.returns-in_default-clause-place
 returns-in_default-clause-place c =
     c.len.ensures
     ∙ ap length (sym (view_numbers c.self.view_is))
-    ∙ absent_last c.self.inside.places c.self.inside.numbers.items _ c.args.number (to_z-of_z w64 c.args.number c.ranges.number) c.self.invariant.found c.in_default.ensures.value
+    ∙ absent_last c.self.inside.places c.self.inside.numbers.items _ c.args.number (to_z-of_z w64 c.args.number c.ranges.number) c.self.invariant.found c.in_default.ensures
     ∙ ap (position_or_len (int_eq c.args.number)) (view_numbers c.self.view_is)
 
 pub returns-then-stands_at-clause-place : goal.returns-then-stands_at-clause-place
 returns-then-stands_at-clause-place c =
     let read = to_z-of_z w64 c.args.number c.ranges.number in
     let items = c.self.inside.numbers.items in
-    let place = c.in-Some.place.now in
+    let place = c.in-Some.place in
     let stands : slice_get items place ≡ Some c.args.number =
     ap (λ numbers. slice_get numbers place) (sym c.as_slice.ensures.value) ∙ c.stands_at.ensures.0 c.if-stands_at.true ∙ ap Some read in
-    stands_first c.self.inside.places items _ c.args.number place read c.self.invariant.found c.in-Some.ensures.value stands
+    stands_first c.self.inside.places items _ c.args.number place read c.self.invariant.found c.in-Some.ensures stands
     ∙ ap (position_or_len (int_eq c.args.number)) (view_numbers c.self.view_is)
 
 pub returns-else-stands_at-clause-place : goal.returns-else-stands_at-clause-place
 returns-else-stands_at-clause-place c =
     let read = to_z-of_z w64 c.args.number c.ranges.number in
     let items = c.self.inside.numbers.items in
-    let place = c.in-Some.place.now in
+    let place = c.in-Some.place in
     c.len-else-stands_at.ensures
     ∙ ap length (sym (view_numbers c.self.view_is))
-    ∙ strayed_last c.self.inside.places items _ c.args.number place read c.self.invariant.found c.in-Some.ensures.value
+    ∙ strayed_last c.self.inside.places items _ c.args.number place read c.self.invariant.found c.in-Some.ensures
     (λ s.
     let stands = c.stands_at.ensures.1 (ap (λ numbers. slice_get numbers place) c.as_slice.ensures.value ∙ s ∙ ap Some (sym read)) in
     let k : true ≡ false = sym stands ∙ c.if-stands_at.false in

@@ -11,15 +11,9 @@ unite_masks_in-requires-clause-row c k d h =
 pub unite_masks_in-requires-clause-wanted : goal.unite_masks_in-requires-clause-wanted
 unite_masks_in-requires-clause-wanted c k d h = omega (arith, c.requires.row k d h, c.requires.wanted, c.words.ensures.len)
 
-pub unite_masks_in-requires-clause-also : goal.unite_masks_in-requires-clause-also
-unite_masks_in-requires-clause-also c k d h = omega (arith, c.requires.row k d h, c.requires.also, c.words-2.ensures.len)
-
 pub returns : goal.returns
 returns c =
-    let count : length c.args.self.now ≡ c.self.inside.count = ap length (sym c.self.view_is) ∙ length-set_of c.self.inside.words.items c.self.inside.count in
-    let same : length c.args.wanted.now.current ≡ c.self.inside.count = c.requires.wanted ∙ count in
-    let other : length c.args.also.now.current ≡ c.self.inside.count = c.requires.also ∙ count in
-    united_in_with c.args.self.now c.self.inside.words.items c.as_mut_slice.result.now c.unite_masks_in.new.words _ c.args.row.now c.args.wanted.now.current c.args.also.now.current c.words.result.now c.words-2.result.now c.self.inside.count
-    c.self.view_is c.as_mut_slice.ensures.value
+    let same : length c.args.wanted.now.current ≡ c.self.inside.count = c.requires.wanted ∙ ap length (sym c.self.view_is) ∙ length-set_of c.self.inside.words.items c.self.inside.count in
+    united_in_with c.args.self.now c.self.inside.words.items c.as_mut_slice.result.now c.unite_masks_in.new.words _ c.args.row.now c.args.wanted.now.current c.words.result.now c.self.inside.count c.self.view_is c.as_mut_slice.ensures.value
     (with_items_is c.self.inside.words c.unite_masks_in.new.words (c.unite_masks_in.auto.words ∙ c.as_mut_slice.ensures.len))
-    (λ j h. c.words.ensures.bits j (omega arith)) (λ j h. c.words-2.ensures.bits j (omega arith)) c.unite_masks_in.ensures
+    (λ j h. c.words.ensures.bits j (omega arith)) c.unite_masks_in.ensures

@@ -1,7 +1,7 @@
 use Rattle.std.proofs.Common.{◌<◌, subst}
 use Rattle.narrowing.specs.declared.narrower.Narrower.{Narrower}
 use Rattle.narrowing.specs.Narrowers.{len_of}
-use Rattle.narrowing.proofs.Noting.{alone_noted}
+use Rattle.narrowing.proofs.Noting.{alone_noted, one_alone}
 use Rattle.narrowing.proofs.RestNoting.{all_awake, none_awake}
 use Rattle.narrowing.proofs.narrower.Narrower.note_alone.Goals as goal
 
@@ -17,3 +17,6 @@ returns-in-Alone-clause-knows c = all_awake c.args.self.now c.in-Alone.alone c.i
 
 pub returns-in-Alone-clause-let_rest : goal.returns-in-Alone-clause-let_rest
 returns-in-Alone-clause-let_rest c = none_awake c.args.self.now c.in-Alone.alone c.in-Alone.is c.note_alone.new.self.sets.asking.rests c.note_alone.ensures.awake
+
+pub returns-in-Alone-clause-alone : goal.returns-in-Alone-clause-alone
+returns-in-Alone-clause-alone c = one_alone _ c.args.v c.note_alone.new.self.sets.moved c.note_alone.ensures.moved

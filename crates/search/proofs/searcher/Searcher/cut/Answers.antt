@@ -8,7 +8,7 @@ use Rattle.narrowing.specs.Narrowers.{Fits, LetRest}
 use Rattle.search.specs.declared.kind.Kind.{Kind}
 use Rattle.search.specs.Costs.{IsObjectiveIn}
 use Rattle.search.specs.Machine.{cut_by}
-use Rattle.search.specs.Stacks.{AreSound, TellsCrossed}
+use Rattle.search.specs.Stacks.{own_on, below_on, own_of, AreSound, TellsCrossed}
 use Rattle.search.proofs.SearcherLaws.{near_inside, cut_lies, told_cut, not_crossed}
 use Rattle.search.proofs.searcher.Searcher.cut.Goals as goal
 
@@ -40,10 +40,10 @@ returns-in_ok-put-in-Some-clause-ready g c =
     c.in_ok-put-in-Some.ensures.current ∙ sym (subst (λ (b : Bounds). cut_by Kind.Least c.args.run.now.model.now.goal c.args.best b ≡ put_of b c.in-Some.cut.var c.in-Some.cut.low c.in-Some.cut.high) c.current.ensures (c.in-Some.ensures).0) in
     record {
       left = record {
-        sound = subst (λ (ls : List Left). AreSound c.args.run.now.model.now c.args.run.now.program.now.kernels ls c.args.self.now.fronts.items) (sym c.in_ok-put-in-Some.ensures.stack) c.requires.ready.left.sound;
+        sound = subst (λ (ls : List Left). AreSound c.args.run.now.model.now c.args.run.now.program.now.kernels (own_on ls c.args.self.now.fronts.items) c.args.self.now.fronts.items) (sym c.in_ok-put-in-Some.ensures.stack) c.requires.ready.left.sound;
         fits = subst (λ (n : ℕ). Fits c.put.new.narrower c.args.run.now.program.now.kernels n) (sym lengths) (c.in_ok-put-in-Some.ensures.fits c.args.run.now.program.now.kernels (length old) c.requires.ready.left.fits);
-        let_rest = subst (λ (ls : List Left). LetRest c.put.new.narrower c.args.run.now.program.now.kernels ls) (sym c.in_ok-put-in-Some.ensures.stack)
-            (c.in_ok-put-in-Some.ensures.let_rest c.args.run.now.program.now.kernels c.args.self.now.boxes.stack c.requires.ready.left.let_rest);
+        let_rest = subst (λ (ls : List Left). LetRest c.put.new.narrower c.args.run.now.program.now.kernels (own_on ls c.args.self.now.fronts.items)) (sym c.in_ok-put-in-Some.ensures.stack)
+            (c.in_ok-put-in-Some.ensures.let_rest c.args.run.now.program.now.kernels (own_of c.args.self.now) c.requires.ready.left.let_rest);
       };
       quiet = λ _. c.in_ok-put-in-Some.ensures.quiet c.args.run.now.program.now.kernels c.requires.run.kernels (c.requires.ready.quiet c.requires.open);
       knows = λ _ e.
@@ -66,3 +66,9 @@ returns-in_ok-put-in-Some-clause-count g c = ap length c.in_ok-put-in-Some.ensur
 pub returns-in_ok-put-in-Some-clause-current : goal.returns-in_ok-put-in-Some-clause-current
 returns-in_ok-put-in-Some-clause-current g c =
     c.in_ok-put-in-Some.ensures.current ∙ sym (subst (λ (b : Bounds). cut_by Kind.Least c.args.run.now.model.now.goal c.args.best b ≡ put_of b c.in-Some.cut.var c.in-Some.cut.low c.in-Some.cut.high) c.current.ensures (c.in-Some.ensures).0)
+
+pub returns-in_ok-put-in-Some-clause-own : goal.returns-in_ok-put-in-Some-clause-own
+returns-in_ok-put-in-Some-clause-own g c = ap (λ (ls : List Left). own_on ls c.args.self.now.fronts.items) c.in_ok-put-in-Some.ensures.stack
+
+pub returns-in_ok-put-in-Some-clause-below : goal.returns-in_ok-put-in-Some-clause-below
+returns-in_ok-put-in-Some-clause-below g c = ap (λ (ls : List Left). below_on ls c.args.self.now.fronts.items) c.in_ok-put-in-Some.ensures.stack

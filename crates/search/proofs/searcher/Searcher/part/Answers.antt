@@ -7,7 +7,8 @@ use Rattle.trailed_box.specs.declared.trail.Part.{Part}
 use Rattle.trailed_box.specs.Trailed.{Left, IsPart, left_of, boxes_of as left_boxes}
 use Rattle.branching.specs.Fronts.{right_by, left_by}
 use Rattle.narrowing.specs.Narrowers.{Fits, AreQuietUnlessNoted, Knows, LetRest}
-use Rattle.search.proofs.SearcherLaws.{sound_push, boxes_parted, told_proper, pair_proper}
+use Rattle.search.specs.Stacks.{own_on}
+use Rattle.search.proofs.SearcherLaws.{own_more, below_more, sound_push, boxes_parted, told_proper, pair_proper}
 use Rattle.search.proofs.searcher.Searcher.part.Goals as goal
 
 pub put-requires-clause-part : goal.put-requires-clause-part
@@ -33,14 +34,17 @@ returns-clause-ready g c =
     let lengths : length c.put.new.boxes.current ≡ length base = ap length is_base ∙ length-set base c.args.parts.pair _ in
     let kernels = c.args.run.now.program.now.kernels in
     let n = c.leave-2.new.self in
+    let mine = own_on c.args.self.now.boxes.stack c.args.self.now.fronts.items in
+    let more : own_on c.put.new.boxes.stack c.keep.new.fronts.items ≡ mine ++ left ∷ [] =
+    own_more c.put.new.boxes.stack c.args.self.now.boxes.stack c.keep.new.fronts.items c.args.self.now.fronts.items left c.args.front (c.in_ok-put.ensures.stack ∙ c.in_ok-leave.ensures.stack) c.in_ok-keep.ensures in
     let first_inside : IsInside (left_by base c.args.parts) base = c.requires.parts.first_part.inside in
     record {
       left = record {
-        sound = sound_push c.args.run.now.model.now c.args.run.now.program.now.kernels c.args.self.now.boxes.stack c.put.new.boxes.stack c.args.self.now.fronts.items c.keep.new.fronts.items left c.args.front
-            (c.in_ok-put.ensures.stack ∙ c.in_ok-leave.ensures.stack) c.in_ok-keep.ensures (record { closed = c.requires.closed; inside = c.requires.parts.second_part.inside; proper = c.requires.parts.second_part.proper }) c.requires.front c.requires.left.sound;
+        sound = sound_push c.args.run.now.model.now c.args.run.now.program.now.kernels mine (own_on c.put.new.boxes.stack c.keep.new.fronts.items) c.args.self.now.fronts.items c.keep.new.fronts.items left c.args.front
+            more c.in_ok-keep.ensures (record { closed = c.requires.closed; inside = c.requires.parts.second_part.inside; proper = c.requires.parts.second_part.proper }) c.requires.front c.requires.left.sound;
         fits = subst (λ (n : ℕ). Fits c.put.new.narrower c.args.run.now.program.now.kernels n) (sym lengths) (c.in_ok-put.ensures.fits c.args.run.now.program.now.kernels (length base) (c.in_ok-leave-2.ensures.fits kernels (length base) c.requires.left.fits));
-        let_rest = subst (λ (ls : List Left). LetRest c.put.new.narrower kernels ls) (sym (c.in_ok-put.ensures.stack ∙ c.in_ok-leave.ensures.stack))
-            (c.in_ok-put.ensures.let_rest kernels _ (c.in_ok-leave-2.ensures.let_rest kernels c.args.self.now.boxes.stack base c.args.parts.pair c.args.parts.right_low c.args.parts.right_high c.requires.rests c.requires.left.let_rest));
+        let_rest = subst (λ (ls : List Left). LetRest c.put.new.narrower kernels ls) (sym more)
+            (c.in_ok-put.ensures.let_rest kernels _ (c.in_ok-leave-2.ensures.let_rest kernels mine base c.args.parts.pair c.args.parts.right_low c.args.parts.right_high c.requires.rests c.requires.left.let_rest));
       };
       quiet = λ _. c.in_ok-put.ensures.quiet c.args.run.now.program.now.kernels (subst (λ (b : Bounds). All (IsKernel (length b)) c.args.run.now.program.now.kernels) (sym same) c.requires.run.kernels)
           (subst (λ (b : Bounds). AreQuietUnlessNoted n c.args.run.now.program.now.kernels b) (sym same) (c.law_quiet_where_closed.ensures n c.args.run.now.program.now.kernels base c.requires.closed));
@@ -68,6 +72,14 @@ returns-clause-boxes g c =
     let base = c.args.self.now.boxes.current in
     let is_base : c.put.new.boxes.current ≡ left_by base c.args.parts =
     c.in_ok-put.ensures.current ∙ ap (λ (p : Part). put_of c.leave.new.boxes.current p.var p.low p.high) c.first_part.ensures ∙ ap (λ (b : Bounds). left_by b c.args.parts) c.in_ok-leave.ensures.current in
-    boxes_parted c.args.self.now.is_open c.put.new.boxes.stack c.args.self.now.boxes.stack base c.put.new.boxes.current c.args.parts.pair c.args.parts.right_low c.args.parts.right_high
-    c.requires.open (c.in_ok-put.ensures.stack ∙ c.in_ok-leave.ensures.stack)
-    ∙ ap (λ (b : Bounds). left_boxes c.args.self.now.boxes.stack ++ right_by base c.args.parts ∷ b ∷ []) is_base
+    let left = left_of base c.args.parts.pair c.args.parts.right_low c.args.parts.right_high in
+    let mine = own_on c.args.self.now.boxes.stack c.args.self.now.fronts.items in
+    boxes_parted c.args.self.now.is_open (own_on c.put.new.boxes.stack c.keep.new.fronts.items) mine base c.put.new.boxes.current c.args.parts.pair c.args.parts.right_low c.args.parts.right_high
+    c.requires.open
+    (own_more c.put.new.boxes.stack c.args.self.now.boxes.stack c.keep.new.fronts.items c.args.self.now.fronts.items left c.args.front (c.in_ok-put.ensures.stack ∙ c.in_ok-leave.ensures.stack) c.in_ok-keep.ensures)
+    ∙ ap (λ (b : Bounds). left_boxes mine ++ right_by base c.args.parts ∷ b ∷ []) is_base
+
+pub returns-clause-below : goal.returns-clause-below
+returns-clause-below g c =
+    let left = left_of c.args.self.now.boxes.current c.args.parts.pair c.args.parts.right_low c.args.parts.right_high in
+    below_more c.put.new.boxes.stack c.args.self.now.boxes.stack c.keep.new.fronts.items c.args.self.now.fronts.items left c.args.front (c.in_ok-put.ensures.stack ∙ c.in_ok-leave.ensures.stack) c.in_ok-keep.ensures

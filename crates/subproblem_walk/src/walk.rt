@@ -373,8 +373,10 @@ impl Walk {
 
     /// Takes the box back that was given out for the last number, whatever was put and left above the way.
     pub fn take_back(&mut self, boxes: TrailedBox)
-        ensures { (model : FznModel) (kernels : List Kernel) (start : Bounds) → IsWalkFrom model kernels start self.old →
+        ensures walk { (model : FznModel) (kernels : List Kernel) (start : Bounds) → IsWalkFrom model kernels start self.old →
             IsOnWay model kernels start self.old boxes → IsWalkFrom model kernels start self.new }
+        ensures boxes { self.new.boxes ≡ Some boxes }
+        ensures way { (self.new.turns ≡ self.old.turns) × (self.new.end ≡ self.old.end) × (self.new.sets ≡ self.old.sets) }
     {
         self.boxes = Some(boxes);
     }

@@ -51,7 +51,7 @@ returns-in_ok-over-in-Some g c =
       parts = λ n h. c.run_first_from.ensures.parts ∙ h;
       kept = record {
         walk =
-            c.take_back.ensures (model_of plan) (kernels_in plan) plan.start.now c.subproblem.ensures.walk
+            c.take_back.ensures.walk (model_of plan) (kernels_in plan) plan.start.now c.subproblem.ensures.walk
             (taken_back plan c.requires.fits.0 c.subproblem.new.walk c.in-Some.found c.in_ok-over-in-Some.over.boxes
             (subst (StandsUnder (model_of plan) (kernels_in plan) plan.start.now c.subproblem.new.walk) c.in-Some.is c.in_ok-subproblem.ensures.under)
             (subst (λ (f : Option Subproblem). IfSome (box_of f) (λ b. IsInside b plan.run.now.program.now.start)) c.in-Some.is c.in_ok-subproblem.ensures.inside) c.in_ok-over-in-Some.ensures.over.0 c.in_ok-over-in-Some.ensures.over.1);

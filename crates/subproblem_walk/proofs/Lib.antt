@@ -2,3 +2,4 @@ pub mod CutterLemmas
 pub mod StartLemmas
 pub mod TurnLemmas
 pub mod WalkLemmas
+pub mod BeatenLemmas

@@ -10,9 +10,9 @@ use Rattle.trailed_box.specs.Trailed.{Left, box_of as left_box}
 use Rattle.subproblems.specs.declared.cutting.Cut.TheVariants.{Failed, Fixed, Parted}
 use Rattle.subproblems.specs.Paths.{IsBelow, LeadsTo}
 use Rattle.subproblem_walk.specs.declared.turns.Turn.{Turn}
-use Rattle.subproblem_walk.specs.declared.walk.End.{End}
+use Rattle.subproblem_walk.specs.declared.ends.End.{End}
 use Rattle.subproblem_walk.specs.Turns.{side_of, IsTurn, AreTurnsTo}
-use Rattle.subproblem_walk.specs.Walks.{IsStep, AreSteps, end_of, IsEnd, EndsAt, IsEndAt, IsLedTo}
+use Rattle.subproblem_walk.specs.Walks.{IsStep, AreSteps, end_of, IsEnd, MayEndAt, IsEndAt, IsLedTo, IsPathAt}
 
 -- ---- turns
 
@@ -112,22 +112,43 @@ module _ (model : FznModel) (kernels : List Kernel) where
   end_kept b now End.Part h = tt
   end_kept b now End.Failed h = h
   end_kept b now End.Fixed h = (now, h)
+  end_kept b now (End.Beaten cost) h = h
 
   -- the box at the end is what the rest of a number leads to
-  pub end_leads : (below rest : ℕ) (b now : Bounds) (end : End) → EndsAt below end → IsEndAt model kernels b now end → IsLedTo end rest → LeadsTo model kernels below b rest (Some now)
+  pub end_leads : (below rest : ℕ) (b now : Bounds) (end : End) → MayEndAt below end → IsEndAt model kernels b now end → IsLedTo end rest → LeadsTo model kernels below b rest (Some now)
   end_leads zero rest b now End.Part e h led = ap (λ (x : Bounds). Some x) h
   end_leads (suc below) rest b now End.Part e h led = absurd (omega (arith, e))
   end_leads below rest b now End.Failed e h led = absurd led
+  end_leads below rest b now (End.Beaten cost) e h led = absurd led
   end_leads zero rest b now End.Fixed e h led = absurd (omega (arith, e))
   end_leads (suc below) rest b now End.Fixed e h led = (Fixed now, (h.greatest, h.fixed), ((λ zero_is. refl), λ other. absurd (other led)))
 
-  -- or it leads nowhere
-  pub end_nowhere : (below rest : ℕ) (b : Bounds) (end : End) → EndsAt below end → IsEnd model kernels b end → (IsLedTo end rest → ⊥) → LeadsTo model kernels below b rest None
+  -- so is what is found there
+  pub led_path : (depth number rest : ℕ) (b : Bounds) (end : End) (found : Option Bounds) → IsLedTo end rest → LeadsTo model kernels depth b number found →
+      IsPathAt model kernels depth b number end found
+  led_path depth number rest b End.Part found led h = h
+  led_path depth number rest b End.Failed found led h = h
+  led_path depth number rest b End.Fixed found led h = h
+  led_path depth number rest b (End.Beaten cost) found led h = absurd led
+
+  -- or it leads nowhere, or to what is beaten
+  pub end_nowhere : (below rest : ℕ) (b : Bounds) (end : End) → MayEndAt below end → IsEnd model kernels b end → (IsLedTo end rest → ⊥) →
+      IsPathAt model kernels below b rest end None
   end_nowhere below rest b End.Part e h never = absurd (never tt)
   end_nowhere zero rest b End.Failed e h never = absurd (omega (arith, e))
   end_nowhere (suc below) rest b End.Failed e h never = (Failed, h, refl)
   end_nowhere zero rest b End.Fixed e h never = absurd (omega (arith, e))
   end_nowhere (suc below) rest b End.Fixed e h never = (Fixed h.0, (h.1.greatest, h.1.fixed), ((λ zero_is. absurd (never zero_is)), λ other. refl))
+  end_nowhere below rest b (End.Beaten cost) e h never = refl
+
+  -- and so does the number of which it is the rest
+  pub path_through : (depth number below rest : ℕ) (b : Bounds) (turns : List Turn) (way : List Left) (end : End) (found : Option Bounds) →
+      AreSteps model kernels b turns way → AreTurnsTo depth number turns below rest → IsPathAt model kernels below (end_of b way) rest end found →
+      IsPathAt model kernels depth b number end found
+  path_through depth number below rest b turns way End.Part found s t h = leads_through depth number below rest b turns way found s t h
+  path_through depth number below rest b turns way End.Failed found s t h = leads_through depth number below rest b turns way found s t h
+  path_through depth number below rest b turns way End.Fixed found s t h = leads_through depth number below rest b turns way found s t h
+  path_through depth number below rest b turns way (End.Beaten cost) found s t h = h
 
 -- ---- turns that are the same
 

@@ -21,10 +21,10 @@ use Rattle.subproblem_walk.specs.Nodes.{IsPartedAt}
 use Rattle.trailed_box.specs.declared.trail.Part.{Part}
 use Rattle.trailed_box.specs.declared.trailed.TrailedBox.{TrailedBox}
 use Rattle.subproblem_walk.specs.declared.cutter.Subproblem.{Subproblem}
-use Rattle.subproblem_walk.specs.declared.walk.End.{End}
+use Rattle.subproblem_walk.specs.declared.ends.End.{End}
 use Rattle.subproblem_walk.specs.declared.walk.Walk.{Walk}
-use Rattle.subproblem_walk.specs.Walks.{IsStep, AreSteps, end_of, IsEnd, IsEndAt, EndsAt, StandsOn, IsOnWay, IsLedTo, IsAt, IsBackAt, TakesTurn, IsReached, IsAnswer}
-use Rattle.subproblem_walk.proofs.TurnLemmas.{turns_append, no_turn, turn_first, steps_append, end_append, same_count, steps_take, step_at, leads_through, end_kept, end_leads, end_nowhere}
+use Rattle.subproblem_walk.specs.Walks.{IsStep, AreSteps, end_of, IsEnd, IsEndAt, MayEndAt, IsEndFor, StandsOn, IsOnWay, IsLedTo, IsAt, IsBackAt, TakesTurn, IsReached, IsPathAt, IsAnswer}
+use Rattle.subproblem_walk.proofs.TurnLemmas.{turns_append, no_turn, turn_first, steps_append, end_append, same_count, steps_take, step_at, leads_through, end_kept, end_leads, end_nowhere, led_path, path_through}
 
 -- a box of as many variables can be cut too
 pub can_again : (model : FznModel) (kernels : List Kernel) (b c : Bounds) → CanBeCut model kernels b → length c ≡ length b → IsInRange c → CanBeCut model kernels c
@@ -170,18 +170,16 @@ pub popped : (r : Option Part) (old new : List Left) (now : Bounds) → 0 < leng
 popped None old new now some none h = absurd (let e = ap (λ (ls : List Left). length ls) none in omega (arith, some, e))
 popped (Some p) old new now some none h = (left_of now p.var p.low p.high, h, refl)
 
--- a box to which a number leads isn't a failed one
-pub led_not_failed : (end : End) (rest : ℕ) → IsLedTo end rest → end ≢ End.Failed
-led_not_failed end rest led e = subst (λ (x : End). IsLedTo x rest) e led
-
 -- a box that isn't a part, above the depth of the parts
-pub ends_above : (below : ℕ) (end : End) → (end ≡ End.Part → ⊥) → 0 < below → EndsAt below end
+pub ends_above : (below : ℕ) (end : End) → (end ≡ End.Part → ⊥) → 0 < below → MayEndAt below end
 ends_above below End.Part other h = absurd (other refl)
 ends_above below End.Failed other h = h
 ends_above below End.Fixed other h = h
+ends_above below (End.Beaten cost) other h = h
 
 module _ (model : FznModel) (kernels : List Kernel) (start : Bounds) (whole : Address) (walk : Walk) (boxes : Trailed) (reached : Reached)
-    (t : IsThere model kernels start whole walk.turns.items boxes reached) (same : walk.end ≡ reached.end) where
+    (t : IsThere model kernels start whole walk.turns.items boxes reached) (same : walk.end ≡ reached.end)
+    (best : Option ℤ) (end_for : IsEndFor best reached.end) where
   -- the whole way stays known
   pub stands_there : StandsOn model kernels start walk boxes.stack
   stands_there = record {
@@ -198,31 +196,36 @@ module _ (model : FznModel) (kernels : List Kernel) (start : Bounds) (whole : Ad
   own_way (Some b) h l = subst (IsOnWay model kernels start walk) (sym h) (way_there l)
 
   -- the box at its end is the answer
-  pub answer_there : (sub : Subproblem) → sub.boxes ≡ boxes → EndsAt reached.rest.depth reached.end → IsLedTo reached.end reached.rest.number →
-      IsMadeBy sub.changed kernels sub.boxes.current → (whole.depth ≢ 0 → sub.changed ≢ None) → IsAnswer model kernels start whole.depth whole.number walk (Some sub)
+  pub answer_there : (sub : Subproblem) → sub.boxes ≡ boxes → MayEndAt reached.rest.depth reached.end → IsLedTo reached.end reached.rest.number →
+      IsMadeBy sub.changed kernels sub.boxes.current → (whole.depth ≢ 0 → sub.changed ≢ None) → IsAnswer model kernels start whole.depth whole.number best walk (Some sub)
   answer_there sub is ends led made told = record {
     path =
-        leads_through model kernels whole.depth whole.number reached.rest.depth reached.rest.number start walk.turns.items boxes.stack (Some sub.boxes.current) t.steps t.to
+        subst (λ (e : End). IsPathAt model kernels whole.depth start whole.number e (Some sub.boxes.current)) (sym same)
+        (led_path model kernels whole.depth whole.number reached.rest.number start reached.end (Some sub.boxes.current) led
+        (leads_through model kernels whole.depth whole.number reached.rest.depth reached.rest.number start walk.turns.items boxes.stack (Some sub.boxes.current) t.steps t.to
         (end_leads model kernels reached.rest.depth reached.rest.number (end_of start boxes.stack) sub.boxes.current reached.end ends
-        (subst (λ (x : Trailed). IsEndAt model kernels (end_of start boxes.stack) x.current reached.end) (sym is) t.end) led);
+        (subst (λ (x : Trailed). IsEndAt model kernels (end_of start boxes.stack) x.current reached.end) (sym is) t.end) led)));
+    end_for = subst (IsEndFor best) (sym same) end_for;
     made = made;
     told = told;
     under = subst (λ (x : Trailed). StandsOn model kernels start walk x.stack) (sym is) stands_there;
-    way = record { below = reached.rest.depth; rest = reached.rest.number; turns = t.to; ends = subst (EndsAt reached.rest.depth) (sym same) ends };
+    way = record { below = reached.rest.depth; rest = reached.rest.number; turns = t.to; ends = subst (MayEndAt reached.rest.depth) (sym same) ends };
   }
 
-  -- or it leads nowhere
-  pub answer_nowhere : length boxes.current ≡ length start → MatchOption walk.boxes ⊥ (λ own. own ≡ boxes) → EndsAt reached.rest.depth reached.end →
-      (IsLedTo reached.end reached.rest.number → ⊥) → IsAnswer model kernels start whole.depth whole.number walk None
+  -- or there is none
+  pub answer_nowhere : length boxes.current ≡ length start → MatchOption walk.boxes ⊥ (λ own. own ≡ boxes) → MayEndAt reached.rest.depth reached.end →
+      (IsLedTo reached.end reached.rest.number → ⊥) → IsAnswer model kernels start whole.depth whole.number best walk None
   answer_nowhere l is ends never = record {
     path =
-        leads_through model kernels whole.depth whole.number reached.rest.depth reached.rest.number start walk.turns.items boxes.stack None t.steps t.to
+        subst (λ (e : End). IsPathAt model kernels whole.depth start whole.number e None) (sym same)
+        (path_through model kernels whole.depth whole.number reached.rest.depth reached.rest.number start walk.turns.items boxes.stack reached.end None t.steps t.to
         (end_nowhere model kernels reached.rest.depth reached.rest.number (end_of start boxes.stack) reached.end ends
-        (end_kept model kernels (end_of start boxes.stack) boxes.current reached.end t.end) never);
+        (end_kept model kernels (end_of start boxes.stack) boxes.current reached.end t.end) never));
+    end_for = subst (IsEndFor best) (sym same) end_for;
     made = tt;
     told = λ some. tt;
     under = own_way walk.boxes is l;
-    way = record { below = reached.rest.depth; rest = reached.rest.number; turns = t.to; ends = subst (EndsAt reached.rest.depth) (sym same) ends };
+    way = record { below = reached.rest.depth; rest = reached.rest.number; turns = t.to; ends = subst (MayEndAt reached.rest.depth) (sym same) ends };
   }
 
 -- what is so of each result is so of one that there is

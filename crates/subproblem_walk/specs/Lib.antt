@@ -1,3 +1,4 @@
 pub mod Turns
 pub mod Nodes
+pub mod Beaten
 pub mod Walks

@@ -1,5 +1,5 @@
 -- What a walk knows of the way to the number that it was asked for last.
-use Rattle.std.specs.Prelude.{◌≡◌, ◌≢◌, ℕ, ◌<◌, List, [], ◌∷◌, ◌++◌, length, Option, None, Some, IfSome, MatchOption}
+use Rattle.std.specs.Prelude.{◌≡◌, ◌≢◌, ℕ, ◌<◌, ℤ, ◌≤ℤ◌, List, [], ◌∷◌, ◌++◌, length, Option, None, Some, IfSome, MatchOption}
 use Rattle.interval.specs.Boxes.{Bounds}
 use Rattle.guarded_tell.specs.declared.kernel.Kernel.{Kernel}
 use Rattle.fixpoint_laws.specs.Fixpoints.{IsGreatest, Fails}
@@ -13,11 +13,12 @@ use Rattle.subproblems.specs.Paths.{LeadsTo}
 use Rattle.subproblem_walk.specs.declared.turns.Turn.{Turn}
 use Rattle.subproblem_walk.specs.declared.turns.Address.{Address}
 use Rattle.subproblem_walk.specs.declared.cutter.Subproblem.{Subproblem}
-use Rattle.subproblem_walk.specs.declared.walk.End.{End}
+use Rattle.subproblem_walk.specs.declared.ends.End.{End}
 use Rattle.subproblem_walk.specs.declared.walk.Reached.{Reached}
 use Rattle.subproblem_walk.specs.declared.walk.Walk.{Walk}
 use Rattle.subproblem_walk.specs.Turns.{side_of, AreTurnsTo}
 use Rattle.subproblem_walk.specs.Nodes.{IsPartedAt, MayServe}
+use Rattle.subproblem_walk.specs.Beaten.{CostsFrom, IsBeaten}
 
 -- a turn at the greatest closed box of a box: that is the base of what is left on the stack, which is the part on the turn's side
 pub record IsStep (model : FznModel) (kernels : List Kernel) (b : Bounds) (turn : Turn) (left : Left) : Type 0 where
@@ -47,6 +48,7 @@ abbrev pub IsEnd : FznModel → List Kernel → Bounds → End → Type 0
 IsEnd model kernels b End.Part = Unit {0}
 IsEnd model kernels b End.Failed = Fails b kernels
 IsEnd model kernels b End.Fixed = (closed : Bounds) × IsSolvedBy model kernels b closed
+IsEnd model kernels b (End.Beaten cost) = IsBeaten model kernels cost b
 
 -- what the walk knows of its way stands on a stack
 pub record StandsOn (model : FznModel) (kernels : List Kernel) (start : Bounds) (walk : Walk) (way : List Left) : Type 0 where
@@ -88,6 +90,7 @@ abbrev pub EndsAt : ℕ → End → Type 0
 EndsAt below End.Part = below ≡ 0
 EndsAt below End.Failed = 0 < below
 EndsAt below End.Fixed = 0 < below
+EndsAt below (End.Beaten cost) = ⊥
 
 -- the walk's way is the whole one to a number to a depth
 pub record IsWayTo (depth number : ℕ) (walk : Walk) : Type 0 where
@@ -95,6 +98,33 @@ pub record IsWayTo (depth number : ℕ) (walk : Walk) : Type 0 where
   pub rest : ℕ
   pub turns : AreTurnsTo depth number walk.turns.items below rest
   pub ends : EndsAt below walk.end
+
+-- it may end at a beaten box too
+abbrev pub MayEndAt : ℕ → End → Type 0
+MayEndAt below End.Part = below ≡ 0
+MayEndAt below End.Failed = 0 < below
+MayEndAt below End.Fixed = 0 < below
+MayEndAt below (End.Beaten cost) = 0 < below
+
+pub record IsWayTowards (depth number : ℕ) (walk : Walk) : Type 0 where
+  pub below : ℕ
+  pub rest : ℕ
+  pub turns : AreTurnsTo depth number walk.turns.items below rest
+  pub ends : MayEndAt below walk.end
+
+-- where the box at the end is beaten, it is so by the best cost
+abbrev pub IsEndFor : Option ℤ → End → Type 0
+IsEndFor best End.Part = Unit {0}
+IsEndFor best End.Failed = Unit {0}
+IsEndFor best End.Fixed = Unit {0}
+IsEndFor best (End.Beaten cost) = MatchOption best ⊥ (λ lowest. lowest ≤ℤ cost)
+
+-- the end at a box that the best cost beats
+abbrev pub IsBeatenEnd : FznModel → Option ℤ → Bounds → End → Type 0
+IsBeatenEnd model best b End.Part = ⊥
+IsBeatenEnd model best b End.Failed = ⊥
+IsBeatenEnd model best b End.Fixed = ⊥
+IsBeatenEnd model best b (End.Beaten cost) = (best ≡ Some cost) × CostsFrom model.goal cost b
 
 -- a box whose current one is at the end of a way
 pub record IsAt (model : FznModel) (kernels : List Kernel) (start : Bounds) (turns : List Turn) (boxes : Trailed) : Type 0 where
@@ -122,6 +152,7 @@ abbrev pub IsEndAt : FznModel → List Kernel → Bounds → Bounds → End → 
 IsEndAt model kernels b now End.Part = now ≡ b
 IsEndAt model kernels b now End.Failed = Fails b kernels
 IsEndAt model kernels b now End.Fixed = IsSolvedBy model kernels b now
+IsEndAt model kernels b now (End.Beaten cost) = IsBeaten model kernels cost b
 
 -- how a way was gone on from a box
 pub record IsReached (model : FznModel) (kernels : List Kernel) (address : Address) (old new : Trailed) (before after : List Turn) (reached : Reached) : Type 0 where
@@ -131,7 +162,7 @@ pub record IsReached (model : FznModel) (kernels : List Kernel) (address : Addre
   pub is_way : new.stack ≡ old.stack ++ way
   pub steps : AreSteps model kernels old.current turns way
   pub to : AreTurnsTo address.depth address.number turns reached.rest.depth reached.rest.number
-  pub ends : EndsAt reached.rest.depth reached.end
+  pub ends : MayEndAt reached.rest.depth reached.end
   pub end : IsEndAt model kernels (end_of old.current way) new.current reached.end
 
 -- the box at the end of a way is what the number leads to: one that fixes each declared variable is so by number 0 alone
@@ -139,11 +170,20 @@ abbrev pub IsLedTo : End → ℕ → Type 0
 IsLedTo End.Part number = Unit {0}
 IsLedTo End.Failed number = ⊥
 IsLedTo End.Fixed number = number ≡ 0
+IsLedTo (End.Beaten cost) number = ⊥
 
--- what a walk answers
-pub record IsAnswer (model : FznModel) (kernels : List Kernel) (start : Bounds) (depth number : ℕ) (walk : Walk) (found : Option Subproblem) : Type 0 where
-  pub path : LeadsTo model kernels depth start number (box_of found)
+-- what is found is what the number leads to, or nothing where the box at the end of the way is beaten
+abbrev pub IsPathAt : FznModel → List Kernel → ℕ → Bounds → ℕ → End → Option Bounds → Type 0
+IsPathAt model kernels depth b number End.Part found = LeadsTo model kernels depth b number found
+IsPathAt model kernels depth b number End.Failed found = LeadsTo model kernels depth b number found
+IsPathAt model kernels depth b number End.Fixed found = LeadsTo model kernels depth b number found
+IsPathAt model kernels depth b number (End.Beaten cost) found = found ≡ None
+
+-- what a walk answers where so much is the best cost
+pub record IsAnswer (model : FznModel) (kernels : List Kernel) (start : Bounds) (depth number : ℕ) (best : Option ℤ) (walk : Walk) (found : Option Subproblem) : Type 0 where
+  pub path : IsPathAt model kernels depth start number walk.end (box_of found)
+  pub end_for : IsEndFor best walk.end
   pub made : IsMadeFrom kernels found
   pub told : depth ≢ 0 → IsTold found
   pub under : StandsUnder model kernels start walk found
-  pub way : IsWayTo depth number walk
+  pub way : IsWayTowards depth number walk

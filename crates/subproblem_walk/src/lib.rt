@@ -7,6 +7,7 @@
 #![tactic(auto)]
 
 mod cutter;
+mod ends;
 mod tree;
 mod turns;
 mod walk;

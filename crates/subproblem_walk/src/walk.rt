@@ -6,6 +6,7 @@ ghost use Rattle.interval.specs.Boxes.{Bounds, IsInside, put_of};
 ghost use Rattle.guarded_tell.specs.declared.kernel.Kernel.{Kernel};
 ghost use Rattle.constraint_model.specs.declared.model.FznModel.{FznModel};
 ghost use Rattle.constraint_model.specs.Searches.{IsSearchOf};
+ghost use Rattle.constraint_model.specs.WellFormed.{IsGoalOf};
 ghost use Rattle.decompose.specs.Program.{IsProgramOf};
 ghost use Rattle.fixpoint_laws.specs.Fixpoints.{IsClosed};
 ghost use Rattle.branching.specs.Fronts.{FitsBox};
@@ -15,29 +16,20 @@ ghost use Rattle.moved_fixpoint.specs.Moved.{AreMasksOf};
 ghost use Rattle.subproblems.specs.Cuts.{CanBeCut};
 ghost use Rattle.subproblems.specs.Paths.{LeadsTo};
 ghost use Rattle.subproblem_walk.specs.Nodes.{IsPartedAt, Serve, MayServe};
+ghost use Rattle.subproblem_walk.specs.Beaten.{LeadsBelow};
 ghost use Rattle.subproblem_walk.specs.Turns.{IsTurn, AreTurnsTo};
-ghost use Rattle.subproblem_walk.specs.Walks.{IsWalkFrom, IsOnWay, IsWayTo, StandsOn, StandsUnder, AreSteps, IsAt, IsBackAt, IsReached, IsAnswer, IsLedTo, TakesTurn, box_of, IsMadeFrom, IsTold};
+ghost use Rattle.subproblem_walk.specs.Walks.{IsWalkFrom, IsOnWay, IsWayTo, StandsOn, StandsUnder, AreSteps, IsAt, IsBackAt, IsWayTowards, IsEndFor, IsPathAt, IsReached, IsAnswer, IsLedTo, TakesTurn, box_of, IsMadeFrom, IsTold};
 
 use crate::cutter::{Node, Subproblem, cut};
+use crate::ends::{End, beaten_end, is_end_for, is_led_to};
 use crate::tree::Tree;
 use crate::turns::{Address, Turn, first_turn, fork, part_on, shared_turns};
 use branching::Branching;
-use interval::NoMemory;
+use interval::{NoMemory, law_inside_order};
 use moved_fixpoint::MovedSets;
 use std::alloc::{AllocError, Global};
 use subproblems::{law_cuts, law_paths};
 use trailed_box::{Part, TrailedBox};
-
-/// What the box at the end of the way is.
-#[derive(Clone, Copy)]
-pub enum End {
-    /// A part, to which a number leads. It wasn't cut.
-    Part,
-    /// One that has no closed box inside.
-    Failed,
-    /// One whose greatest closed box fixes each declared variable.
-    Fixed,
-}
 
 /// What a way comes to.
 #[derive(Clone, Copy)]
@@ -131,22 +123,25 @@ fn take_turn(
     Ok(rest)
 }
 
-/// Goes down from a box to where the address leads.
+/// Goes down from a box to where the address leads, or to a closed box that the best cost beats.
 fn lead(
     tree: &Tree<'_>,
     sub: &mut Subproblem,
     turns: &mut Vec<Turn>,
     sets: &mut MovedSets,
     address: Address,
+    best: Option<i64>,
 ) -> Result<Reached, NoMemory>
     requires cut { CanBeCut tree.now.model.now tree.now.program.now.kernels sub.old.boxes.current }
     requires masks { AreMasksOf tree.now.program.now.kernels (length sub.old.boxes.current) tree.now.masks.now }
     requires made { IsMadeBy sub.old.changed tree.now.program.now.kernels sub.old.boxes.current }
     requires sets { Serve sets.old tree.now.program.now.kernels (length sub.old.boxes.current) }
     requires depth { address.depth ≤ 16 }
+    requires goal { IfSome best (λ _. IsGoalOf tree.now.model.now.vars tree.now.model.now.goal) }
     ensures way { IfOk result (IsReached tree.now.model.now tree.now.program.now.kernels address sub.old.boxes sub.new.boxes turns.old.items turns.new.items) }
-    ensures made { IfOk result (λ reached. reached.end ≢ End.Failed → IsMadeBy sub.new.changed tree.now.program.now.kernels sub.new.boxes.current) }
-    ensures told { (address.depth ≡ 0 → sub.old.changed ≢ None) → IfOk result (λ reached. reached.end ≢ End.Failed → sub.new.changed ≢ None) }
+    ensures end_for { IfOk result (λ reached. IsEndFor best reached.end) }
+    ensures made { IfOk result (λ reached. IsLedTo reached.end reached.rest.number → IsMadeBy sub.new.changed tree.now.program.now.kernels sub.new.boxes.current) }
+    ensures told { (address.depth ≡ 0 → sub.old.changed ≢ None) → IfOk result (λ reached. IsLedTo reached.end reached.rest.number → sub.new.changed ≢ None) }
     ensures length { length sub.new.boxes.current ≡ length sub.old.boxes.current }
     ensures sets { OnOk result (Serve sets.new tree.now.program.now.kernels (length sub.old.boxes.current)) }
 {
@@ -170,24 +165,15 @@ fn lead(
             })
         }
         Node::Parted(branching) => {
+            if let Some(end) = beaten_end(tree.model, best, sub.boxes.current()) {
+                return Ok(Reached { end, rest: address });
+            }
             let rest = take_turn(sub, turns, branching, address)?;
             // its contract says that the bounds are in range
             let _length = sub.boxes.len();
-            let reached = lead(tree, sub, turns, sets, rest)?;
+            let reached = lead(tree, sub, turns, sets, rest, best)?;
             Ok(reached)
         }
-    }
-}
-
-/// Whether the box at the end of a way is what the number leads to: a solution is so by number 0 alone.
-fn is_led_to(end: End, number: u32) -> bool
-    ensures led { OnTrue result (IsLedTo end number) }
-    ensures not { OnFalse result (IsLedTo end number → ⊥) }
-{
-    match end {
-        End::Part => true,
-        End::Failed => false,
-        End::Fixed => number == 0,
     }
 }
 
@@ -247,13 +233,69 @@ impl Walk {
         law_paths();
         // its contract says that the bounds are in range
         let _length = tree.start.len();
+        self.go(alloc, tree, number, None)
+    }
+
+    /// The same where so much is the best cost: nothing too where that is known to beat what the number leads to.
+    pub fn path_box_below(
+        &mut self,
+        alloc: Global,
+        tree: &Tree<'_>,
+        number: u32,
+        best: Option<i64>,
+    ) -> Result<Option<Subproblem>, NoMemory>
+        requires program { IsProgramOf tree.now.model.now tree.now.program.now }
+        requires masks { AreMasksOf tree.now.program.now.kernels (length tree.now.program.now.start) tree.now.masks.now }
+        requires phases { IsSearchOf tree.now.model.now }
+        requires length { length tree.now.start.now ≡ length tree.now.program.now.start }
+        requires depth { tree.now.depth ≤ 16 }
+        requires number { number < 2 ^ tree.now.depth }
+        requires walk { IsWalkFrom tree.now.model.now tree.now.program.now.kernels tree.now.start.now self.old }
+        requires goal { IfSome best (λ _. IsGoalOf tree.now.model.now.vars tree.now.model.now.goal) }
+        ensures path { IfOk result (λ found. LeadsBelow tree.now.model.now tree.now.program.now.kernels tree.now.depth tree.now.start.now number best (box_of found)) }
+        ensures inside { IfOk result (λ found. IfSome (box_of found) (λ b. IsInside b tree.now.start.now)) }
+        ensures made { IfOk result (IsMadeFrom tree.now.program.now.kernels) }
+        ensures told { tree.now.depth ≢ 0 → IfOk result IsTold }
+        ensures walk { IsWalkFrom tree.now.model.now tree.now.program.now.kernels tree.now.start.now self.new }
+        ensures over { IfOk result (StandsUnder tree.now.model.now tree.now.program.now.kernels tree.now.start.now self.new) }
+        ensures kept { OnOk result (IsWayTowards tree.now.depth number self.new) }
+    {
+        law_inside_order();
+        law_paths();
+        law_cuts();
+        // its contract says that the bounds are in range
+        let _length = tree.start.len();
+        self.go(alloc, tree, number, best)
+    }
+
+    /// Goes to a number, as far as the best cost, if there is one, beats no box on the way.
+    fn go(
+        &mut self,
+        alloc: Global,
+        tree: &Tree<'_>,
+        number: u32,
+        best: Option<i64>,
+    ) -> Result<Option<Subproblem>, NoMemory>
+        requires program { IsProgramOf tree.now.model.now tree.now.program.now }
+        requires masks { AreMasksOf tree.now.program.now.kernels (length tree.now.program.now.start) tree.now.masks.now }
+        requires phases { IsSearchOf tree.now.model.now }
+        requires length { length tree.now.start.now ≡ length tree.now.program.now.start }
+        requires depth { tree.now.depth ≤ 16 }
+        requires number { number < 2 ^ tree.now.depth }
+        requires walk { IsWalkFrom tree.now.model.now tree.now.program.now.kernels tree.now.start.now self.old }
+        requires goal { IfSome best (λ _. IsGoalOf tree.now.model.now.vars tree.now.model.now.goal) }
+        ensures answer { IfOk result (IsAnswer tree.now.model.now tree.now.program.now.kernels tree.now.start.now tree.now.depth number best self.new) }
+        ensures walk { IsWalkFrom tree.now.model.now tree.now.program.now.kernels tree.now.start.now self.new }
+    {
+        // its contract says that the bounds are in range
+        let _length = tree.start.len();
         let address = Address {
             depth: tree.depth,
             number,
         };
         match self.boxes.take() {
-            None => self.from_start(alloc, tree, address),
-            Some(boxes) => self.from_last(alloc, tree, address, boxes),
+            None => self.from_start(alloc, tree, address, best),
+            Some(boxes) => self.from_last(alloc, tree, address, boxes, best),
         }
     }
 
@@ -264,43 +306,55 @@ impl Walk {
         tree: &Tree<'_>,
         address: Address,
         boxes: TrailedBox,
+        best: Option<i64>,
     ) -> Result<Option<Subproblem>, NoMemory>
         requires cut { CanBeCut tree.now.model.now tree.now.program.now.kernels tree.now.start.now }
         requires masks { AreMasksOf tree.now.program.now.kernels (length tree.now.start.now) tree.now.masks.now }
         requires depth { address.depth ≤ 16 }
+        requires goal { IfSome best (λ _. IsGoalOf tree.now.model.now.vars tree.now.model.now.goal) }
         requires sets { MayServe self.old.sets tree.now.program.now.kernels (length tree.now.start.now) }
         requires none { self.old.boxes ≡ None }
         requires way { IsOnWay tree.now.model.now tree.now.program.now.kernels tree.now.start.now self.old boxes }
-        ensures answer { IfOk result (IsAnswer tree.now.model.now tree.now.program.now.kernels tree.now.start.now address.depth address.number self.new) }
+        ensures answer { IfOk result (IsAnswer tree.now.model.now tree.now.program.now.kernels tree.now.start.now address.depth address.number best self.new) }
         ensures walk { IsWalkFrom tree.now.model.now tree.now.program.now.kernels tree.now.start.now self.new }
     {
-        if self.ends_before(address) {
+        if self.ends_before(address, best) {
             self.boxes = Some(boxes);
             return Ok(None);
         }
         match fork(self.turns.as_slice(), address) {
-            None => self.from_start(alloc, tree, address),
+            None => self.from_start(alloc, tree, address, best),
             Some(shared) => {
                 let mut boxes = boxes;
                 let branching = back_to(&mut boxes, &mut self.turns, shared.count);
+                // it may have become better since the box was closed
+                if let Some(end) = beaten_end(tree.model, best, boxes.current()) {
+                    self.end = end;
+                    self.boxes = Some(boxes);
+                    return Ok(None);
+                }
                 let mut sub = Subproblem {
                     boxes,
                     changed: None,
                 };
                 let rest = take_turn(&mut sub, &mut self.turns, branching, shared.rest)?;
-                self.go_down(alloc, tree, sub, address, rest)
+                self.go_down(alloc, tree, sub, address, rest, best)
             }
         }
     }
 
-    /// Whether the way to the last number ends at a box below which this number leads nowhere.
-    fn ends_before(&self, address: Address) -> bool
+    /// Whether the way to the last number ends at a box below which this number leads nowhere, or to what the best cost beats.
+    fn ends_before(&self, address: Address, best: Option<i64>) -> bool
         requires { address.depth ≤ 16 }
         ensures none { (model : FznModel) (kernels : List Kernel) (start : Bounds) (way : List Left) → StandsOn model kernels start self.now way →
-            OnTrue result (LeadsTo model kernels address.depth start address.number None) }
-        ensures way { OnTrue result (IsWayTo address.depth address.number self.now) }
+            OnTrue result (IsPathAt model kernels address.depth start address.number self.now.end None) }
+        ensures end_for { OnTrue result (IsEndFor best self.now.end) }
+        ensures way { OnTrue result (IsWayTowards address.depth address.number self.now) }
     {
         if let End::Part = self.end {
+            return false;
+        }
+        if !is_end_for(self.end, best) {
             return false;
         }
         let turns = self.turns.as_slice();
@@ -320,13 +374,15 @@ impl Walk {
         alloc: Global,
         tree: &Tree<'_>,
         address: Address,
+        best: Option<i64>,
     ) -> Result<Option<Subproblem>, NoMemory>
         requires cut { CanBeCut tree.now.model.now tree.now.program.now.kernels tree.now.start.now }
         requires masks { AreMasksOf tree.now.program.now.kernels (length tree.now.start.now) tree.now.masks.now }
         requires depth { address.depth ≤ 16 }
+        requires goal { IfSome best (λ _. IsGoalOf tree.now.model.now.vars tree.now.model.now.goal) }
         requires sets { MayServe self.old.sets tree.now.program.now.kernels (length tree.now.start.now) }
         requires none { self.old.boxes ≡ None }
-        ensures answer { IfOk result (IsAnswer tree.now.model.now tree.now.program.now.kernels tree.now.start.now address.depth address.number self.new) }
+        ensures answer { IfOk result (IsAnswer tree.now.model.now tree.now.program.now.kernels tree.now.start.now address.depth address.number best self.new) }
         ensures walk { IsWalkFrom tree.now.model.now tree.now.program.now.kernels tree.now.start.now self.new }
     {
         self.turns.clear();
@@ -334,7 +390,7 @@ impl Walk {
             boxes: TrailedBox::new(alloc, tree.start.copy(alloc)?)?,
             changed: None,
         };
-        self.go_down(alloc, tree, sub, address, address)
+        self.go_down(alloc, tree, sub, address, address, best)
     }
 
     /// Goes down from a box to where the address leads.
@@ -345,10 +401,12 @@ impl Walk {
         sub: Subproblem,
         whole: Address,
         rest: Address,
+        best: Option<i64>,
     ) -> Result<Option<Subproblem>, NoMemory>
         requires cut { CanBeCut tree.now.model.now tree.now.program.now.kernels tree.now.start.now }
         requires masks { AreMasksOf tree.now.program.now.kernels (length tree.now.start.now) tree.now.masks.now }
         requires depth { rest.depth ≤ 16 }
+        requires goal { IfSome best (λ _. IsGoalOf tree.now.model.now.vars tree.now.model.now.goal) }
         requires sets { MayServe self.old.sets tree.now.program.now.kernels (length tree.now.start.now) }
         requires none { self.old.boxes ≡ None }
         requires at { IsAt tree.now.model.now tree.now.program.now.kernels tree.now.start.now self.old.turns.items sub.boxes }
@@ -356,12 +414,12 @@ impl Walk {
         requires length { length sub.boxes.current ≡ length tree.now.start.now }
         requires made { IsMadeBy sub.changed tree.now.program.now.kernels sub.boxes.current }
         requires told { whole.depth ≢ 0 → rest.depth ≡ 0 → sub.changed ≢ None }
-        ensures answer { IfOk result (IsAnswer tree.now.model.now tree.now.program.now.kernels tree.now.start.now whole.depth whole.number self.new) }
+        ensures answer { IfOk result (IsAnswer tree.now.model.now tree.now.program.now.kernels tree.now.start.now whole.depth whole.number best self.new) }
         ensures walk { IsWalkFrom tree.now.model.now tree.now.program.now.kernels tree.now.start.now self.new }
     {
         let mut sub = sub;
         let mut sets = take_sets(alloc, tree, &mut self.sets)?;
-        let reached = lead(tree, &mut sub, &mut self.turns, &mut sets, rest)?;
+        let reached = lead(tree, &mut sub, &mut self.turns, &mut sets, rest, best)?;
         self.sets = Some(sets);
         self.end = reached.end;
         if is_led_to(reached.end, reached.rest.number) {

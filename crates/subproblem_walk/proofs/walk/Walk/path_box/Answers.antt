@@ -1,11 +1,21 @@
 use Rattle.subproblem_walk.specs.Walks.{box_of}
-use Rattle.subproblem_walk.proofs.StartLemmas.{start_can, inside_start}
+use Rattle.subproblem_walk.proofs.StartLemmas.{start_can}
 use Rattle.subproblem_walk.proofs.WalkLemmas.{if_ok}
+use Rattle.subproblem_walk.proofs.BeatenLemmas.{exact_path, exact_way, found_inside}
 use Rattle.subproblem_walk.proofs.walk.Walk.path_box.Goals as goal
 
-pub returns-in-Some-clause-inside : goal.returns-in-Some-clause-inside
-returns-in-Some-clause-inside c =
-    if_ok c.from_last.result (λ found answer.
-    inside_start c.law_paths.ensures c.args.tree.now.model.now c.args.tree.now.program.now.kernels c.args.tree.now.depth c.args.tree.now.start.now c.args.number
+pub returns-clause-path : goal.returns-clause-path
+returns-clause-path c =
+    if_ok c.go.result (λ found answer.
+    exact_path c.args.tree.now.model.now c.args.tree.now.program.now.kernels c.args.tree.now.start.now c.args.tree.now.depth c.args.number c.go.new.self.end (box_of found) answer.end_for answer.path)
+    c.go.ensures.answer
+
+pub returns-clause-inside : goal.returns-clause-inside
+returns-clause-inside c =
+    if_ok c.go.result (λ found answer.
+    found_inside c.args.tree.now.model.now c.args.tree.now.program.now.kernels c.args.tree.now.start.now c.args.tree.now.depth c.args.number c.law_paths.ensures
     (start_can c.args.tree.now.model.now c.args.tree.now.program.now c.args.tree.now.start.now c.requires.program c.requires.phases c.requires.length c.len-length.ensures.in_range)
-    (box_of found) answer.path) c.from_last.ensures.answer
+    c.go.new.self.end (box_of found) answer.path) c.go.ensures.answer
+
+pub returns-clause-kept : goal.returns-clause-kept
+returns-clause-kept c = if_ok c.go.result (λ found answer. exact_way c.args.tree.now.depth c.args.number c.go.new.self answer.end_for answer.way) c.go.ensures.answer

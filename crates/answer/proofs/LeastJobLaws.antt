@@ -68,10 +68,10 @@ module _ (more : MorePosted) (fall : CostsFall) {L : Type 0} (plan : Plan L) (is
   abbrev model : FznModel
   model = model_of plan
 
-  abbrev search : List ℤ → Bounds → Search
+  abbrev pub search : List ℤ → Bounds → Search
   search posted sub = least_of model (program_of model) plan.options.node_limit plan.options.round_limit posted sub
 
-  inside_start : (posted : List ℤ) (sub : Bounds) → IsInside sub plan.run.now.program.now.start → IsInRange sub → IsInsideStart (search posted sub)
+  pub inside_start : (posted : List ℤ) (sub : Bounds) → IsInside sub plan.run.now.program.now.start → IsInRange sub → IsInsideStart (search posted sub)
   inside_start posted sub i range = record {
     program = program_of model;
     means = is_program model plan.run.now.program.now is.run.program;

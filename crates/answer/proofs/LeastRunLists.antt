@@ -157,6 +157,17 @@ module _ (law : MorePosted) (model : FznModel) (options : Options) (b : Bounds) 
     ];
   }
 
+  -- more was seen
+  pub least_runs_seen : (seen more posted posts : List ℤ) (runs : List (ℕ × LeastEnd)) → AllAmong seen more → posts ≡ posted → AreLeastRuns model options b seen posted runs →
+      AreLeastRuns model options b more posts runs
+  least_runs_seen seen more posted posts runs all e h = record {
+    results = h.results;
+    of_runs = h.of_runs;
+    each = λ number result there. least_result_kept seen more all number result (h.each number result there);
+    recorded = λ cost there. h.recorded cost (subst (λ (xs : List ℤ). Among xs cost) e there);
+    reached = λ cost there. h.reached cost (subst (λ (xs : List ℤ). Among xs cost) e there);
+  }
+
   pub least_run_more : (seen after posted posts : List ℤ) (runs : List (ℕ × LeastEnd)) (number : ℕ) (result : LeastResult) → AreLeastRuns model options b seen posted runs → AllAmong seen after →
       HasResult model options.depth b (IsLeastRun model options after) number result →
       ((cost : ℤ) → Among posts cost → Among posted cost ⊎ (Any (λ a. cost_of model.goal a ≡ Some cost) result.0 × Any (CostsAtMost model.goal cost) (least_collected result.1))) →

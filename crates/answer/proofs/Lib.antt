@@ -12,6 +12,7 @@ pub mod CoverLaws
 pub mod BestLaws
 pub mod JobLaws
 pub mod LeastJobLaws
+pub mod BeatenLaws
 pub mod GivenLaws
 pub mod SettledLaws
 pub mod NumberLaws

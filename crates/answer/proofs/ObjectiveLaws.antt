@@ -18,10 +18,10 @@ use Rattle.answer.specs.Cuts.{at_value, cut_to}
 
 -- ---- pairs
 
-low_put : (b : Bounds) (v : ℕ) (low high : ℤ) → v < length b → low_of (put_of b v low high) v ≡ low
+pub low_put : (b : Bounds) (v : ℕ) (low high : ℤ) → v < length b → low_of (put_of b v low high) v ≡ low
 low_put b v low high h = ap (λ (p : ℤ × ℤ). p.0) (get_or-set_same b v (low, high) (pos 0, pos 0) h)
 
-high_put : (b : Bounds) (v : ℕ) (low high : ℤ) → v < length b → high_of (put_of b v low high) v ≡ high
+pub high_put : (b : Bounds) (v : ℕ) (low high : ℤ) → v < length b → high_of (put_of b v low high) v ≡ high
 high_put b v low high h = ap (λ (p : ℤ × ℤ). p.1) (get_or-set_same b v (low, high) (pos 0, pos 0) h)
 
 tail_inside : (p q : ℤ × ℤ) (b c : Bounds) → IsInside (p ∷ b) (q ∷ c) → IsInside b c
@@ -49,7 +49,7 @@ cons_inside p q b c l h i = record {
 itself : (b : Bounds) → IsInside b b
 itself b = record { same_length = refl; lows = λ v h. omega (arith, ints); highs = λ v h. omega (arith, ints) }
 
-put_inside : (b : Bounds) (v : ℕ) (low high : ℤ) → low_of b v ≤ℤ low → high ≤ℤ high_of b v → IsInside (put_of b v low high) b
+pub put_inside : (b : Bounds) (v : ℕ) (low high : ℤ) → low_of b v ≤ℤ low → high ≤ℤ high_of b v → IsInside (put_of b v low high) b
 put_inside [] v low high l h = itself []
 put_inside (p ∷ b) zero low high l h = cons_inside (low, high) p b b l h (itself b)
 put_inside (p ∷ b) (suc v) low high l h =
@@ -64,28 +64,28 @@ put_holds (p ∷ b) (q ∷ c) (suc v) low high i l h =
 
 -- ---- the lesser of two numbers, and the greater
 
-least_le : (x y : ℤ) → int_min x y ≤ℤ x
+pub least_le : (x y : ℤ) → int_min x y ≤ℤ x
 least_le x y = case (int_lt y x) refl
   where
     case : (t : Bool) → int_lt y x ≡ t → cond t y x ≤ℤ x
     case true e = omega (arith, ints)
     case false e = omega (arith, ints)
 
-least_le_right : (x y : ℤ) → int_min x y ≤ℤ y
+pub least_le_right : (x y : ℤ) → int_min x y ≤ℤ y
 least_le_right x y = case (int_lt y x) refl
   where
     case : (t : Bool) → int_lt y x ≡ t → cond t y x ≤ℤ y
     case true e = omega (arith, ints)
     case false e = omega (arith, ints)
 
-greatest_le : (x y : ℤ) → x ≤ℤ int_max x y
+pub greatest_le : (x y : ℤ) → x ≤ℤ int_max x y
 greatest_le x y = case (int_lt y x) refl
   where
     case : (t : Bool) → int_lt y x ≡ t → x ≤ℤ cond t x y
     case true e = omega (arith, ints)
     case false e = omega (arith, ints)
 
-greatest_le_right : (x y : ℤ) → y ≤ℤ int_max x y
+pub greatest_le_right : (x y : ℤ) → y ≤ℤ int_max x y
 greatest_le_right x y = case (int_lt y x) refl
   where
     case : (t : Bool) → int_lt y x ≡ t → y ≤ℤ cond t x y

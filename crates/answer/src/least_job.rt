@@ -10,14 +10,16 @@ ghost use Rattle.answer.specs.Plans.{IsPlan, IsCrewFor, model_of};
 ghost use Rattle.answer.specs.Runs.{AreWholeEnds};
 ghost use Rattle.answer.specs.Jobs.{numbers_of, Owns, LeastFits, LeastParts, LeastStands};
 
-use crate::plan::{Own, Plan, subproblem};
+use crate::plan::{Own, Plan, subproblem_below};
 use best_bound::{Best, BestSeat, Costs};
 use branching::law_every_list;
 use crew::{Gate as CrewGate, Job, Workers, run_numbers};
 use interval::{NoMemory, law_inside_order};
 use list_of::ListOf;
 use rounds::Gate;
-use search::{LeastEnd, Start, law_costs_fall, law_more_posted, run_least_from};
+use search::{
+    LeastEnd, Start, law_costs_fall, law_finds_least, law_more_posted, run_least_from,
+};
 use solution_lists::law_solutions_listed;
 use std::alloc::Global;
 use std::marker::{Brand, PhantomData};
@@ -82,7 +84,8 @@ impl<L, M: OfModel> Job<BestSeat, Own, LeastEnd> for LeastJob<'_, L, M> {
     }
 }
 
-/// Searches the subproblem of a number for the least cost.
+/// Searches the subproblem of a number for the least cost. It isn't gone to where the best cost beats a box on the way: its
+/// search would drop it.
 fn run_number<R: Threads + Sync, L: Gate + Sync, M: OfModel>(
     rt: &R,
     alloc: Global,
@@ -101,7 +104,12 @@ fn run_number<R: Threads + Sync, L: Gate + Sync, M: OfModel>(
     law_costs_fall();
     law_inside_order();
     law_cuts();
-    match subproblem(alloc, job.plan, &mut own.walk, number)? {
+    law_paths();
+    law_finds_least();
+    // its contract says that the bounds are in range
+    let _length = job.plan.start.len();
+    let best = job.best.seen(seat);
+    match subproblem_below(alloc, job.plan, &mut own.walk, number, best)? {
         None => Ok(LeastEnd::Done(None)),
         Some(found) => {
             let start = Start {

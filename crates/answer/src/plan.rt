@@ -5,6 +5,7 @@ ghost use Rattle.interval.specs.Boxes.{Bounds, IsInside};
 ghost use Rattle.guarded_tell.specs.declared.kernel.Kernel.{Kernel};
 ghost use Rattle.constraint_model.specs.declared.model.FznModel.{FznModel};
 ghost use Rattle.subproblems.specs.Paths.{LeadsTo};
+ghost use Rattle.subproblem_walk.specs.Beaten.{LeadsBelow};
 ghost use Rattle.subproblem_walk.specs.Walks.{IsWalkFrom, StandsUnder, box_of, IsMadeFrom};
 ghost use Rattle.answer.specs.Owned.{IsOwnFrom};
 ghost use Rattle.answer.specs.Plans.{IsPlan, model_of, kernels_in};
@@ -71,5 +72,34 @@ pub(crate) fn subproblem<L>(
         depth: plan.options.depth,
     };
     let found = walk.path_box(alloc, &tree, number)?;
+    Ok(found)
+}
+
+/// What the number leads to, or nothing too where the best cost, if there is one, beats that.
+pub(crate) fn subproblem_below<L>(
+    alloc: Global,
+    plan: &Plan<'_, L>,
+    walk: &mut Walk,
+    number: u32,
+    best: Option<i64>,
+) -> Result<Option<Subproblem>, NoMemory>
+    requires plan { IsPlan plan.now }
+    requires number { number < 2 ^ plan.now.options.depth }
+    requires walk { IsWalkFrom (model_of plan.now) (kernels_in plan.now) plan.now.start.now walk.old }
+    ensures path { IfOk result (λ found. LeadsBelow (model_of plan.now) (kernels_in plan.now) plan.now.options.depth plan.now.start.now number best (box_of found)) }
+    ensures inside { IfOk result (λ found. IfSome (box_of found) (λ b. IsInside b plan.now.run.now.program.now.start)) }
+    ensures made { IfOk result (IsMadeFrom (kernels_in plan.now)) }
+    ensures walk { IsWalkFrom (model_of plan.now) (kernels_in plan.now) plan.now.start.now walk.new }
+    ensures under { IfOk result (StandsUnder (model_of plan.now) (kernels_in plan.now) plan.now.start.now walk.new) }
+{
+    law_inside_order();
+    let tree = Tree {
+        model: plan.run.model,
+        program: plan.run.program,
+        masks: plan.run.masks,
+        start: plan.start,
+        depth: plan.options.depth,
+    };
+    let found = walk.path_box_below(alloc, &tree, number, best)?;
     Ok(found)
 }

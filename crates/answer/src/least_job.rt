@@ -17,9 +17,7 @@ use crew::{Gate as CrewGate, Job, Workers, run_numbers};
 use interval::{NoMemory, law_inside_order};
 use list_of::ListOf;
 use rounds::Gate;
-use search::{
-    LeastEnd, Start, law_costs_fall, law_finds_least, law_more_posted, run_least_from,
-};
+use search::{LeastEnd, Start, law_costs_fall, law_finds_least, law_more_posted, run_least_from};
 use solution_lists::law_solutions_listed;
 use std::alloc::Global;
 use std::marker::{Brand, PhantomData};

@@ -108,6 +108,18 @@ pub(crate) fn unite_masks_in(words: &mut [u32], row: &[Mask], wanted: &[u32])
     }
 }
 
+/// Gives each word the bits of the masks of its place too, as far as both others have them.
+pub(crate) fn unite_masks_in_both(words: &mut [u32], row: &[Mask], one: &[u32], other: &[u32])
+    requires row { All (λ m. m.place < length words.old) row.now }
+    requires one { All (λ m. m.place < length one.now) row.now }
+    requires other { All (λ m. m.place < length other.now) row.now }
+    ensures { (j : ℕ) → has words.new j ≡ (has words.old j || (names row.now j && (has one.now j && has other.now j))) }
+{
+    for mask in row {
+        unite_mask(words, common(common(*mask, one), other));
+    }
+}
+
 /// What the mask has in common with the words.
 fn common(mask: Mask, words: &[u32]) -> Mask
     requires { mask.place < length words.now }

@@ -102,6 +102,7 @@ impl AskedSet {
     }
 
     /// The first kernel of the set from `from` on, or how many kernels there are.
+    #[inline(always)]
     pub fn next(&self, from: usize) -> usize
         requires { from ≤ length self.now }
         ensures { IsFirst (λ j. slice_index_or self.now j false) from (length self.now) result }
@@ -110,6 +111,7 @@ impl AskedSet {
     }
 
     /// The place behind the last kernel of the set before `to`, or 0.
+    #[inline(always)]
     pub fn next_back(&self, to: usize) -> usize
         requires { to ≤ length self.now }
         ensures { IsLast (λ j. slice_index_or self.now j false) to result }

@@ -35,7 +35,7 @@ both : (a b : Bool) → a ≡ true → b ≡ true → (a && b) ≡ true
 both true b e f = f
 both false b e f = absurd (true≢false (sym e))
 
--- where the variable is fixed all that are open are asked, else those that are alert
+-- where the variable is fixed all that are open are asked, else those that are alert too
 module _ (sets : ℕ → Set) (rests : Rests) (b : Bounds) (v : ℕ) (old new : Set) where
   pub ask_open : IsAsked old (λ j. get_or (sets j) v false && get_or rests.open.current j false) new → IsAskedBy sets rests b v old new
   ask_open more = record {
@@ -44,12 +44,12 @@ module _ (sets : ℕ → Set) (rests : Rests) (b : Bounds) (v : ℕ) (old new : 
     told = λ j h names heeds. more.each j h ∙ or_right (get_or old j false) _ (both (get_or (sets j) v false) _ names heeds.0);
   }
 
-  pub ask_alert : (IsFixedAt b v → ⊥) → IsAsked old (λ j. get_or (sets j) v false && get_or rests.alert.current j false) new → IsAskedBy sets rests b v old new
+  pub ask_alert : (IsFixedAt b v → ⊥) → IsAsked old (λ j. get_or (sets j) v false && (get_or rests.open.current j false && get_or rests.alert.current j false)) new → IsAskedBy sets rests b v old new
   ask_alert not_fixed more = record {
     same_count = more.same_length;
     kept = λ j is_in. more.each j (in_range old j is_in) ∙ or_left (get_or old j false) _ is_in;
     told = λ j h names heeds. elim heeds.1 [
-      | inl alert ↦ more.each j h ∙ or_right (get_or old j false) _ (both (get_or (sets j) v false) _ names alert)
+      | inl alert ↦ more.each j h ∙ or_right (get_or old j false) _ (both (get_or (sets j) v false) _ names (both (get_or rests.open.current j false) _ heeds.0 alert))
       | inr fixed ↦ absurd (not_fixed fixed)
     ];
   }

@@ -12,11 +12,11 @@ use Rattle.moved_fixpoint.specs.declared.rests.Rests.{Rests}
 abbrev pub Heeds : Rests → Bounds → ℕ → ℕ → Type 0
 Heeds rests b j v = IsIn rests.open.current j × (IsIn rests.alert.current j ⊎ IsFixedAt b v)
 
--- the kernel at a place is alert, or stays as it was, or rests for good
+-- the kernel at a place is alert, or stays as it was, or isn't open from then on; whether it is alert stays then
 abbrev pub IsNoted : ℕ → Rest → Rests → Rests → Type 0
 IsNoted i Awake old new = (new.open.current ≡ old.open.current) × (new.alert.current ≡ slice_set old.alert.current i true)
 IsNoted i UntilFixed old new = (new.open.current ≡ old.open.current) × (new.alert.current ≡ old.alert.current)
-IsNoted i ForGood old new = (new.open.current ≡ slice_set old.open.current i false) × (new.alert.current ≡ slice_set old.alert.current i false)
+IsNoted i ForGood old new = (new.open.current ≡ slice_set old.open.current i false) × (new.alert.current ≡ old.alert.current)
 
 -- the kernel at a place is open and alert then, or it rests on the box; the others are what they were
 pub record HasRested (kernel : Kernel) (i : ℕ) (b : Bounds) (old new : Rests) : Type 0 where

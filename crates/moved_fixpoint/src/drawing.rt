@@ -29,7 +29,7 @@ pub(crate) fn has_one(b: &BoxOf) -> bool
     b.len() > 0 && b.low(0) >= 1
 }
 
-/// Asks the kernels that name a variable that moved: where it is fixed all that are open, else those that are alert.
+/// Asks the kernels that name a variable that moved: where it is fixed all that are open, else those that are alert too.
 fn ask_either(masks: &Masks, v: u32, b: &BoxOf, rests: &Rests, asked: &mut AskedSet)
     requires variable { v < masks.now.count }
     requires length { masks.now.count ≡ length b.now }
@@ -40,7 +40,7 @@ fn ask_either(masks: &Masks, v: u32, b: &BoxOf, rests: &Rests, asked: &mut Asked
     if is_fixed(b, v) {
         masks.ask_in(v, &rests.open, asked);
     } else {
-        masks.ask_in(v, &rests.alert, asked);
+        masks.ask_in_both(v, &rests.open, &rests.alert, asked);
     }
 }
 
@@ -56,7 +56,7 @@ fn ask_side(masks: &Masks, t: Tell, b: &BoxOf, rests: &Rests, asked: &mut AskedS
     if is_fixed(b, t.var) {
         masks.ask_side_in(t.var, t.side, &rests.open, asked);
     } else {
-        masks.ask_side_in(t.var, t.side, &rests.alert, asked);
+        masks.ask_side_in_both(t.var, t.side, &rests.open, &rests.alert, asked);
     }
 }
 

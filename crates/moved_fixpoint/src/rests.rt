@@ -43,10 +43,7 @@ impl Rests {
         match rest {
             Rest::Awake => self.alert.put(place),
             Rest::UntilFixed => Ok(()),
-            Rest::ForGood => {
-                self.open.remove(place)?;
-                self.alert.remove(place)
-            }
+            Rest::ForGood => self.open.remove(place),
         }
     }
 

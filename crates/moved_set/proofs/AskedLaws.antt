@@ -183,17 +183,26 @@ named_in row i d j old now wanted h is =
     ∙ or_and_move old (names (take i row) j) (hits j (get_or row i d)) wanted
     ∙ ap (λ (b : Bool). old || (b && wanted)) (sym more)
 
-pub united_in_with : (old : List Bool) (words lent new items : List ℕ) (row : List Mask) (wanted : List Bool) (wanted_words : List ℕ) (count : ℕ) → set_of words count ≡ old → lent ≡ words → items ≡ new
-    → ((j : ℕ) → j < count → has wanted_words j ≡ get_or wanted j false)
-    → ((j : ℕ) → has new j ≡ (has lent j || (names row j && has wanted_words j))) → IsUnitedIn old row wanted (set_of items count)
-united_in_with old words lent new items row wanted wanted_words count is lent_is items_are wanted_are each =
-    let one : IsUnitedIn (set_of words count) row wanted (set_of new count) = record {
+pub united_in_with : (old : List Bool) (words lent new items : List ℕ) (row : List Mask) (is_wanted has_wanted : ℕ → Bool) (count : ℕ) → set_of words count ≡ old → lent ≡ words → items ≡ new
+    → ((j : ℕ) → j < count → has_wanted j ≡ is_wanted j)
+    → ((j : ℕ) → has new j ≡ (has lent j || (names row j && has_wanted j))) → IsUnitedIn old row is_wanted (set_of items count)
+united_in_with old words lent new items row is_wanted has_wanted count is lent_is items_are wanted_are each =
+    let one : IsUnitedIn (set_of words count) row is_wanted (set_of new count) = record {
       same_length = length-set_of new count ∙ sym (length-set_of words count);
       each = λ j h.
           let within : j < count = omega (arith, length-set_of words count) in
-          set_of_at new count j within ∙ each j ∙ ap (λ (ws : List ℕ). has ws j || (names row j && has wanted_words j)) lent_is
+          set_of_at new count j within ∙ each j ∙ ap (λ (ws : List ℕ). has ws j || (names row j && has_wanted j)) lent_is
           ∙ ap (λ (b : Bool). has words j || (names row j && b)) (wanted_are j within)
-          ∙ ap (λ (b : Bool). b || (names row j && get_or wanted j false)) (sym (set_of_at words count j within));
+          ∙ ap (λ (b : Bool). b || (names row j && is_wanted j)) (sym (set_of_at words count j within));
     } in
-    let two : IsUnitedIn old row wanted (set_of new count) = subst (λ (s : List Bool). IsUnitedIn s row wanted (set_of new count)) is one in
-    subst (λ (ws : List ℕ). IsUnitedIn old row wanted (set_of ws count)) (sym items_are) two
+    let two : IsUnitedIn old row is_wanted (set_of new count) = subst (λ (s : List Bool). IsUnitedIn s row is_wanted (set_of new count)) is one in
+    subst (λ (ws : List ℕ). IsUnitedIn old row is_wanted (set_of ws count)) (sym items_are) two
+
+-- ---- the same as far as two others have them
+
+pub and_move : (h a b : Bool) → ((h && a) && b) ≡ (h && (a && b))
+and_move true a b = refl
+and_move false a b = refl
+
+pub both_same : (a b c d : Bool) → a ≡ c → b ≡ d → (a && b) ≡ (c && d)
+both_same a b c d e f = ap (λ (t : Bool). t && b) e ∙ ap (λ (t : Bool). c && t) f

@@ -99,10 +99,10 @@ or_none_of : (n : Bool) → n ≡ (n || false)
 or_none_of true = refl
 or_none_of false = refl
 
-pub asked_in_own : (old new : List Bool) (row : List Mask) (users : List (List Mask)) (wanted : List Bool) → IsUnitedIn old row wanted new → IsAsked old (λ j. (names row j || some_uses users j []) && get_or wanted j false) new
-asked_in_own old new row users wanted united = record {
+pub asked_in_own : (old new : List Bool) (row : List Mask) (users : List (List Mask)) (is_wanted : ℕ → Bool) → IsUnitedIn old row is_wanted new → IsAsked old (λ j. (names row j || some_uses users j []) && is_wanted j) new
+asked_in_own old new row users is_wanted united = record {
   same_length = united.same_length;
-  each = λ j h. united.each j h ∙ ap (λ (b : Bool). get_or old j false || (b && get_or wanted j false)) (or_none_of (names row j));
+  each = λ j h. united.each j h ∙ ap (λ (b : Bool). get_or old j false || (b && is_wanted j)) (or_none_of (names row j));
 }
 
 or_and_more : (o a s n w : Bool) → ((o || ((a || s) && w)) || (n && w)) ≡ (o || ((a || (s || (n || false))) && w))
@@ -118,10 +118,10 @@ or_and_more false false false true false = refl
 or_and_more false false false false true = refl
 or_and_more false false false false false = refl
 
-pub asked_in_list : (old mid new : List Bool) (own : List Mask) (users : List (List Mask)) (lists : List ℕ) (wanted : List Bool) (i : ℕ) (row : List Mask) → i < length lists
-    → row ≡ masks_at users (get_or lists i 0) → IsAsked old (λ j. (names own j || some_uses users j (take i lists)) && get_or wanted j false) mid → IsUnitedIn mid row wanted new
-    → IsAsked old (λ j. (names own j || some_uses users j (take (i + 1) lists)) && get_or wanted j false) new
-asked_in_list old mid new own users lists wanted i row h row_is asked united = record {
+pub asked_in_list : (old mid new : List Bool) (own : List Mask) (users : List (List Mask)) (lists : List ℕ) (is_wanted : ℕ → Bool) (i : ℕ) (row : List Mask) → i < length lists
+    → row ≡ masks_at users (get_or lists i 0) → IsAsked old (λ j. (names own j || some_uses users j (take i lists)) && is_wanted j) mid → IsUnitedIn mid row is_wanted new
+    → IsAsked old (λ j. (names own j || some_uses users j (take (i + 1) lists)) && is_wanted j) new
+asked_in_list old mid new own users lists is_wanted i row h row_is asked united = record {
   same_length = united.same_length ∙ asked.same_length;
   each = λ j k.
       let uses : ℕ → Bool = λ l. names (masks_at users l) j in
@@ -131,24 +131,24 @@ asked_in_list old mid new own users lists wanted i row h row_is asked united = r
       let one : names row j ≡ uses l = ap (λ (r : List Mask). names r j) row_is in
       let len = asked.same_length in
       united.each j (omega arith)
-      ∙ ap (λ (b : Bool). b || (names row j && get_or wanted j false)) (asked.each j k)
-      ∙ ap (λ (b : Bool). (get_or old j false || ((names own j || some_uses users j (take i lists)) && get_or wanted j false)) || (b && get_or wanted j false)) one
-      ∙ or_and_more (get_or old j false) (names own j) (some_uses users j (take i lists)) (uses l) (get_or wanted j false)
-      ∙ ap (λ (b : Bool). get_or old j false || ((names own j || b) && get_or wanted j false)) (sym more);
+      ∙ ap (λ (b : Bool). b || (names row j && is_wanted j)) (asked.each j k)
+      ∙ ap (λ (b : Bool). (get_or old j false || ((names own j || some_uses users j (take i lists)) && is_wanted j)) || (b && is_wanted j)) one
+      ∙ or_and_more (get_or old j false) (names own j) (some_uses users j (take i lists)) (uses l) (is_wanted j)
+      ∙ ap (λ (b : Bool). get_or old j false || ((names own j || b) && is_wanted j)) (sym more);
 }
 
-pub asked_in_all : (old new : List Bool) (rows : ℕ → List Mask) (lists_of : List (Vec ℕ Global)) (users : List (List Mask)) (count kernels v : ℕ) (sets : List (List Bool)) (row : List Mask) (lists : List ℕ) (wanted : List Bool)
+pub asked_in_all : (old new : List Bool) (rows : ℕ → List Mask) (lists_of : List (Vec ℕ Global)) (users : List (List Mask)) (count kernels v : ℕ) (sets : List (List Bool)) (row : List Mask) (lists : List ℕ) (is_wanted : ℕ → Bool)
     → asked_sets rows lists_of users count kernels ≡ sets → v < count → length old ≡ kernels
-    → row ≡ rows v → lists ≡ row_at lists_of v → IsAsked old (λ j. (names row j || some_uses users j lists) && get_or wanted j false) new
-    → IsAsked old (λ j. get_or (get_or sets j []) v false && get_or wanted j false) new
-asked_in_all old new rows lists_of users count kernels v sets row lists wanted is h len row_is lists_is asked = record {
+    → row ≡ rows v → lists ≡ row_at lists_of v → IsAsked old (λ j. (names row j || some_uses users j lists) && is_wanted j) new
+    → IsAsked old (λ j. get_or (get_or sets j []) v false && is_wanted j) new
+asked_in_all old new rows lists_of users count kernels v sets row lists is_wanted is h len row_is lists_is asked = record {
   same_length = asked.same_length;
   each = λ j k.
       let one : (names row j || some_uses users j lists) ≡ asks rows lists_of users v j =
       ap (λ (r : List Mask). names r j || some_uses users j lists) row_is ∙ ap (λ (ls : List ℕ). names (rows v) j || some_uses users j ls) lists_is in
       let two : asks rows lists_of users v j ≡ get_or (get_or sets j []) v false =
       sym (set_has rows lists_of users count kernels j v (omega arith) h) ∙ ap (λ (s : List (List Bool)). get_or (get_or s j []) v false) is in
-      asked.each j k ∙ ap (λ (b : Bool). get_or old j false || (b && get_or wanted j false)) (one ∙ two);
+      asked.each j k ∙ ap (λ (b : Bool). get_or old j false || (b && is_wanted j)) (one ∙ two);
 }
 
 -- the masks of all groups lie in the set

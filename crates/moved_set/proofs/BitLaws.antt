@@ -1,9 +1,10 @@
 -- Bits of words: the least and the greatest that is 1, those from one on and those up to one.
-use Rattle.std.proofs.Common.{ℕ, suc, ◌≡◌, ◌≢◌, ◌+◌, ◌-◌, ◌*◌, ◌/◌, ◌%◌, ◌^◌, ◌<◌, ◌≤◌, ◌==◌, true, false, List, get_or, bit_and, min, inl, inr, arith, sym, ap, ◌∙◌, w32}
+use Rattle.std.proofs.Common.{ℕ, suc, ◌≡◌, ◌≢◌, ◌+◌, ◌-◌, ◌*◌, ◌/◌, ◌%◌, ◌^◌, ◌<◌, ◌≤◌, ◌==◌, true, false, List, get_or, bit_and, bit_or, min, inl, inr, arith, sym, ap, ◌∙◌, ⊎_elim, w32}
 use Rattle.std.specs.Int.{bit_at}
 use lib.Count.{count_leading_zeros, count_trailing_zeros}
-use Rattle.std.proofs.lemmas.Bool.{true≢false, cases_lt}
-use Rattle.std.proofs.lemmas.Nat.{leading_top, div_below, le-div, pow_pos}
+use Rattle.std.proofs.lemmas.Bool.{true≢false, cases_lt, cases_eq}
+use Rattle.std.proofs.lemmas.Bool.Decides.{Decides-eqb}
+use Rattle.std.proofs.lemmas.Nat.{leading_top, div_below, le-div, pow_pos, le_or_l, le_or_r}
 use Rattle.std.proofs.Math.Nat.{pow-suc}
 use Rattle.std.proofs.lemmas.Nat.Bits.{bit_at-trailing_zeros, bit_at_above, bit_at_and, bit_at-lt, ones_shl, ones_shr, bit_at_mask_below, bit_at_mask_inside, bit_at_ones, bit_at_ones_above}
 use Rattle.moved_set.specs.Words.{has_bit, has}
@@ -84,6 +85,42 @@ module _ (words : List ℕ) (place : ℕ) (low high : ℕ) (bits : ℕ)
   -- a word without a bit in between
   pub none_there : bits ≡ 0 → (j : ℕ) → low ≤ j → j < high → place * 32 ≤ j → j < place * 32 + 32 → has words j ≡ false
   none_there e j above below from to = in_word j above below from to ∙ ap (λ (n : ℕ). has_bit n (j - place * 32)) e ∙ has_bit-zero (j - place * 32)
+
+-- ---- eight words that are 0
+
+left_none : (a b : ℕ) → bit_or a b ≡ 0 → a ≡ 0
+left_none a b e = let l = le_or_l a b in omega arith
+
+right_none : (a b : ℕ) → bit_or a b ≡ 0 → b ≡ 0
+right_none a b e = let l = le_or_r a b in omega arith
+
+four_none : (words : List ℕ) (p q r s : ℕ) → q ≡ p + 1 → r ≡ p + 2 → s ≡ p + 3
+    → bit_or (bit_or (bit_or (get_or words p 0) (get_or words q 0)) (get_or words r 0)) (get_or words s 0) ≡ 0
+    → (i : ℕ) → p ≤ i → i < p + 4 → get_or words i 0 ≡ 0
+four_none words p q r s q_is r_is s_is e i from to =
+    let three : bit_or (bit_or (get_or words p 0) (get_or words q 0)) (get_or words r 0) ≡ 0 = left_none _ (get_or words s 0) e in
+    let two : bit_or (get_or words p 0) (get_or words q 0) ≡ 0 = left_none _ (get_or words r 0) three in
+    let at : (n : ℕ) → get_or words n 0 ≡ 0 → i ≡ n → get_or words i 0 ≡ 0 = λ n none same. ap (λ (m : ℕ). get_or words m 0) same ∙ none in
+    let last : i ≢ p → i ≢ q → i ≢ r → get_or words i 0 ≡ 0 = λ a b c. at s (right_none (bit_or (bit_or (get_or words p 0) (get_or words q 0)) (get_or words r 0)) _ e) (omega arith) in
+    let third : i ≢ p → i ≢ q → get_or words i 0 ≡ 0 = λ a b. ⊎_elim (at r (right_none (bit_or (get_or words p 0) (get_or words q 0)) _ three)) (last a b) (cases_eq i r) in
+    let second : i ≢ p → get_or words i 0 ≡ 0 = λ a. ⊎_elim (at q (right_none (get_or words p 0) _ two)) (third a) (cases_eq i q) in
+    ⊎_elim (at p (left_none _ (get_or words q 0) two)) second (cases_eq i p)
+
+none_has : (words : List ℕ) (j : ℕ) → get_or words (j / 32) 0 ≡ 0 → has words j ≡ false
+none_has words j e = ap (λ (w : ℕ). has_bit w (j % 32)) e ∙ has_bit-zero (j % 32)
+
+pub eight_none : (words : List ℕ) (p : ℕ)
+    → (bit_or (bit_or (bit_or (bit_or (get_or words p 0) (get_or words (p + 1) 0)) (get_or words (p + 2) 0)) (get_or words (p + 3) 0))
+    (bit_or (bit_or (bit_or (get_or words (p + 4) 0) (get_or words (p + 5) 0)) (get_or words (p + 6) 0)) (get_or words (p + 7) 0)) == 0) ≡ true
+    → (j : ℕ) → p * 32 ≤ j → j < p * 32 + 256 → has words j ≡ false
+eight_none words p is j from to =
+    let first : ℕ = bit_or (bit_or (bit_or (get_or words p 0) (get_or words (p + 1) 0)) (get_or words (p + 2) 0)) (get_or words (p + 3) 0) in
+    let second : ℕ = bit_or (bit_or (bit_or (get_or words (p + 4) 0) (get_or words (p + 5) 0)) (get_or words (p + 6) 0)) (get_or words (p + 7) 0) in
+    let e : bit_or first second ≡ 0 = (Decides-eqb (bit_or first second) 0).0 is in
+    none_has words j (elim (cases_lt (j / 32) (p + 4)) [
+      | inl l ↦ four_none words p (p + 1) (p + 2) (p + 3) (omega arith) (omega arith) (omega arith) (left_none first second e) (j / 32) (omega arith) l
+      | inr g ↦ four_none words (p + 4) (p + 5) (p + 6) (p + 7) (omega arith) (omega arith) (omega arith) (right_none first second e) (j / 32) (omega arith) (omega arith)
+    ])
 
 pub found_first : (words : List ℕ) (place from count bits result : ℕ) → from ≤ count → from < place * 32 + 32 →
     ((j : ℕ) → from ≤ j → j < place * 32 → has words j ≡ false) →

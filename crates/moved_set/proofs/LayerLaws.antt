@@ -34,15 +34,6 @@ on_ok (Err e) f h = h
 
 -- ---- a word is written
 
--- it was that already
-pub spares_same : (words : List ℕ) (trail : List Mask) (new : List ℕ) → new ≡ words → Spares words trail new trail
-spares_same words trail new is = record {
-  same_length = ap length is;
-  longer = omega arith;
-  places = λ h. h;
-  same = λ mark h. ap (undone (drop mark trail)) is;
-}
-
 -- the change is put on the trail
 pub spares_written : (words : List ℕ) (trail new : List Mask) (place word before : ℕ) → place < length words → before ≡ get_or words place 0
     → new ≡ trail ++ record { place = place; bits = before } ∷ [] → Spares words trail (set words place word) new

@@ -37,7 +37,7 @@ pub record IsUnited (old : List Bool) (row : List Mask) (new : List Bool) : Type
   pub same_length : length new ≡ length old
   pub each : (j : ℕ) → j < length old → slice_index_or new j false ≡ (slice_index_or old j false || names row j)
 
--- the set has those numbers of the masks that are in the wanted set, besides what it had
-pub record IsUnitedIn (old : List Bool) (row : List Mask) (wanted new : List Bool) : Type 0 where
+-- the set has those numbers of the masks that the test takes, besides what it had
+pub record IsUnitedIn (old : List Bool) (row : List Mask) (is_wanted : ℕ → Bool) (new : List Bool) : Type 0 where
   pub same_length : length new ≡ length old
-  pub each : (j : ℕ) → j < length old → slice_index_or new j false ≡ (slice_index_or old j false || (names row j && slice_index_or wanted j false))
+  pub each : (j : ℕ) → j < length old → slice_index_or new j false ≡ (slice_index_or old j false || (names row j && is_wanted j))

@@ -1,9 +1,9 @@
 //! Sets of kernels.
 
-ghost use Rattle.std.specs.Prelude.{◌≡◌, ◌<◌, ◌≤◌, ◌*◌, ℕ, true, false, length, replicate, slice_set, slice_index_or, All, IfOk};
+ghost use Rattle.std.specs.Prelude.{◌≡◌, ◌<◌, ◌≤◌, ◌*◌, ◌&&◌, ℕ, true, false, length, replicate, slice_set, slice_index_or, All, IfOk};
 ghost use Rattle.moved_set.specs.Asked.{IsFirst, IsLast, IsUnited, IsUnitedIn};
 
-use crate::bits::{last_bit, next_bit, unite_masks, unite_masks_in};
+use crate::bits::{last_bit, next_bit, unite_masks, unite_masks_in, unite_masks_in_both};
 use crate::mask::Mask;
 use crate::trailed_set::TrailedSet;
 use interval::NoMemory;
@@ -86,12 +86,23 @@ impl AskedSet {
     pub(crate) fn unite_in(&mut self, row: &[Mask], wanted: &TrailedSet)
         requires row { All (λ m. m.place * 32 ≤ length self.old) row.now }
         requires wanted { length wanted.now.current ≡ length self.old }
-        ensures { IsUnitedIn self.old row.now wanted.now.current self.new }
+        ensures { IsUnitedIn self.old row.now (λ j. slice_index_or wanted.now.current j false) self.new }
     {
         unite_masks_in(self.words.as_mut_slice(), row, wanted.words());
     }
 
+    /// Puts those kernels of the masks into the set too that are in both other sets.
+    pub(crate) fn unite_in_both(&mut self, row: &[Mask], one: &TrailedSet, other: &TrailedSet)
+        requires row { All (λ m. m.place * 32 ≤ length self.old) row.now }
+        requires one { length one.now.current ≡ length self.old }
+        requires other { length other.now.current ≡ length self.old }
+        ensures { IsUnitedIn self.old row.now (λ j. slice_index_or one.now.current j false && slice_index_or other.now.current j false) self.new }
+    {
+        unite_masks_in_both(self.words.as_mut_slice(), row, one.words(), other.words());
+    }
+
     /// The first kernel of the set from `from` on, or how many kernels there are.
+    #[inline(always)]
     pub fn next(&self, from: usize) -> usize
         requires { from ≤ length self.now }
         ensures { IsFirst (λ j. slice_index_or self.now j false) from (length self.now) result }
@@ -100,6 +111,7 @@ impl AskedSet {
     }
 
     /// The place behind the last kernel of the set before `to`, or 0.
+    #[inline(always)]
     pub fn next_back(&self, to: usize) -> usize
         requires { to ≤ length self.now }
         ensures { IsLast (λ j. slice_index_or self.now j false) to result }

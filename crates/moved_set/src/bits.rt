@@ -1,12 +1,13 @@
 //! Bits of words.
 
-ghost use Rattle.std.specs.Prelude.{◌≡◌, ◌≢◌, ◌<◌, ◌≤◌, ◌+◌, ◌*◌, ◌/◌, ◌||◌, ◌&&◌, ℕ, false, length, All};
+ghost use Rattle.std.specs.Prelude.{◌≡◌, ◌≢◌, ◌<◌, ◌≤◌, ◌+◌, ◌*◌, ◌/◌, ◌||◌, ◌&&◌, ℕ, true, false, length, All};
 ghost use Rattle.moved_set.specs.Words.{has, has_bit, hits, names};
 ghost use Rattle.moved_set.specs.Asked.{IsFirst, IsLast, IsLeastAt, IsGreatestAt};
 
 use crate::mask::Mask;
 
 /// The first number from `from` on whose bit is 1, or `count`.
+#[inline(always)]
 pub(crate) fn next_bit(words: &[u32], from: usize, count: usize) -> usize
     requires words { length words.now ≡ count / 32 + 1 }
     requires from { from ≤ count }
@@ -17,7 +18,7 @@ pub(crate) fn next_bit(words: &[u32], from: usize, count: usize) -> usize
     if bits != 0 {
         return least_at(bits, first, count);
     }
-    for place in first + 1..words.len() {
+    for place in pass_over(words, first + 1)..words.len() {
         let word = words[place];
         if word != 0 {
             return least_at(word, place, count);
@@ -27,6 +28,7 @@ pub(crate) fn next_bit(words: &[u32], from: usize, count: usize) -> usize
 }
 
 /// The place behind the last number before `to` whose bit is 1, or 0.
+#[inline(always)]
 pub(crate) fn last_bit(words: &[u32], to: usize) -> usize
     requires to { to ≤ 32 * length words.now }
     requires small { to < 281474976710656 }
@@ -40,7 +42,7 @@ pub(crate) fn last_bit(words: &[u32], to: usize) -> usize
     if bits != 0 {
         return greatest_at(bits, last);
     }
-    let mut left = last;
+    let mut left = pass_back(words, last);
     while left > 0 {
         let word = words[left - 1];
         if word != 0 {
@@ -49,6 +51,73 @@ pub(crate) fn last_bit(words: &[u32], to: usize) -> usize
         left -= 1;
     }
     0
+}
+
+/// A place from `from` on with only zeros before it: `from` itself where few words are left.
+#[inline(always)]
+fn pass_over(words: &[u32], from: usize) -> usize
+    requires { from ≤ length words.now }
+    ensures at_least { from ≤ result }
+    ensures at_most { result ≤ length words.now }
+    ensures passed { (j : ℕ) → from * 32 ≤ j → j < result * 32 → has words.now j ≡ false }
+{
+    if words.len() - from < 8 {
+        return from;
+    }
+    pass_over_eights(words, from)
+}
+
+/// The same, at most seven words before the first word that isn't 0, or before the end.
+#[inline(never)]
+fn pass_over_eights(words: &[u32], from: usize) -> usize
+    requires { from ≤ length words.now }
+    ensures at_least { from ≤ result }
+    ensures at_most { result ≤ length words.now }
+    ensures passed { (j : ℕ) → from * 32 ≤ j → j < result * 32 → has words.now j ≡ false }
+{
+    let mut place = from;
+    while words.len() - place >= 8 && are_eight_zeros(words, place) {
+        place += 8;
+    }
+    place
+}
+
+/// A place up to `to` with only zeros from it to there: `to` itself where few words are before it.
+#[inline(always)]
+fn pass_back(words: &[u32], to: usize) -> usize
+    requires { to ≤ length words.now }
+    ensures at_most { result ≤ to }
+    ensures passed { (j : ℕ) → result * 32 ≤ j → j < to * 32 → has words.now j ≡ false }
+{
+    if to < 8 {
+        return to;
+    }
+    pass_back_eights(words, to)
+}
+
+/// The same, at most seven words behind the last word that isn't 0, or behind the beginning.
+#[inline(never)]
+fn pass_back_eights(words: &[u32], to: usize) -> usize
+    requires { to ≤ length words.now }
+    ensures at_most { result ≤ to }
+    ensures passed { (j : ℕ) → result * 32 ≤ j → j < to * 32 → has words.now j ≡ false }
+{
+    let mut place = to;
+    while place >= 8 && are_eight_zeros(words, place - 8) {
+        place -= 8;
+    }
+    place
+}
+
+/// Whether the eight words from a place on are 0. No branch is between them, so that the processor takes four at once.
+#[inline(always)]
+fn are_eight_zeros(words: &[u32], place: usize) -> bool
+    requires { place + 8 ≤ length words.now }
+    ensures { result ≡ true → (j : ℕ) → place * 32 ≤ j → j < place * 32 + 256 → has words.now j ≡ false }
+{
+    let first = words[place] | words[place + 1] | words[place + 2] | words[place + 3];
+    let second = words[place + 4] | words[place + 5] | words[place + 6] | words[place + 7];
+    (first | second) == 0
 }
 
 /// The bits of a word from one on.
@@ -105,6 +174,18 @@ pub(crate) fn unite_masks_in(words: &mut [u32], row: &[Mask], wanted: &[u32])
 {
     for mask in row {
         unite_mask(words, common(*mask, wanted));
+    }
+}
+
+/// Gives each word the bits of the masks of its place too, as far as both others have them.
+pub(crate) fn unite_masks_in_both(words: &mut [u32], row: &[Mask], one: &[u32], other: &[u32])
+    requires row { All (λ m. m.place < length words.old) row.now }
+    requires one { All (λ m. m.place < length one.now) row.now }
+    requires other { All (λ m. m.place < length other.now) row.now }
+    ensures { (j : ℕ) → has words.new j ≡ (has words.old j || (names row.now j && (has one.now j && has other.now j))) }
+{
+    for mask in row {
+        unite_mask(words, common(common(*mask, one), other));
     }
 }
 

@@ -133,6 +133,43 @@ impl Masks {
         let lists = self.lists_of[place].as_slice();
         ask_row(row, lists, &self.users, wanted, asked);
     }
+
+    /// Puts those kernels that name the variable and are in both wanted sets into the set too.
+    pub fn ask_in_both(&self, v: u32, one: &TrailedSet, other: &TrailedSet, asked: &mut AskedSet)
+        requires variable { v < self.now.count }
+        requires set { length asked.old ≡ length self.now.sets }
+        requires one { length one.now.current ≡ length self.now.sets }
+        requires other { length other.now.current ≡ length self.now.sets }
+        ensures { IsAsked asked.old (λ j. slice_index_or (set_at self.now j) v false && (slice_index_or one.now.current j false && slice_index_or other.now.current j false)) asked.new }
+    {
+        let place = v as usize;
+        let row = self.own.three(3 * place);
+        let lists = self.lists_of[place].as_slice();
+        ask_row_in_both(row, lists, &self.users, one, other, asked);
+    }
+
+    /// Puts those kernels that are asked where the variable's bound on this side moves, and are in both wanted sets, into the
+    /// set too.
+    #[inline(always)]
+    pub fn ask_side_in_both(
+        &self,
+        v: u32,
+        side: Side,
+        one: &TrailedSet,
+        other: &TrailedSet,
+        asked: &mut AskedSet,
+    )
+        requires variable { v < self.now.count }
+        requires set { length asked.old ≡ length self.now.sets }
+        requires one { length one.now.current ≡ length self.now.sets }
+        requires other { length other.now.current ≡ length self.now.sets }
+        ensures { IsAsked asked.old (λ j. slice_index_or (side_set_at self.now side j) v false && (slice_index_or one.now.current j false && slice_index_or other.now.current j false)) asked.new }
+    {
+        let place = v as usize;
+        let row = row_of_side(&self.own, v, side);
+        let lists = self.lists_of[place].as_slice();
+        ask_row_in_both(row, lists, &self.users, one, other, asked);
+    }
 }
 
 /// The kernels that are asked where the variable's bound on this side moves.
@@ -159,6 +196,29 @@ fn ask_row(row: &[Mask], lists: &[u32], users: &Groups, wanted: &TrailedSet, ask
     asked.unite_in(row, wanted);
     for list in lists {
         asked.unite_in(users.group(*list as usize), wanted);
+    }
+}
+
+/// Puts those kernels into the set too that a row or one of these lists has and that are in both wanted sets.
+#[inline(always)]
+fn ask_row_in_both(
+    row: &[Mask],
+    lists: &[u32],
+    users: &Groups,
+    one: &TrailedSet,
+    other: &TrailedSet,
+    asked: &mut AskedSet,
+)
+    requires row { All (λ m. m.place * 32 ≤ length asked.old) row.now }
+    requires lists { All (λ l. l < length users.now) lists.now }
+    requires users { All (All (λ m. m.place * 32 ≤ length asked.old)) users.now }
+    requires one { length one.now.current ≡ length asked.old }
+    requires other { length other.now.current ≡ length asked.old }
+    ensures { IsAsked asked.old (λ j. (names row.now j || some_uses users.now j lists.now) && (slice_index_or one.now.current j false && slice_index_or other.now.current j false)) asked.new }
+{
+    asked.unite_in_both(row, one, other);
+    for list in lists {
+        asked.unite_in_both(users.group(*list as usize), one, other);
     }
 }
 

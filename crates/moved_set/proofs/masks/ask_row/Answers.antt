@@ -8,7 +8,7 @@ use Rattle.moved_set.proofs.masks.ask_row.Goals as goal
 
 pub loop-list-init : goal.loop-list-init
 loop-list-init c =
-    asked_in_own c.args.asked.now c.unite_in.new.self c.args.row.now c.args.users.now c.args.wanted.now.current c.unite_in.ensures
+    asked_in_own c.args.asked.now c.unite_in.new.self c.args.row.now c.args.users.now (λ j. get_or c.args.wanted.now.current j false) c.unite_in.ensures
 
 pub unite_in-requires-in-loop-list-clause-row : goal.unite_in-requires-in-loop-list-clause-row
 unite_in-requires-in-loop-list-clause-row c =
@@ -20,7 +20,7 @@ unite_in-requires-in-loop-list-clause-row c =
 
 pub loop-list-preserved : goal.loop-list-preserved
 loop-list-preserved c =
-    asked_in_list c.args.asked.now c.loop-list.asked c.unite_in-in-loop-list.new.self c.args.row.now c.args.users.now c.args.lists.now c.args.wanted.now.current c.loop-list.list-index
+    asked_in_list c.args.asked.now c.loop-list.asked c.unite_in-in-loop-list.new.self c.args.row.now c.args.users.now c.args.lists.now (λ j. get_or c.args.wanted.now.current j false) c.loop-list.list-index
     c.group.result.now c.loop-list-test.true c.group.ensures c.loop-list.invariant c.unite_in-in-loop-list.ensures
 
 pub returns : goal.returns

@@ -1,5 +1,6 @@
-use Rattle.std.proofs.Common.{◌≡◌, length, sym, ap, ◌∙◌, arith}
+use Rattle.std.proofs.Common.{◌≡◌, false, length, get_or, sym, ap, ◌∙◌, arith}
 use Rattle.std.proofs.lemmas.List.{with_items_is}
+use Rattle.moved_set.specs.Words.{has}
 use Rattle.moved_set.proofs.SetLaws.{length-set_of}
 use Rattle.moved_set.proofs.AskedLaws.{united_in_with}
 use Rattle.moved_set.proofs.asked.AskedSet.unite_in.Goals as goal
@@ -14,6 +15,6 @@ unite_masks_in-requires-clause-wanted c k d h = omega (arith, c.requires.row k d
 pub returns : goal.returns
 returns c =
     let same : length c.args.wanted.now.current ≡ c.self.inside.count = c.requires.wanted ∙ ap length (sym c.self.view_is) ∙ length-set_of c.self.inside.words.items c.self.inside.count in
-    united_in_with c.args.self.now c.self.inside.words.items c.as_mut_slice.result.now c.unite_masks_in.new.words _ c.args.row.now c.args.wanted.now.current c.words.result.now c.self.inside.count c.self.view_is c.as_mut_slice.ensures.value
+    united_in_with c.args.self.now c.self.inside.words.items c.as_mut_slice.result.now c.unite_masks_in.new.words _ c.args.row.now (λ j. get_or c.args.wanted.now.current j false) (has c.words.result.now) c.self.inside.count c.self.view_is c.as_mut_slice.ensures.value
     (with_items_is c.self.inside.words c.unite_masks_in.new.words (c.unite_masks_in.auto.words ∙ c.as_mut_slice.ensures.len))
     (λ j h. c.words.ensures.bits j (omega arith)) c.unite_masks_in.ensures

@@ -1,4 +1,4 @@
-use Rattle.std.proofs.Common.{◌≡◌, ◌<◌, ◌≤◌, ◌*◌, ◌+◌, length, sym, subst, ◌∙◌, ap, arith}
+use Rattle.std.proofs.Common.{◌≡◌, ◌<◌, ◌≤◌, ◌*◌, ◌+◌, false, length, get_or, sym, subst, ◌∙◌, ap, arith}
 use Rattle.std.specs.Prelude.{All}
 use Rattle.moved_set.specs.Sets.{Naming}
 use Rattle.moved_set.specs.Rows.{row_at}
@@ -38,4 +38,4 @@ returns c =
     row_lent c.self.inside.lists_of.items c.args.v c.index.result.now c.as_slice-lists.result.now there c.index.ensures c.as_slice-lists.ensures.value in
     let size : length c.args.asked.now ≡ c.self.inside.kernels = c.requires.set ∙ ap (λ (n : Naming). length n.sets) (sym c.self.view_is) ∙ sets_length _ _ _ _ _ in
     asked_in_all c.args.asked.now c.ask_row.new.asked (row_of c.self.inside.own) c.self.inside.lists_of.items c.self.inside.users c.self.inside.count c.self.inside.kernels c.args.v c.args.self.now.sets
-    c.three-row.result.now c.as_slice-lists.result.now c.args.wanted.now.current (ap (λ (n : Naming). n.sets) c.self.view_is) within size c.three-row.ensures lists c.ask_row.ensures
+    c.three-row.result.now c.as_slice-lists.result.now (λ j. get_or c.args.wanted.now.current j false) (ap (λ (n : Naming). n.sets) c.self.view_is) within size c.three-row.ensures lists c.ask_row.ensures

@@ -1,4 +1,4 @@
-use Rattle.std.proofs.Common.{◌≡◌, ◌<◌, ◌≤◌, ◌*◌, ◌+◌, length, sym, subst, ◌∙◌, ap, arith}
+use Rattle.std.proofs.Common.{◌≡◌, ◌<◌, ◌≤◌, ◌*◌, ◌+◌, false, length, get_or, sym, subst, ◌∙◌, ap, arith}
 use Rattle.std.specs.Prelude.{All}
 use Rattle.moved_set.specs.Sets.{Naming, side_sets}
 use Rattle.moved_set.specs.Rows.{row_at}
@@ -40,4 +40,4 @@ returns c =
     let sets : asked_sets (side_row c.self.inside.own c.args.side) c.self.inside.lists_of.items c.self.inside.users c.self.inside.count c.self.inside.kernels ≡ side_sets c.args.self.now c.args.side =
     side_view c.self.inside.own c.self.inside.lists_of.items c.self.inside.users c.self.inside.count c.self.inside.kernels c.self.inside.shapes.items c.args.side ∙ ap (λ (n : Naming). side_sets n c.args.side) c.self.view_is in
     asked_in_all c.args.asked.now c.ask_row.new.asked (side_row c.self.inside.own c.args.side) c.self.inside.lists_of.items c.self.inside.users c.self.inside.count c.self.inside.kernels c.args.v (side_sets c.args.self.now c.args.side)
-    c.row_of_side-row.result.now c.as_slice-lists.result.now c.args.wanted.now.current sets within size c.row_of_side-row.ensures lists c.ask_row.ensures
+    c.row_of_side-row.result.now c.as_slice-lists.result.now (λ j. get_or c.args.wanted.now.current j false) sets within size c.row_of_side-row.ensures lists c.ask_row.ensures

@@ -11,3 +11,4 @@ pub mod ApartLaws
 pub mod DifferenceLaws
 pub mod FoundLaws
 pub mod SideLaws
+pub mod OneLaws

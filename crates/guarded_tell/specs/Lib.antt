@@ -9,3 +9,4 @@ pub mod Sides
 pub mod Open
 pub mod Sole
 pub mod Found
+pub mod Seen

@@ -56,7 +56,7 @@ pub fn is_apart_given<H: Hear>(k: &Kernel, shape: &Shape, b: &BoxOf, h: &mut H) 
 }
 
 /// Whether the variable has one number left.
-fn is_fixed(v: u32, b: &BoxOf) -> bool
+pub fn is_fixed(v: u32, b: &BoxOf) -> bool
     requires { v < length b.now }
     ensures { result ≡ equality.is_same (low_of b.now v) (high_of b.now v) }
 {
@@ -103,7 +103,7 @@ fn narrow_high_apart<H: Hear>(coeff: i64, var: u32, product: i64, b: &BoxOf, h: 
 
 /// Whether the coefficient, which is 1 or -1, times the bound is the product.
 #[tactic(auto, unfolding(interval::specs::Limits::bound_limit, interval::specs::Limits::largest_number))]
-fn is_product(coeff: i64, value: i64, product: i64) -> bool
+pub fn is_product(coeff: i64, value: i64, product: i64) -> bool
     requires unit { unsigned_abs coeff ≡ 1 }
     requires bound { IsBound value }
     ensures { result ≡ equality.is_product coeff value product }

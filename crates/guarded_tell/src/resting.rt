@@ -73,7 +73,7 @@ pub fn seen_rest(k: &Kernel, shape: &Shape, b: &BoxOf) -> Option<Rest>
 
 /// The same of a sum of two terms that is at most the limit where the literal is true.
 #[inline(always)]
-fn at_most_rest(lit: Lit, limit: i64, pair: Pair, b: &BoxOf) -> Option<Rest>
+pub fn at_most_rest(lit: Lit, limit: i64, pair: Pair, b: &BoxOf) -> Option<Rest>
     requires variable { lit.var < length b.now }
     requires proper { low_of b.now lit.var ≤ℤ high_of b.now lit.var }
     requires first { IsSmallTerm pair.first }
@@ -91,7 +91,7 @@ fn at_most_rest(lit: Lit, limit: i64, pair: Pair, b: &BoxOf) -> Option<Rest>
 
 /// The same of a sum of two terms that is the limit where the literal is true.
 #[inline(always)]
-fn same_rest(lit: Lit, limit: i64, pair: Pair, b: &BoxOf) -> Option<Rest>
+pub fn same_rest(lit: Lit, limit: i64, pair: Pair, b: &BoxOf) -> Option<Rest>
     requires variable { lit.var < length b.now }
     requires proper { low_of b.now lit.var ≤ℤ high_of b.now lit.var }
     requires first { IsSmallTerm pair.first }
@@ -110,7 +110,7 @@ fn same_rest(lit: Lit, limit: i64, pair: Pair, b: &BoxOf) -> Option<Rest>
 
 /// The same of a sum of two terms that must not be the limit. Most have a fixed term and a limit between their sums.
 #[inline(always)]
-fn unequal_rest(limit: i64, pair: Pair) -> Option<Rest>
+pub fn unequal_rest(limit: i64, pair: Pair) -> Option<Rest>
     requires first { IsSmallTerm pair.first }
     requires second { IsSmallTerm pair.second }
     ensures { MatchOption result (Unit {0}) (IsUnequalFor limit pair) }
@@ -131,7 +131,7 @@ fn unequal_rest(limit: i64, pair: Pair) -> Option<Rest>
 }
 
 /// The same of a clause of two literals.
-fn either_rest(first: Lit, second: Lit, b: &BoxOf) -> Option<Rest>
+pub fn either_rest(first: Lit, second: Lit, b: &BoxOf) -> Option<Rest>
     requires first { first.var < length b.now }
     requires second { second.var < length b.now }
     requires proper_first { low_of b.now first.var ≤ℤ high_of b.now first.var }
@@ -148,7 +148,7 @@ fn either_rest(first: Lit, second: Lit, b: &BoxOf) -> Option<Rest>
 }
 
 /// The same of a clause of three literals.
-fn triple_rest(first: Lit, second: Lit, third: Lit, b: &BoxOf) -> Option<Rest>
+pub fn triple_rest(first: Lit, second: Lit, third: Lit, b: &BoxOf) -> Option<Rest>
     requires first { first.var < length b.now }
     requires second { second.var < length b.now }
     requires third { third.var < length b.now }

@@ -28,11 +28,12 @@ use Rattle.moved_fixpoint.specs.declared.joiner.Progress.{Progress}
 use Rattle.moved_fixpoint.specs.declared.joiner.Progress.TheVariants.{Crossed, Refused}
 use Rattle.moved_fixpoint.specs.Moved.{Set, count_of}
 use Rattle.moved_fixpoint.specs.Rested.{Heeds, HasRested}
-use Rattle.moved_fixpoint.specs.Asked.{has_one, heard_at, AreAsked}
+use Rattle.moved_fixpoint.specs.Asked.{has_one, heard_at, AreAsked, IsAskedBy}
 use Rattle.moved_fixpoint.specs.Heard.{GoesOn, Hears, Joined, joined}
 use Rattle.moved_fixpoint.specs.Gathered.{SideLeavesNone, AreCut, AreGathered}
 use Rattle.moved_fixpoint.specs.Runs.{SameAt, SparesSide, IsUnmoved, HasVisited, KernelRuns}
 use Rattle.moved_fixpoint.proofs.RestLaws.{in_or_not, proper_of, entailed_here, quiet_here}
+use Rattle.moved_fixpoint.proofs.AskedLaws.{asked_more, asked_none}
 use Rattle.moved_fixpoint.proofs.Hearing.{Effect, IsPlaced, effect, effect_of_all, same_side_back}
 
 -- the laws of the kernels, as their functions state them
@@ -353,6 +354,26 @@ any_default kernels i k before asked rests p after asked_after rests_after p_aft
 
 pub here_is : (kernels : List Kernel) (n i : ℕ) (k : Kernel) → All (IsKernel n) kernels → i < length kernels → k ≡ get_or kernels i k → IsKernel n k
 here_is kernels n i k all h is = subst (IsKernel n) (sym is) (all i k h)
+
+-- ---- a kernel that tells one thing
+
+pub told_any : (kernels : List Kernel) (i : ℕ) (k : Kernel) (b now : Bounds) (t : Tell) → i < length kernels → k ≡ get_or kernels i k → now ≡ b → narrowing_tells k now ≡ t ∷ [] →
+    (d : Kernel) → narrowing_tells (get_or kernels i d) b ≡ t ∷ []
+told_any kernels i k b now t h is same told d =
+    subst (λ (x : Kernel). narrowing_tells x b ≡ t ∷ []) (is ∙ get_or_default kernels i k d h) (subst (λ (x : Bounds). narrowing_tells k x ≡ t ∷ []) same told)
+
+pub one_gathered : (kernels : List Kernel) (i : ℕ) (k : Kernel) (b : Bounds) (t : Tell) → k ≡ get_or kernels i k → ((d : Kernel) → narrowing_tells (get_or kernels i d) b ≡ t ∷ []) →
+    AreGathered b (narrowing_tells k b) (t ∷ [])
+one_gathered kernels i k b t is told = inl (sym ((λ j. narrowing_tells (is j) b) ∙ told k))
+
+pub one_heard : (j after : Joined) (t : Tell) → Hears j t after → HearsAll Hears j (t ∷ []) after
+one_heard j after t h = (after, h, refl)
+
+pub one_asked : (naming : Naming) (rests : Rests) (b : Bounds) (by_side : Bool) (t : Tell) (old new : Set) → by_side ≡ has_one b →
+    IsAskedBy (λ j. heard_at naming by_side t.side j) rests b t.var old new → AreAsked naming rests b (has_one b) (t ∷ []) old new
+one_asked naming rests b by_side t old new is h =
+    subst (λ (s : Bool). AreAsked naming rests b s (t ∷ []) old new) is
+    (asked_more naming rests b by_side (t ∷ []) 0 t old old new (omega arith) (asked_none naming rests b by_side old) h)
 
 -- ---- what is so after a call
 

@@ -51,7 +51,7 @@ pub(crate) fn join_all(told: &[Tell], b: &mut TrailedBox, mut progress: Progress
 }
 
 /// Joins a tell into a box, unless the round is over.
-fn join(t: Tell, b: &mut TrailedBox, progress: Progress) -> Progress
+pub(crate) fn join(t: Tell, b: &mut TrailedBox, progress: Progress) -> Progress
     requires variable { t.var < length b.old.current }
     requires bound { IsBound t.bound }
     ensures stack { b.new.stack ≡ b.old.stack }

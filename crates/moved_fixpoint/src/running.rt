@@ -1,21 +1,26 @@
 //! Running one kernel.
 
-ghost use Rattle.std.specs.Prelude.{◌≡◌, ◌<◌, length};
+ghost use Rattle.std.specs.Prelude.{◌≡◌, ◌<◌, ◌∷◌, [], length, slice_index_or};
 ghost use Rattle.std.specs.List.{All};
 ghost use Rattle.interval.specs.Boxes.{IsProper};
-ghost use Rattle.guarded_tell.specs.Kernels.{IsKernel};
+ghost use Rattle.guarded_tell.specs.Words.{IsProperIn};
+ghost use Rattle.guarded_tell.specs.Kernels.{vars_of, IsKernel};
+ghost use Rattle.guarded_tell.specs.Narrowing.{narrowing_tells};
+ghost use Rattle.guarded_tell.specs.Shapes.{IsShapeOf};
+ghost use Rattle.guarded_tell.specs.Rests.{IsRest};
 ghost use Rattle.moved_fixpoint.specs.Moved.{AreMasksOf, count_of};
 ghost use Rattle.moved_fixpoint.specs.Resting.{FitRests, KeepStacks};
 ghost use Rattle.moved_fixpoint.specs.Asked.{has_one, AreAsked};
 ghost use Rattle.moved_fixpoint.specs.Runs.{KernelRuns};
 
 use crate::drawing::{ask, has_one};
-use crate::joiner::{Progress, join_all};
+use crate::joiner::{Progress, join, join_all};
 use crate::rests::Rests;
 use crate::sets::AskedSets;
 use fixpoint_laws::law_tightens_one;
 use guarded_tell::{
-    Kernel, Tell, law_local, law_monotone, law_narrowing, law_sided, law_tell_place, seen_rest,
+    Kernel, Rest, Seen, Shape, Tell, law_local, law_monotone, law_narrowing, law_sided,
+    law_tell_place, seen_rest, seen_visit,
 };
 use interval::{BoxOf, law_inside_order};
 use moved_set::{AskedSet, Masks};
@@ -36,8 +41,8 @@ fn ask_told(masks: &Masks, told: &[Tell], b: &BoxOf, rests: &Rests, asked: &mut 
 }
 
 /// Runs the kernel at a place on the box, and says how far the round has come then. It is forgotten before, and asked again
-/// if a variable of its own moves and it heeds that. Where its shape alone says that it narrows nothing, nothing else is
-/// looked at.
+/// if a variable of its own moves and it heeds that. Where its shape alone says that it narrows nothing, or what its one
+/// tell is, nothing else is looked at.
 #[inline(always)]
 pub(crate) fn run_kernel(
     kernels: &[Kernel],
@@ -68,8 +73,8 @@ pub(crate) fn run_kernel(
     // its contract says that the bounds are in range
     let _length = b.len();
     let kernel = &kernels[place];
-    match seen_rest(kernel, masks.shape(place), b.current()) {
-        Some(rest) => {
+    match seen_visit(kernel, masks.shape(place), b.current()) {
+        Seen::Quiet(rest) => {
             sets.asked.forget(place);
             if sets.rest_for(place, rest).is_ok() {
                 progress
@@ -77,7 +82,68 @@ pub(crate) fn run_kernel(
                 Progress::Refused
             }
         }
-        None => run_unseen(kernels, masks, place, b, sets, progress),
+        Seen::One(t) => run_one(kernels, masks, place, t, b, sets, progress),
+        Seen::Unseen => run_unseen(kernels, masks, place, b, sets, progress),
+    }
+}
+
+/// The same of a kernel that has one tell on the box. That is joined, and the kernel rests as long as its shape says on the
+/// box as it is then.
+fn run_one(
+    kernels: &[Kernel],
+    masks: &Masks,
+    place: usize,
+    t: Tell,
+    b: &mut TrailedBox,
+    sets: &mut AskedSets,
+    progress: Progress,
+) -> Progress
+    requires place { place < length kernels.now }
+    requires kernels { All (IsKernel (length b.old.current)) kernels.now }
+    requires masks { AreMasksOf kernels.now (length b.old.current) masks.now }
+    requires set { count_of sets.old.asked ≡ length kernels.now }
+    requires rests { FitRests (length kernels.now) sets.old.rests }
+    requires proper { IsProper b.old.current }
+    requires told { (k : Kernel) → narrowing_tells (slice_index_or kernels.now place k) b.old.current ≡ t ∷ [] }
+    ensures stack { b.new.stack ≡ b.old.stack }
+    ensures rests { FitRests (length kernels.now) sets.new.rests }
+    ensures stacks { KeepStacks sets.old.rests sets.new.rests }
+    ensures run { KernelRuns kernels.now place b.old.current sets.old.asked sets.old.rests progress b.new.current sets.new.asked sets.new.rests result }
+{
+    law_inside_order();
+    law_tightens_one();
+    law_local();
+    law_monotone();
+    law_tell_place();
+    law_narrowing();
+    law_sided();
+    // its contract says that the bounds are in range
+    let _length = b.len();
+    let kernel = &kernels[place];
+    sets.asked.forget(place);
+    let after = join(t, b, progress);
+    if !after.goes_on() {
+        return after;
+    }
+    let now = b.current();
+    let rest = shape_rest(kernel, masks.shape(place), now);
+    if sets.rest_for(place, rest).is_err() {
+        return Progress::Refused;
+    }
+    ask(masks, t, has_one(now), now, &sets.rests, &mut sets.asked);
+    after
+}
+
+/// How long the kernel needs no visit, as far as its shape says.
+fn shape_rest(kernel: &Kernel, shape: &Shape, b: &BoxOf) -> Rest
+    requires kernel { IsKernel (length b.now) kernel.now }
+    requires shape { IsShapeOf kernel.now shape.now }
+    requires proper { IsProperIn (vars_of kernel.now) b.now }
+    ensures { IsRest kernel.now b.now result }
+{
+    match seen_rest(kernel, shape, b) {
+        Some(rest) => rest,
+        None => Rest::Awake,
     }
 }
 

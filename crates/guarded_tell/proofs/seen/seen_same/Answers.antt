@@ -1,0 +1,9 @@
+-- The literal stands in the box.
+use Rattle.guarded_tell.proofs.ShapeQuiet.{same_places}
+use Rattle.guarded_tell.proofs.seen.seen_same.Goals as goal
+
+pub stands_false-requires-clause-variable : goal.stands_false-requires-clause-variable
+stands_false-requires-clause-variable c = (same_places c.args.k.now c.args.b.now c.args.lit c.args.x c.args.y c.args.limit c.requires.kernel c.requires.proper c.requires.shape).literal
+
+pub stands_false-requires-clause-proper : goal.stands_false-requires-clause-proper
+stands_false-requires-clause-proper c = (same_places c.args.k.now c.args.b.now c.args.lit c.args.x c.args.y c.args.limit c.requires.kernel c.requires.proper c.requires.shape).literal_proper

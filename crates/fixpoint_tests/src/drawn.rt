@@ -59,6 +59,20 @@ impl Draws {
         let positive = self.below(2) == 0;
         Lit { var, positive }
     }
+
+    /// A literal of a sum: one time in two that the first variable is true, so that sums are asked by side where it is.
+    fn sum_lit(&mut self) -> Lit
+        ensures { result.var < 40 }
+    {
+        if self.below(2) == 0 {
+            Lit {
+                var: 0,
+                positive: true,
+            }
+        } else {
+            self.lit()
+        }
+    }
 }
 
 /// Three variables.
@@ -115,7 +129,7 @@ fn drawn_apart<T: Copy + Drop>(
 fn sum(alloc: Global, draws: &mut Draws, is_equation: bool) -> Result<Kernel, AllocError>
     ensures { IfOk result (IsKernel 40) }
 {
-    let lit = draws.lit();
+    let lit = draws.sum_lit();
     let limit = draws.number();
     let coeffs = three_numbers(alloc, draws)?;
     let vars = three_vars(alloc, draws)?;
@@ -256,7 +270,8 @@ pub(crate) fn program(
 }
 
 #[tactic(auto, unfolding(interval::specs::Limits::bound_limit, interval::specs::Limits::largest_number))]
-/// Forty pairs, each of a number up to 0 and one from 0 on.
+/// Forty pairs, each of a number up to 0 and one from 0 on, but that one time in two the first variable is 1: where it is at
+/// least that, kernels are asked by side.
 pub(crate) fn start(alloc: Global, draws: &mut Draws) -> Result<BoxOf, NoMemory>
     ensures { IfOk result (λ b. length b ≡ 40) }
 {
@@ -265,6 +280,9 @@ pub(crate) fn start(alloc: Global, draws: &mut Draws) -> Result<BoxOf, NoMemory>
         let low = -(draws.below(10) as i64);
         let high = draws.below(10) as i64;
         b.put(v, low, high);
+    }
+    if draws.below(2) == 0 {
+        b.put(0, 1, 1);
     }
     Ok(b)
 }

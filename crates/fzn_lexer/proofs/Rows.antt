@@ -158,6 +158,13 @@ first_byte at text h =
     ap (λ (o : Option Found). later o (longest_found (step Start (get_or text at 0)) (at + 1) (drop (at + 1) text))) (sym (none_later (found_as (accepted (step Start (get_or text at 0))) (at + 1))))
     ∙ found_more None (longest_found Start at (drop at text)) Start at text h (none_later (longest_found Start at (drop at text)))
 
+-- what is found from this state on, where there is something
+pub told_on : (o : Option Found) (q r : State) (at : ℕ) (text : List ℕ) → q ≡ r → o ≡ found_on (accepted r) r at text
+    → IfSome o (λ f. found_on (accepted q) q at text ≡ Some f)
+told_on None q r at text e f = cc
+told_on (Some found) q r at text e f =
+    ap (λ (s : State). found_on (accepted s) s at text) e ∙ sym f
+
 -- what is found behind the first byte is found from there on
 pub plain_first : (at : ℕ) (text : List ℕ) (q : State) (o : Option Found) → at < length text → q ≡ start_step (get_or text at 0)
     → IfSome o (λ f. found_on (accepted q) q (at + 1) text ≡ Some f) → IfSome o (λ f. longest_found Start at (drop at text) ≡ Some f)

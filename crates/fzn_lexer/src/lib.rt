@@ -149,8 +149,8 @@ pub fn next_token(text: &[u8], from: usize) -> Result<Option<Token>, NoToken>
     Ok(None)
 }
 
-/// The first token behind the byte `from`, where it is a mark with which no other piece begins, a word, or a number in base 10 that
-/// doesn't begin with 0: most of them are found so in fewer steps. Else none, and `next_token` finds what stands there.
+/// The first token behind the byte `from`, where it is a mark, a word, or an integer without a sign: most of them are found so in
+/// fewer steps. Else none, and `next_token` finds what stands there.
 #[inline(always)]
 pub fn next_plain(text: &[u8], from: usize) -> Option<Token>
     requires { from ≤ length text.now }

@@ -487,18 +487,39 @@ fn plain_behind(text: &[u8], from: usize, state: State) -> Option<Found>
             piece: PieceKind::Token(Kind::Word),
             to: word_end(text, from),
         }),
+        State::Colon => colon_behind(text, from),
+        State::Dot => point_behind(text, from),
+        State::Zero => zero_behind(text, from),
         _ => None,
     }
 }
 
-/// The longest piece that begins at `at`, where it is of those that most are: a mark with which no other piece begins, a word, or
-/// a number in base 10 that doesn't begin with 0.
+/// The state behind the first byte of a piece, where it is of those that most are.
+#[inline(always)]
+fn plain_state(b: u8) -> Option<State>
+    ensures { IfSome result (λ q. q ≡ machine.start_step b) }
+{
+    match b {
+        b'(' | b')' | b'[' | b']' | b'{' | b'}' | b',' | b';' | b'=' => Some(State::MarkEnd),
+        b'1'..=b'9' => Some(State::Digits),
+        b'a'..=b'z' | b'A'..=b'Z' | b'_' => Some(State::InWord),
+        b':' => Some(State::Colon),
+        b'.' => Some(State::Dot),
+        b'0' => Some(State::Zero),
+        _ => None,
+    }
+}
+
+/// The longest piece that begins at `at`, where it is of those that most are: a mark, a word, or a number without a sign.
 #[inline(always)]
 pub fn plain_piece(text: &[u8], at: usize) -> Option<Found>
     requires { at < length text.now }
     ensures { IfSome result (λ f. machine.longest_found machine.start at (drop at text.now) ≡ Some f) }
 {
-    plain_behind(text, at + 1, start_step(text[at]))
+    match plain_state(text[at]) {
+        Some(state) => plain_behind(text, at + 1, state),
+        None => None,
+    }
 }
 
 /// The first place from `from` on at which no blank stands.

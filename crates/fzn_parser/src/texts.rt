@@ -172,7 +172,7 @@ fn byte_mark(byte: u8) -> Option<Symbol>
 
 #[tactic(auto, unfolding(crate::specs::Texts::mark))]
 #[inline(never)]
-fn any_mark(s: &[u8]) -> Option<Symbol>
+fn mark(s: &[u8]) -> Option<Symbol>
     ensures { result ≡ mark s.now }
 {
     let symbol = bracket(s);
@@ -180,16 +180,6 @@ fn any_mark(s: &[u8]) -> Option<Symbol>
         symbol
     } else {
         other_mark(s)
-    }
-}
-
-#[inline(always)]
-fn mark(s: &[u8]) -> Option<Symbol>
-    ensures { result ≡ mark s.now }
-{
-    match s {
-        [byte] => byte_mark(*byte),
-        _ => any_mark(s),
     }
 }
 

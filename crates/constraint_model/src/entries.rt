@@ -13,16 +13,22 @@ use shared_list::SharedList;
 use std::alloc::{AllocError, Global};
 use std::marker::Model;
 
-/// The entries of an array, seen by contracts as the list of their meanings. Their terms stand alone, since the constraints that
-/// name the array share them; so do their variables, which search annotations share, and what each of them is, so that a
-/// constraint that names the array needn't go through them. Of entries that are neither all integers nor all booleans, which no
-/// declared array has, the meanings stand beside.
+/// What is kept of the entries of an array. Their terms stand alone, since the constraints that name the array share them; so do
+/// their variables, which search annotations share, and what each of them is, so that a constraint that names the array needn't go
+/// through them. Of entries that are neither all integers nor all booleans, which no declared array has, the meanings stand beside.
 #[derive(Drop)]
-pub struct Entries {
+pub(crate) struct Parts {
     terms: SharedList<Term>,
     variables: SharedList<u32>,
     kinds: Kinds,
     mixed: ListOf<Scalar>,
+}
+
+/// The entries of an array, seen by contracts as the list of their meanings. What is kept of them stands apart, so that a name that
+/// stands for one variable takes no room for an array.
+#[derive(Drop)]
+pub struct Entries {
+    parts: Box<Parts>,
 }
 
 impl Model for Entries {
@@ -33,9 +39,9 @@ impl Model for Entries {
 
     ghost Value = { List Scalar };
 
-    ghost view = { λ e. scalars_of e.kinds e.terms e.mixed };
+    ghost view = { λ e. scalars_of e.parts.value.kinds e.parts.value.terms e.parts.value.mixed };
 
-    ghost invariant = { λ e. (e.terms ≡ map (λ s. s.term) (scalars_of e.kinds e.terms e.mixed)) × (e.variables ≡ variables_in (scalars_of e.kinds e.terms e.mixed)) × (e.kinds ≡ kinds_of (scalars_of e.kinds e.terms e.mixed)) };
+    ghost invariant = { λ e. (e.parts.value.terms ≡ map (λ s. s.term) (scalars_of e.parts.value.kinds e.parts.value.terms e.parts.value.mixed)) × (e.parts.value.variables ≡ variables_in (scalars_of e.parts.value.kinds e.parts.value.terms e.parts.value.mixed)) × (e.parts.value.kinds ≡ kinds_of (scalars_of e.parts.value.kinds e.parts.value.terms e.parts.value.mixed)) };
 }
 
 /// The terms of scalars.
@@ -78,11 +84,14 @@ impl Entries {
         let variables = SharedList::from_vec(variables_of(alloc, scalars.as_slice())?)?;
         let kinds = Kinds::of(scalars.as_slice());
         let mixed = not_told(alloc, kinds, terms.as_slice(), scalars);
-        Ok(Entries {
+        let parts = Parts {
             terms,
             variables,
             kinds,
             mixed,
+        };
+        Ok(Entries {
+            parts: Box::new(alloc, parts)?,
         })
     }
 
@@ -91,18 +100,21 @@ impl Entries {
     pub fn len(&self) -> usize
         ensures { result ≡ length self.now }
     {
-        self.terms.len()
+        self.parts.terms.len()
     }
 
     /// The same entries for another owner. Of a long array none is copied.
     pub fn share(&self, alloc: Global) -> Result<Entries, AllocError>
         ensures { IfOk result (λ entries. entries ≡ self.now) }
     {
+        let parts = Parts {
+            terms: self.parts.terms.share(alloc)?,
+            variables: self.parts.variables.share(alloc)?,
+            kinds: self.parts.kinds,
+            mixed: ListOf::from_vec(Vec::from_slice(alloc, self.parts.mixed.as_slice())?),
+        };
         Ok(Entries {
-            terms: self.terms.share(alloc)?,
-            variables: self.variables.share(alloc)?,
-            kinds: self.kinds,
-            mixed: ListOf::from_vec(Vec::from_slice(alloc, self.mixed.as_slice())?),
+            parts: Box::new(alloc, parts)?,
         })
     }
 
@@ -110,54 +122,55 @@ impl Entries {
     pub fn are_integers(&self) -> bool
         ensures { result ≡ list_all is_integer self.now }
     {
-        self.kinds.all_integers
+        self.parts.kinds.all_integers
     }
 
     /// Whether each is a boolean.
     pub fn are_booleans(&self) -> bool
         ensures { result ≡ list_all is_boolean self.now }
     {
-        self.kinds.all_booleans
+        self.parts.kinds.all_booleans
     }
 
     /// Whether each is a constant.
     pub fn are_constants(&self) -> bool
         ensures { result ≡ list_all is_constant self.now }
     {
-        self.kinds.all_constants
+        self.parts.kinds.all_constants
     }
 
     /// Whether each is an integer constant that isn't negative.
     pub(crate) fn are_amounts(&self) -> bool
         ensures { result ≡ list_all is_amount self.now }
     {
-        self.kinds.all_amounts
+        self.parts.kinds.all_amounts
     }
 
     /// Their terms for another owner. Of a long array none is copied.
     pub fn share_terms(&self, alloc: Global) -> Result<SharedList<Term>, AllocError>
         ensures { IfOk result (λ terms. terms ≡ map (λ s. s.term) self.now) }
     {
-        self.terms.share(alloc)
+        self.parts.terms.share(alloc)
     }
 
     /// Their variables for another owner, in order. Of a long array none is copied.
     pub fn share_variables(&self, alloc: Global) -> Result<SharedList<u32>, AllocError>
         ensures { IfOk result (λ variables. variables ≡ variables_in self.now) }
     {
-        self.variables.share(alloc)
+        self.parts.variables.share(alloc)
     }
 
     /// Their terms.
     pub fn into_terms(self) -> SharedList<Term>
         ensures { result ≡ map (λ s. s.term) self }
     {
-        let Entries {
+        let Entries { parts } = self;
+        let Parts {
             terms,
             variables: _,
             kinds: _,
             mixed: _,
-        } = self;
+        } = Box::into_inner(parts);
         terms
     }
 }

@@ -1,12 +1,12 @@
 -- Rows of bytes that leave the machine in one state.
 use Rattle.std.proofs.Common.{◌≡◌, ◌<◌, ◌≤◌, ◌+◌, ◌∙◌, ℕ, Bool, List, drop, length, refl, sym, ap, subst, get_or}
-use Rattle.std.specs.Prelude.{true, false, Option, Some, None, not}
+use Rattle.std.specs.Prelude.{true, false, Option, Some, None, IfSome, not}
 use Rattle.std.specs.Char.{is_ascii_digit}
 use Rattle.std.specs.Prelude.{◌==◌, ◌&&◌, ◌≢◌, [], ◌∷◌, zero, suc}
 use Rattle.std.proofs.Common.{inl, inr, arith, zero-add}
 use Rattle.std.proofs.lemmas.Bool.{cond-true, cond-false, cases_Bool, cases_lt, eqb-true, and_parts}
 use Rattle.fzn_lexer.specs.Bytes.{is_word_byte, is_in_line}
-use Rattle.fzn_lexer.specs.Machine.{step, accepted, alive_if, digits_step, later, found_as, found_on, longest_found, word, int, comment}
+use Rattle.fzn_lexer.specs.Machine.{step, start_step, accepted, alive_if, digits_step, later, found_as, found_on, longest_found, word, int, comment}
 use Rattle.fzn_lexer.specs.declared.PieceKind.{PieceKind}
 use Rattle.fzn_lexer.specs.declared.machine.Found.{Found}
 use Rattle.fzn_lexer.specs.declared.machine.State.{State}
@@ -157,6 +157,20 @@ pub first_byte : (at : ℕ) (text : List ℕ) → at < length text
 first_byte at text h =
     ap (λ (o : Option Found). later o (longest_found (step Start (get_or text at 0)) (at + 1) (drop (at + 1) text))) (sym (none_later (found_as (accepted (step Start (get_or text at 0))) (at + 1))))
     ∙ found_more None (longest_found Start at (drop at text)) Start at text h (none_later (longest_found Start at (drop at text)))
+
+-- what is found from this state on, where there is something
+pub told_on : (o : Option Found) (q r : State) (at : ℕ) (text : List ℕ) → q ≡ r → o ≡ found_on (accepted r) r at text
+    → IfSome o (λ f. found_on (accepted q) q at text ≡ Some f)
+told_on None q r at text e f = cc
+told_on (Some found) q r at text e f =
+    ap (λ (s : State). found_on (accepted s) s at text) e ∙ sym f
+
+-- what is found behind the first byte is found from there on
+pub plain_first : (at : ℕ) (text : List ℕ) (q : State) (o : Option Found) → at < length text → q ≡ start_step (get_or text at 0)
+    → IfSome o (λ f. found_on (accepted q) q (at + 1) text ≡ Some f) → IfSome o (λ f. longest_found Start at (drop at text) ≡ Some f)
+plain_first at text q None h e g = cc
+plain_first at text q (Some f) h e g =
+    sym (first_byte at text h) ∙ subst (λ (r : State). found_on (accepted r) r (at + 1) text ≡ Some f) e g
 
 -- nothing is found at the text's end
 pub no_byte : (at : ℕ) (text : List ℕ) → at ≡ length text → None ≡ longest_found Start at (drop at text)

@@ -143,15 +143,8 @@ blank_more text from at h e l =
     = ap (λ u. longest_found Start at u) (drop_more text at 0 h) ∙ blank_found at (get_or text at 0) (drop (at + 1) text) e in
     (found_behind text from at (record { piece = piece_kind.Blank; to = at + 1 }) found l).1
 
-mark_found : (at b : ℕ) (bs : List ℕ) → start_step b ≡ MarkEnd → longest_found Start at (b ∷ bs) ≡ Some (record { piece = piece_kind.Token kinds.Mark; to = at + 1 })
-mark_found at b bs e =
-    longest_cons Start at b bs ∙ (ap (λ (q : State). later (found_as (accepted q) (at + 1)) (longest_found q (at + 1) bs)) e
-    ∙ ap (λ o. later (Some (record { piece = piece_kind.Token kinds.Mark; to = at + 1 })) o) (none_behind_last MarkEnd (at + 1) bs refl))
-
--- a mark with which no other piece begins, behind blanks
-pub mark_next : (text : List ℕ) (from at : ℕ) → at < length text → start_step (get_or text at 0) ≡ MarkEnd → LexesTo text from at []
-    → IsNext text from (Some (record { kind = kinds.Mark; from = at; to = at + 1 }))
-mark_next text from at h e l =
-    let found : longest_found Start at (drop at text) ≡ Some (record { piece = piece_kind.Token kinds.Mark; to = at + 1 })
-    = ap (λ u. longest_found Start at u) (drop_more text at 0 h) ∙ mark_found at (get_or text at 0) (drop (at + 1) text) e in
-    found_behind text from at (record { piece = piece_kind.Token kinds.Mark; to = at + 1 }) found l
+-- a token, where the piece behind blanks is one
+pub plain_next : (text : List ℕ) (from at : ℕ) (found : Found) (o : Option Token) → longest_found Start at (drop at text) ≡ Some found
+    → token_of found.piece at found.to ≡ option_to_list o → IfSome o (λ t. t.to ≡ found.to) → LexesTo text from at [] → IfSome o (λ t. IsNext text from (Some t))
+plain_next text from at found None e f g l = cc
+plain_next text from at found (Some t) e f g l = token_behind text from at found (Some t) (sym e) f g refl l

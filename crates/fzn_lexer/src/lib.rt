@@ -13,7 +13,7 @@ ghost use Rattle.fzn_lexer.specs.Lexing.{LexesAs, LexesTo, FaultsAt, LacksPiece,
 ghost use Rattle.fzn_lexer.specs.declared.Token.{Token};
 ghost use Rattle.fzn_lexer.specs.declared.LexError.TheVariants.{NoMemory};
 
-use machine::{Found, after_blanks, is_mark_byte, longest_piece};
+use machine::{Found, after_blanks, longest_piece, plain_piece};
 use std::alloc::{AllocError, AllocFailed, Global};
 use thiserror::Error;
 
@@ -149,22 +149,21 @@ pub fn next_token(text: &[u8], from: usize) -> Result<Option<Token>, NoToken>
     Ok(None)
 }
 
-/// The first token behind the byte `from`, where it is a mark with which no other piece begins: most of them are found so in
+/// The first token behind the byte `from`, where it is a mark, a word, or an integer without a sign: most of them are found so in
 /// fewer steps. Else none, and `next_token` finds what stands there.
 #[inline(always)]
-pub fn next_mark(text: &[u8], from: usize) -> Option<Token>
+pub fn next_plain(text: &[u8], from: usize) -> Option<Token>
     requires { from ≤ length text.now }
     ensures { IfSome result (λ t. IsNext text.now from (Some t)) }
 {
     let at = after_blanks(text, from);
-    if at < text.len() && is_mark_byte(text[at]) {
-        return Some(Token {
-            kind: Kind::Mark,
-            from: at,
-            to: at + 1,
-        });
+    if at >= text.len() {
+        return None;
     }
-    None
+    match plain_piece(text, at) {
+        Some(found) => token_in(found, at),
+        None => None,
+    }
 }
 
 /// What is read of a text token by token is what is read of it whole.

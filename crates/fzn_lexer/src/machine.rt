@@ -1,6 +1,6 @@
 // A machine over bytes that finds the longest piece that begins at a place, in one pass.
 
-ghost use Rattle.std.specs.Prelude.{◌≡◌, ◌≤◌, ◌<◌, [], drop, false, length, true};
+ghost use Rattle.std.specs.Prelude.{◌≡◌, ◌≤◌, ◌<◌, [], Some, IfSome, drop, false, length, true};
 ghost use Rattle.fzn_lexer.specs.Lexing.{LexesTo};
 ghost use Rattle.fzn_lexer.specs.Bytes as bytes;
 ghost use Rattle.fzn_lexer.specs.Machine as machine;
@@ -104,17 +104,6 @@ fn start_step(b: u8) -> State
         b' ' | b'\t' | b'\r' | b'\n' => State::BlankEnd,
         _ => State::Dead,
     }
-}
-
-/// Whether this byte is a mark with which no other piece begins.
-#[inline(always)]
-pub fn is_mark_byte(b: u8) -> bool
-    ensures { result ≡ true → machine.start_step b ≡ States.MarkEnd }
-{
-    matches!(
-        b,
-        b'(' | b')' | b'[' | b']' | b'{' | b'}' | b',' | b';' | b'='
-    )
 }
 
 fn minus_step(b: u8) -> State
@@ -466,6 +455,71 @@ pub fn longest_piece(text: &[u8], from: usize) -> Option<Found>
         return None;
     }
     piece_behind(text, from + 1, start_step(text[from]))
+}
+
+/// The number where decimal digits stand before `from`, if it ends where they do.
+#[inline(always)]
+fn plain_number(text: &[u8], from: usize) -> Option<Found>
+    requires { from ≤ length text.now }
+    ensures { IfSome result (λ f. machine.found_on machine.int States.Digits from text.now ≡ Some f) }
+{
+    let to = digits_end(text, from);
+    if ends_at(text, to) {
+        let piece = PieceKind::Token(Kind::Int);
+        return Some(Found { piece, to });
+    }
+    None
+}
+
+/// The longest piece where its first byte, before `from`, leaves this state, and it is of those that most are.
+#[inline(always)]
+fn plain_behind(text: &[u8], from: usize, state: State) -> Option<Found>
+    requires { from ≤ length text.now }
+    ensures { IfSome result (λ f. machine.found_on (machine.accepted state) state from text.now ≡ Some f) }
+{
+    match state {
+        State::MarkEnd => Some(Found {
+            piece: PieceKind::Token(Kind::Mark),
+            to: from,
+        }),
+        State::Digits => plain_number(text, from),
+        State::InWord => Some(Found {
+            piece: PieceKind::Token(Kind::Word),
+            to: word_end(text, from),
+        }),
+        State::Colon => colon_behind(text, from),
+        State::Dot => point_behind(text, from),
+        State::Zero => zero_behind(text, from),
+        _ => None,
+    }
+}
+
+/// The state behind the first byte of a piece, where it is of those that most are.
+#[inline(always)]
+fn plain_state(b: u8) -> Option<State>
+    ensures { IfSome result (λ q. q ≡ machine.start_step b) }
+{
+    match b {
+        b'(' | b')' | b'[' | b']' | b'{' | b'}' | b',' | b';' | b'=' => Some(State::MarkEnd),
+        b'1'..=b'9' => Some(State::Digits),
+        b'a'..=b'z' | b'A'..=b'Z' | b'_' => Some(State::InWord),
+        b':' => Some(State::Colon),
+        b'.' => Some(State::Dot),
+        b'0' => Some(State::Zero),
+        _ => None,
+    }
+}
+
+/// The longest piece that begins at `at`, where it is of those that most are: a mark, a word, or a number without a sign.
+#[inline(always)]
+pub fn plain_piece(text: &[u8], at: usize) -> Option<Found>
+    requires { at < length text.now }
+    ensures { IfSome result (λ f. machine.longest_found machine.start at (drop at text.now) ≡ Some f) }
+{
+    match plain_state(text[at]) {
+        Some(state) => plain_behind(text, at + 1, state),
+        None => None,
+    }
 }
 
 /// The first place from `from` on at which no blank stands.

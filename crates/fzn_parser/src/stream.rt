@@ -1,16 +1,17 @@
 //! Reads a text item by item.
 
-ghost use Rattle.std.specs.Prelude.{◌≡◌, ◌≤◌, ◌++◌, ◌∷◌, [], length, map, cond, IfOk, OnOk, IfErr};
+ghost use Rattle.std.specs.Prelude.{◌≡◌, ◌≤◌, ◌++◌, ◌∷◌, [], length, map, cond, MatchResult, IfOk, OnOk, IfErr};
+ghost use Rattle.fzn_lexer.specs.Lexing.{IsNext, LacksToken as LacksPieceAt};
 ghost use Rattle.fzn_parser.specs.declared.cursor.Symbol.{Symbol as Sign};
 ghost use Rattle.fzn_parser.specs.Texts.{is_at, lexeme_of};
 ghost use Rattle.fzn_parser.specs.Stream.{IsStretch, IsNextItem, IsCause, TellsOfNext};
 ghost use Rattle.fzn_parser.specs.Gathering.{IsGathered};
 
 use crate::cursor::{Lexeme, Stop, Symbol, begins, same_token};
-use crate::texts::{is_at, lexeme_of};
+use crate::texts::{is_at, lexeme_of, plain_lexeme};
 use crate::tree::Item;
 use crate::{read_item, read_other};
-use fzn_lexer::{Kind, Token, law_tokens_in_turn, next_mark, next_token};
+use fzn_lexer::{Kind, NoToken, Token, law_tokens_in_turn, next_plain, next_token};
 use std::alloc::{AllocError, AllocFailed, Global};
 use thiserror::Error;
 
@@ -61,17 +62,53 @@ pub struct Stretch {
     pub(crate) to: usize,
 }
 
+/// The lexeme of a token. Most are told in fewer steps.
+#[inline(always)]
+fn lexeme_at(text: &[u8], token: Token) -> Lexeme
+    ensures { result ≡ lexeme_of text.now token }
+{
+    match plain_lexeme(text, token) {
+        Some(lexeme) => lexeme,
+        None => lexeme_of(text, token),
+    }
+}
+
+/// Puts a lexeme at the end. Mostly there is room for it.
+#[inline(always)]
+fn put(lexemes: &mut Vec<Lexeme>, lexeme: Lexeme) -> Result<(), AllocError>
+    ensures { OnOk result (lexemes.new.items ≡ lexemes.old.items ++ lexeme ∷ []) }
+{
+    if lexemes.len() < lexemes.capacity() {
+        lexemes.push_reserved(lexeme);
+        return Ok(());
+    }
+    lexemes.push(lexeme)?;
+    Ok(())
+}
+
 /// Puts a token's lexeme at the end, and tells whether it is a semicolon.
 #[inline(always)]
 fn keep(text: &[u8], token: Token, lexemes: &mut Vec<Lexeme>) -> Result<bool, AllocError>
     ensures ends { IfOk result (λ b. b ≡ is_at Sign.Semicolon text.now token) }
     ensures lexemes { OnOk result (lexemes.new.items ≡ lexemes.old.items ++ lexeme_of text.now token ∷ []) }
 {
-    let lexeme = lexeme_of(text, same_token(token));
-    lexemes.push(lexeme)?;
+    let lexeme = lexeme_at(text, same_token(token));
+    put(lexemes, lexeme)?;
     match lexeme {
         Lexeme::Fixed(found) => Ok(found.is_same(Symbol::Semicolon)),
         Lexeme::Kept(_, _) => Ok(false),
+    }
+}
+
+/// The first token behind the byte `from`, as `next_token` gives it. Most are found in fewer steps.
+#[inline(always)]
+fn token_at(text: &[u8], from: usize) -> Result<Option<Token>, NoToken>
+    requires { from ≤ length text.now }
+    ensures { MatchResult result (λ o. IsNext text.now from o) (λ e. LacksPieceAt text.now from e.at) }
+{
+    match next_plain(text, from) {
+        Some(token) => Ok(Some(token)),
+        None => next_token(text, from),
     }
 }
 
@@ -99,27 +136,19 @@ fn gather(text: &[u8], from: usize, lexemes: &mut Vec<Lexeme>) -> Result<Stretch
     };
     let mut at = from;
     while at < text.len() {
-        if let Some(token) = next_mark(text, at) {
-            first = first_with(lexemes.is_empty(), first, token);
-            at = token.to;
-            if keep(text, token, lexemes)? {
-                return Ok(Stretch { first, to: at });
-            }
-        } else {
-            match next_token(text, at) {
-                Ok(Some(token)) => {
-                    first = first_with(lexemes.is_empty(), first, token);
-                    at = token.to;
-                    if keep(text, token, lexemes)? {
-                        return Ok(Stretch { first, to: at });
-                    }
+        match token_at(text, at) {
+            Ok(Some(token)) => {
+                first = first_with(lexemes.is_empty(), first, token);
+                at = token.to;
+                if keep(text, token, lexemes)? {
+                    return Ok(Stretch { first, to: at });
                 }
-                Ok(None) => {
-                    let to = text.len();
-                    return Ok(Stretch { first, to });
-                }
-                Err(none) => return Err(ItemError::NoToken { at: none.at }),
             }
+            Ok(None) => {
+                let to = text.len();
+                return Ok(Stretch { first, to });
+            }
+            Err(none) => return Err(ItemError::NoToken { at: none.at }),
         }
     }
     Ok(Stretch { first, to: at })

@@ -1,6 +1,7 @@
 //! The tokens of a text as lexemes.
 
-ghost use Rattle.std.specs.Prelude.{◌≡◌, ◌≤◌, ◌<◌, ℕ, List, [], ◌∷◌, None, false, length, map, take, IfOk, MatchOption};
+ghost use Rattle.std.specs.Prelude.{◌≡◌, ◌≤◌, ◌<◌, ℕ, List, [], ◌∷◌, None, false, length, map, take, IfOk, IfSome, MatchOption};
+ghost use Rattle.fzn_lexer.specs.declared.Kind.TheVariants.{Mark, Word};
 ghost use Rattle.fzn_parser.specs.Texts.{type_word, other_word, keyword, bracket, other_mark, mark, spelling, lexeme_of, is_at, is_symbol, first_stretch, before_last};
 
 use crate::cursor::{Class, Lexeme, Symbol, same_token};
@@ -171,7 +172,7 @@ fn byte_mark(byte: u8) -> Option<Symbol>
 
 #[tactic(auto, unfolding(crate::specs::Texts::mark))]
 #[inline(never)]
-fn any_mark(s: &[u8]) -> Option<Symbol>
+fn mark(s: &[u8]) -> Option<Symbol>
     ensures { result ≡ mark s.now }
 {
     let symbol = bracket(s);
@@ -179,16 +180,6 @@ fn any_mark(s: &[u8]) -> Option<Symbol>
         symbol
     } else {
         other_mark(s)
-    }
-}
-
-#[inline(always)]
-fn mark(s: &[u8]) -> Option<Symbol>
-    ensures { result ≡ mark s.now }
-{
-    match s {
-        [byte] => byte_mark(*byte),
-        _ => any_mark(s),
     }
 }
 
@@ -201,6 +192,52 @@ fn spelling<'a>(text: &'a [u8], token: Token) -> &'a [u8]
         &text[token.from..token.to]
     } else {
         &[]
+    }
+}
+
+/// The lexeme of a mark of one byte.
+#[tactic(auto, unfolding(crate::specs::Texts::lexeme_of))]
+#[inline(always)]
+fn mark_lexeme(text: &[u8], token: Token) -> Option<Lexeme>
+    requires { token.kind ≡ Mark }
+    ensures { IfSome result (λ l. l ≡ lexeme_of text.now token) }
+{
+    match spelling(text, token) {
+        [byte] => match byte_mark(*byte) {
+            Some(symbol) => Some(Lexeme::Fixed(symbol)),
+            None => None,
+        },
+        _ => None,
+    }
+}
+
+/// The lexeme of a word that begins as no keyword does.
+#[tactic(auto, unfolding(crate::specs::Texts::lexeme_of))]
+#[inline(always)]
+fn word_lexeme(text: &[u8], token: Token) -> Option<Lexeme>
+    requires { token.kind ≡ Word }
+    ensures { IfSome result (λ l. l ≡ lexeme_of text.now token) }
+{
+    match spelling(text, token) {
+        [first, ..] if !begins_keyword(*first) => Some(Lexeme::Kept(
+            Class::Name,
+            same_token(token),
+        )),
+        _ => None,
+    }
+}
+
+/// The lexeme of a token that is told in few steps: an integer, a mark of one byte, or a word that begins as no keyword does.
+#[tactic(auto, unfolding(crate::specs::Texts::lexeme_of))]
+#[inline(always)]
+pub(crate) fn plain_lexeme(text: &[u8], token: Token) -> Option<Lexeme>
+    ensures { IfSome result (λ l. l ≡ lexeme_of text.now token) }
+{
+    match token.kind {
+        Kind::Int => Some(Lexeme::Kept(Class::Int, same_token(token))),
+        Kind::Mark => mark_lexeme(text, token),
+        Kind::Word => word_lexeme(text, token),
+        Kind::Float | Kind::Text => None,
     }
 }
 

@@ -14,31 +14,17 @@ loop-at-init c =
 
 pub returns-then-branch-clause-stretch : goal.returns-then-branch-clause-stretch
 returns-then-branch-clause-stretch c =
-    let kept = c.in_ok-keep.ensures in
-    let none : c.is_empty.result ≡ (length c.loop-at.lexemes.items == 0) = search rules in
-    let next : IsNext c.args.text.now c.loop-at.at (Some c.in-Some.token) = c.in-Some.ensures in
-    rw (kept.lexemes, c.first_with-first.ensures) (lexemes_here c.args.text.now c.args.from c.loop-at.at c.loop-at.lexemes.items c.loop-at.first c.in-Some.token c.is_empty.result c.loop-at.invariant none next (sym kept.ends ∙ c.if-branch.true))
-
-pub loop-at-preserved-else-branch : goal.loop-at-preserved-else-branch
-loop-at-preserved-else-branch c =
-    let kept = c.in_ok-keep.ensures in
-    let none : c.is_empty.result ≡ (length c.loop-at.lexemes.items == 0) = search rules in
-    let next : IsNext c.args.text.now c.loop-at.at (Some c.in-Some.token) = c.in-Some.ensures in
-    rw (kept.lexemes, c.first_with-first.ensures) (lexemes_more c.args.text.now c.args.from c.loop-at.at c.loop-at.lexemes.items c.loop-at.first c.in-Some.token c.is_empty.result c.loop-at.invariant none next (sym kept.ends ∙ c.if-branch.false))
-
-pub returns-then-branch-2-clause-stretch : goal.returns-then-branch-2-clause-stretch
-returns-then-branch-2-clause-stretch c =
     let kept = c.in_ok-keep-in-Ok-Some.ensures in
-    let none : c.is_empty-in-Ok-Some.result ≡ (length c.loop-at.lexemes.items == 0) = search rules in
+    let none : c.is_empty.result ≡ (length c.loop-at.lexemes.items == 0) = search rules in
     let next : IsNext c.args.text.now c.loop-at.at (Some c.in-Ok-Some.token) = subst (λ o. IsNext c.args.text.now c.loop-at.at o) c.in-Ok-Some.field-0-is c.in-Ok-Some.ensures in
-    rw (kept.lexemes, c.first_with-first-in-Ok-Some.ensures) (lexemes_here c.args.text.now c.args.from c.loop-at.at c.loop-at.lexemes.items c.loop-at.first c.in-Ok-Some.token c.is_empty-in-Ok-Some.result c.loop-at.invariant none next (sym kept.ends ∙ c.if-branch-2.true))
+    rw (kept.lexemes, c.first_with-first.ensures) (lexemes_here c.args.text.now c.args.from c.loop-at.at c.loop-at.lexemes.items c.loop-at.first c.in-Ok-Some.token c.is_empty.result c.loop-at.invariant none next (sym kept.ends ∙ c.if-branch.true))
 
 pub loop-at-preserved : goal.loop-at-preserved
 loop-at-preserved c =
     let kept = c.in_ok-keep-in-Ok-Some.ensures in
-    let none : c.is_empty-in-Ok-Some.result ≡ (length c.loop-at.lexemes.items == 0) = search rules in
+    let none : c.is_empty.result ≡ (length c.loop-at.lexemes.items == 0) = search rules in
     let next : IsNext c.args.text.now c.loop-at.at (Some c.in-Ok-Some.token) = subst (λ o. IsNext c.args.text.now c.loop-at.at o) c.in-Ok-Some.field-0-is c.in-Ok-Some.ensures in
-    rw (kept.lexemes, c.first_with-first-in-Ok-Some.ensures) (lexemes_more c.args.text.now c.args.from c.loop-at.at c.loop-at.lexemes.items c.loop-at.first c.in-Ok-Some.token c.is_empty-in-Ok-Some.result c.loop-at.invariant none next (sym kept.ends ∙ c.if-branch-2.false))
+    rw (kept.lexemes, c.first_with-first.ensures) (lexemes_more c.args.text.now c.args.from c.loop-at.at c.loop-at.lexemes.items c.loop-at.first c.in-Ok-Some.token c.is_empty.result c.loop-at.invariant none next (sym kept.ends ∙ c.if-branch.false))
 
 pub returns-in-Ok-None-clause-stretch : goal.returns-in-Ok-None-clause-stretch
 returns-in-Ok-None-clause-stretch c =

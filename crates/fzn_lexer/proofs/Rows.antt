@@ -6,7 +6,7 @@ use Rattle.std.specs.Prelude.{◌==◌, ◌&&◌, ◌≢◌, [], ◌∷◌, zero
 use Rattle.std.proofs.Common.{inl, inr, arith, zero-add}
 use Rattle.std.proofs.lemmas.Bool.{cond-true, cond-false, cases_Bool, cases_lt, eqb-true, and_parts}
 use Rattle.fzn_lexer.specs.Bytes.{is_word_byte, is_in_line}
-use Rattle.fzn_lexer.specs.Machine.{step, start_step, accepted, alive_if, digits_step, later, found_as, found_on, longest_found, word, int, comment}
+use Rattle.fzn_lexer.specs.Machine.{step, start_step, accepted, alive_if, later, found_as, found_on, longest_found, word, int, comment}
 use Rattle.fzn_lexer.specs.declared.PieceKind.{PieceKind}
 use Rattle.fzn_lexer.specs.declared.machine.Found.{Found}
 use Rattle.fzn_lexer.specs.declared.machine.State.{State}

@@ -7,14 +7,13 @@ use Rattle.std.specs.Prelude.{◌||◌, ◌==◌, get_or}
 use Rattle.std.proofs.lemmas.Bool.{eqb-true, or_cases}
 use Rattle.std.proofs.lemmas.List.{drop_more}
 use Rattle.fzn_lexer.specs.Bytes.{is_blank_byte}
-use Rattle.fzn_lexer.specs.Machine.{step, start_step, accepted, later, found_as, longest_found}
+use Rattle.fzn_lexer.specs.Machine.{step, accepted, later, found_as, longest_found}
 use Rattle.fzn_lexer.specs.declared.PieceKind.TheVariants as piece_kind
 use Rattle.fzn_lexer.specs.declared.machine.State.{State}
 use Rattle.fzn_lexer.proofs.Longest.{longest_cons, none_behind_last}
 use Rattle.fzn_lexer.specs.declared.Token.{Token}
 use Rattle.fzn_lexer.specs.declared.machine.Found.{Found}
-use Rattle.fzn_lexer.specs.declared.machine.State.TheVariants.{Start, BlankEnd, MarkEnd}
-use Rattle.fzn_lexer.specs.declared.Kind.TheVariants as kinds
+use Rattle.fzn_lexer.specs.declared.machine.State.TheVariants.{Start, BlankEnd}
 use Rattle.fzn_lexer.proofs.Cuts.{IsFound, some_found, found_after, after_is, none_stuck, end_stuck, one_cut, IsStuck}
 
 pub nothing : (text : List ℕ) (at : ℕ) → at ≤ length text → LexesTo text at at []

@@ -7,7 +7,9 @@ use Rattle.fzn_model.specs.declared.draft.Draft.{Draft}
 use Rattle.fzn_model.specs.declared.effect.Effect.{Effect}
 use Rattle.fzn_model.specs.declared.fault_kinds.FaultKind.{FaultKind}
 use Rattle.fzn_model.specs.declared.leaves.Leaf.{Leaf}
-use Rattle.fzn_model.specs.Leaves.{leaves}
+use Rattle.fzn_parser.specs.declared.tree.Elem.{Elem}
+use Rattle.fzn_parser.specs.declared.tree.Expr.{Expr}
+use Rattle.fzn_model.specs.Leaves.{elem_leaves, leaves}
 use Rattle.constraint_model.specs.Fits.{add_once, constants_in, kernels_of}
 use Rattle.fzn_model.specs.Scopes.{Scope, meaning_of}
 use Rattle.fzn_model.specs.Effects.{Reading, numbered, arrays_in, solved_constants}
@@ -60,6 +62,24 @@ IsNew scope more = IfSome more.declared (λ d. meaning_of scope d.0 ≡ None)
 -- the leaf has a fault of this kind
 abbrev pub has_kind : List ℕ → Scope → FaultKind → Leaf → Bool
 has_kind text scope kind leaf = tells kind (leaf_test text scope leaf)
+
+-- the entries of an array literal
+abbrev pub elems_of : Expr → List Elem
+elems_of (Expr.One e) = []
+elems_of (Expr.Row es) = es
+
+-- the entries of the array that the item declares
+abbrev pub elems_in : WhatTree → List Elem
+elems_in (array_item low high shape name notes value) = elems_of value
+elems_in _ = []
+
+-- no leaf of these entries has a fault of this kind
+abbrev pub HaveNone : List ℕ → Scope → FaultKind → List Elem → Type 0
+HaveNone text scope kind es = list_any (λ e. list_any (has_kind text scope kind) (elem_leaves e)) es ≡ false
+
+-- no leaf of these entries passes a limit
+abbrev pub AreSure : List ℕ → Scope → List Elem → Type 0
+AreSure text scope es = HaveNone text scope FaultKind.OutOfRange es × HaveNone text scope FaultKind.TooMany es
 
 -- a leaf of the item has a fault of this kind
 abbrev pub has_leaf : List ℕ → Scope → FaultKind → WhatTree → Bool

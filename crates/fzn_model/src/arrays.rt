@@ -6,10 +6,11 @@ ghost use Rattle.fzn_model.specs.declared.fault_kinds.FaultKind.{FaultKind as Ki
 ghost use Rattle.fzn_model.specs.Effects as effects;
 ghost use Rattle.fzn_model.specs.Faults as faults;
 ghost use Rattle.fzn_model.specs.Scopes as scopes;
+ghost use Rattle.fzn_model.specs.Drafts.{AreSure, elems_of};
 
 use crate::domains::element_constraints;
 use crate::effect::Effect;
-use crate::exprs::{expr_meaning, spelling};
+use crate::exprs::{row_meaning, spelling};
 use crate::fault_kinds::FaultKind;
 use crate::numbers::number_of;
 use crate::outputs::output_ranges;
@@ -73,23 +74,24 @@ fn fits_type(shape: &Shape, meaning: &Option<Meaning>) -> bool
     }
 }
 
-/// What the value of an array stands for.
+/// What the value of an array stands for, and whether it is known that no entry passes a limit.
 fn read_row(
     alloc: Global,
     text: &[u8],
     scope: &Scope,
     declaration: &ArrayDeclaration<'_>,
     value: &Expr,
-) -> Result<Option<Meaning>, Stop>
-    ensures value { IfOk result (λ m. m ≡ scopes.expr_meaning text.now scope.now value.now) }
+) -> Result<(Option<Meaning>, bool), Stop>
+    ensures value { IfOk result (λ p. p.0 ≡ scopes.expr_meaning text.now scope.now value.now) }
+    ensures sure { IfOk result (λ p. p.1 ≡ true → AreSure text.now scope.now (elems_of value.now)) }
     ensures fits { OnOk result (faults.is_wrong_row text.now scope.now declaration.now.low declaration.now.high declaration.now.shape.now value.now ≡ false) }
     ensures wrong { IfErr result (faults.OnlyFault Kind.WrongArgument (faults.is_wrong_row text.now scope.now declaration.now.low declaration.now.high declaration.now.shape.now value.now ≡ true)) }
 {
-    let meaning = expr_meaning(alloc, text, scope, value)?;
+    let (meaning, sure) = row_meaning(alloc, text, scope, value)?;
     if has_index_set(text, declaration.low, declaration.high, value)
         && fits_type(declaration.shape, &meaning)
     {
-        Ok(meaning)
+        Ok((meaning, sure))
     } else {
         Err(Stop::Fault(FaultKind::WrongArgument))
     }
@@ -141,7 +143,7 @@ fn array_effect(
     Ok(())
 }
 
-/// Puts down what the declaration of an array adds, where its value fits.
+/// Puts down what the declaration of an array adds, where its value fits; tells whether it is known that no entry passes a limit.
 pub(crate) fn read_array(
     alloc: Global,
     text: &[u8],
@@ -149,15 +151,16 @@ pub(crate) fn read_array(
     declaration: &ArrayDeclaration<'_>,
     value: &Expr,
     effect: &mut Effect,
-) -> Result<(), Stop>
+) -> Result<bool, Stop>
     requires { effect.old ≡ effects.no_effect }
+    ensures sure { IfOk result (λ b. b ≡ true → AreSure text.now scope.now (elems_of value.now)) }
     ensures effect { OnOk result (effect.new ≡ effects.array_effect text.now declaration.now.shape.now declaration.now.name.now (map ann_tree declaration.now.anns.now) (scopes.expr_meaning text.now scope.now value.now)) }
     ensures fits { OnOk result (faults.is_wrong_row text.now scope.now declaration.now.low declaration.now.high declaration.now.shape.now value.now ≡ false) }
     ensures wrong { IfErr result (faults.OnlyFault Kind.WrongArgument (faults.is_wrong_row text.now scope.now declaration.now.low declaration.now.high declaration.now.shape.now value.now ≡ true)) }
 {
-    let value = read_row(alloc, text, scope, declaration, value)?;
+    let (value, sure) = read_row(alloc, text, scope, declaration, value)?;
     match array_effect(alloc, text, declaration, value, effect) {
-        Ok(()) => Ok(()),
+        Ok(()) => Ok(sure),
         Err(_) => Err(Stop::NoMemory),
     }
 }

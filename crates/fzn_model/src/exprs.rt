@@ -1,6 +1,10 @@
 //! What expressions stand for, against the declarations before them.
 
-ghost use Rattle.std.specs.Prelude.{◌≡◌, IfOk, map, option_map};
+ghost use Rattle.std.specs.Prelude.{◌≡◌, IfOk, IfSome, Some, true, false, map, option_map};
+ghost use Rattle.std.specs.List.{list_any};
+ghost use Rattle.fzn_model.specs.declared.fault_kinds.FaultKind.{FaultKind as Kind};
+ghost use Rattle.fzn_model.specs.Leaves.{elem_leaves};
+ghost use Rattle.fzn_model.specs.Drafts.{AreSure, elems_of, has_kind};
 ghost use Rattle.fzn_parser.specs.Texts.{spelling};
 ghost use Rattle.fzn_model.specs.Scopes.{number_at, set_at, boolean, integer, entry_at, all_some, array_literal, meaning_of, simple_at, expr_meaning};
 
@@ -125,7 +129,18 @@ fn entries_at(
     Ok(Some(scalars))
 }
 
-/// The array of these entries as it is written out, where each is a boolean or an integer. It has no number.
+/// The array of these entries as it is written out. It has no number.
+#[inline(always)]
+fn literal_of(alloc: Global, scalars: ListOf<Scalar>) -> Result<Meaning, AllocError>
+    ensures { IfOk result (λ m. m ≡ array_literal scalars) }
+{
+    Ok(Meaning::Row(Array {
+        entries: Entries::new(alloc, scalars.into_vec())?,
+        number: None,
+    }))
+}
+
+/// The array of these entries, where each is a boolean or an integer.
 fn row_at(
     alloc: Global,
     text: &[u8],
@@ -135,11 +150,65 @@ fn row_at(
     ensures { IfOk result (λ o. o ≡ option_map array_literal (all_some (map (entry_at text.now scope.now) entries.now))) }
 {
     match entries_at(alloc, text, scope, entries)? {
-        Some(scalars) => Ok(Some(Meaning::Row(Array {
-            entries: Entries::new(alloc, scalars.into_vec())?,
-            number: None,
-        }))),
+        Some(scalars) => Ok(Some(literal_of(alloc, scalars)?)),
         None => Ok(None),
+    }
+}
+
+/// What an array's entry stands for, where it is a boolean or an integer, and the profile has its literal.
+#[inline(always)]
+fn sure_entry(text: &[u8], scope: &Scope, entry: &Elem) -> Option<Scalar>
+    ensures { IfSome result (λ s. (entry_at text.now scope.now entry.now ≡ Some s)
+        × ((list_any (has_kind text.now scope.now Kind.OutOfRange) (elem_leaves entry.now) ≡ false)
+        × (list_any (has_kind text.now scope.now Kind.TooMany) (elem_leaves entry.now) ≡ false))) }
+{
+    match entry {
+        Elem::True => Some(boolean(1)),
+        Elem::False => Some(boolean(0)),
+        Elem::Int(token) => Some(integer(number_of(spelling(text, token))?)),
+        Elem::Name(token) => scope.scalar(spelling(text, token)),
+        Elem::Float(_) | Elem::Set(_) => None,
+    }
+}
+
+/// What the entries of an array stand for, where each is a boolean or an integer, and the profile has each literal.
+#[inline(always)]
+fn sure_entries(
+    alloc: Global,
+    text: &[u8],
+    scope: &Scope,
+    entries: &[Elem],
+) -> Result<Option<ListOf<Scalar>>, AllocError>
+    ensures { IfOk result (λ o. IfSome o (λ scalars. (all_some (map (entry_at text.now scope.now) entries.now) ≡ Some scalars) × AreSure text.now scope.now entries.now)) }
+{
+    let mut scalars = ListOf::from_vec(Vec::with_capacity(alloc, entries.len())?);
+    for entry in entries {
+        match sure_entry(text, scope, entry) {
+            Some(scalar) => scalars.push(scalar)?,
+            None => return Ok(None),
+        }
+    }
+    Ok(Some(scalars))
+}
+
+/// What the value of an array stands for, and whether it is known that the profile has each literal of its entries: so they
+/// are read once.
+#[tactic(auto, unfolding(crate::specs::Scopes::expr_meaning))]
+pub(crate) fn row_meaning(
+    alloc: Global,
+    text: &[u8],
+    scope: &Scope,
+    expr: &Expr,
+) -> Result<(Option<Meaning>, bool), AllocError>
+    ensures value { IfOk result (λ p. p.0 ≡ expr_meaning text.now scope.now expr.now) }
+    ensures sure { IfOk result (λ p. p.1 ≡ true → AreSure text.now scope.now (elems_of expr.now)) }
+{
+    match expr {
+        Expr::One(elem) => Ok((simple_at(alloc, text, scope, elem)?, false)),
+        Expr::Row(entries) => match sure_entries(alloc, text, scope, entries.as_slice())? {
+            Some(scalars) => Ok((Some(literal_of(alloc, scalars)?), true)),
+            None => Ok((row_at(alloc, text, scope, entries.as_slice())?, false)),
+        },
     }
 }
 

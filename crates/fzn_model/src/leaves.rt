@@ -1,11 +1,11 @@
 //! The leaves of an item: one walk, which asks each whether it has a fault of a kind.
 
-ghost use Rattle.std.specs.Prelude.{◌≡◌, map, flat_map, option_to_list};
+ghost use Rattle.std.specs.Prelude.{◌≡◌, true, map, flat_map, option_to_list};
 ghost use Rattle.std.specs.List.{list_any};
 ghost use Rattle.fzn_parser.specs.Items.{what_tree};
 ghost use Rattle.fzn_model.specs.declared.leaves.Leaf.{Leaf as Part};
 ghost use Rattle.fzn_model.specs.Leaves.{set_leaves, elem_leaves, expr_leaves, type_leaves, aim_leaves, leaves};
-ghost use Rattle.fzn_model.specs.Drafts.{has_kind};
+ghost use Rattle.fzn_model.specs.Drafts.{has_kind, elems_of, elems_in, HaveNone};
 
 use crate::exprs::spelling;
 use crate::fault_kinds::FaultKind;
@@ -124,6 +124,33 @@ impl<'a> Sought<'a> {
         }
     }
 
+    /// Whether a leaf of these entries has such a fault; they aren't gone through where it is known that none has.
+    #[inline(always)]
+    fn in_entries(&self, entries: &[Elem], sure: bool) -> bool
+        requires { sure ≡ true → HaveNone self.now.text.now self.now.scope.now self.now.kind entries.now }
+        ensures { result ≡ list_any (has_kind self.now.text.now self.now.scope.now self.now.kind) (flat_map elem_leaves entries.now) }
+    {
+        if sure {
+            return false;
+        }
+        self.in_elems(entries)
+    }
+
+    /// Whether a leaf of the value of an array has such a fault.
+    #[inline(always)]
+    fn in_row(&self, value: &Expr, sure: bool) -> bool
+        requires { sure ≡ true → HaveNone self.now.text.now self.now.scope.now self.now.kind (elems_of value.now) }
+        ensures { result ≡ list_any (has_kind self.now.text.now self.now.scope.now self.now.kind) (expr_leaves value.now) }
+    {
+        match value {
+            Expr::One(elem) => self.in_elem(elem),
+            Expr::Row(entries) => {
+                self.is_at(Leaf::Entries(entries.len()))
+                    || self.in_entries(entries.as_slice(), sure)
+            }
+        }
+    }
+
     #[inline(always)]
     fn in_exprs(&self, exprs: &[Expr]) -> bool
         ensures { result ≡ list_any (has_kind self.now.text.now self.now.scope.now self.now.kind) (flat_map expr_leaves exprs.now) }
@@ -162,9 +189,10 @@ impl<'a> Sought<'a> {
         }
     }
 
-    /// Whether a leaf of this item has such a fault.
+    /// Whether a leaf of this item has such a fault; the entries of an array aren't gone through where it is known that none has.
     #[inline(always)]
-    pub(crate) fn is_in(&self, what: &What) -> bool
+    pub(crate) fn is_in(&self, what: &What, sure: bool) -> bool
+        requires { sure ≡ true → HaveNone self.now.text.now self.now.scope.now self.now.kind (elems_in (what_tree what.now)) }
         ensures { result ≡ list_any (has_kind self.now.text.now self.now.scope.now self.now.kind) (leaves (what_tree what.now)) }
     {
         match what {
@@ -189,7 +217,7 @@ impl<'a> Sought<'a> {
                     || self.is_at(Leaf::Number(*high))
                     || self.in_type(shape)
                     || self.is_at(Leaf::Declared(*name))
-                    || self.in_expr(value)
+                    || self.in_row(value, sure)
             }
             What::Constraint { name, args, .. } => {
                 self.is_at(Leaf::Constrained(*name)) || self.in_exprs(args.as_slice())

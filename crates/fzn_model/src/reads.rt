@@ -5,7 +5,7 @@ ghost use Rattle.fzn_parser.specs.Items.{what_tree};
 ghost use Rattle.fzn_model.specs.declared.fault_kinds.FaultKind.{FaultKind as Kind};
 ghost use Rattle.fzn_model.specs.Effects as effects;
 ghost use Rattle.fzn_model.specs.Faults as faults;
-ghost use Rattle.fzn_model.specs.Drafts.{has_leaf, declares_again, first_kind, own_kinds, IsNew};
+ghost use Rattle.fzn_model.specs.Drafts.{has_leaf, declares_again, first_kind, own_kinds, elems_in, AreSure, IsNew};
 
 use crate::arrays::{ArrayDeclaration, read_array};
 use crate::constraints::{read_constraint, read_solve};
@@ -35,7 +35,8 @@ pub(crate) fn no_effect(alloc: Global) -> Effect
     }
 }
 
-/// Puts down what an item adds, where its arguments, its value or its objective fit.
+/// Puts down what an item adds, where its arguments, its value or its objective fit; tells whether it is known that no entry of its
+/// array passes a limit.
 #[tactic(auto, unfolding(crate::specs::Effects::effect_of))]
 #[inline(always)]
 fn read_effect(
@@ -45,14 +46,15 @@ fn read_effect(
     count: u32,
     what: &What,
     effect: &mut Effect,
-) -> Result<(), Stop>
+) -> Result<bool, Stop>
     requires { effect.old ≡ effects.no_effect }
+    ensures sure { IfOk result (λ b. b ≡ true → AreSure text.now scope.now (elems_in (what_tree what.now))) }
     ensures effect { OnOk result (effect.new ≡ effects.effect_of text.now scope.now count (what_tree what.now)) }
     ensures fits { OnOk result (faults.has_wrong_argument text.now scope.now (what_tree what.now) ≡ false) }
     ensures wrong { IfErr result (faults.OnlyFault Kind.WrongArgument (faults.has_wrong_argument text.now scope.now (what_tree what.now) ≡ true)) }
 {
     match what {
-        What::Predicate(_) => Ok(()),
+        What::Predicate(_) => Ok(false),
         What::Scalar {
             shape,
             name,
@@ -65,7 +67,10 @@ fn read_effect(
                 name: spelling(text, name),
                 anns: anns.as_slice(),
             };
-            read_scalar(alloc, text, scope, &declaration, value, effect)
+            match read_scalar(alloc, text, scope, &declaration, value, effect) {
+                Ok(()) => Ok(false),
+                Err(stop) => Err(stop),
+            }
         }
         What::Array {
             low,
@@ -86,10 +91,16 @@ fn read_effect(
         }
         What::Constraint { name, args, .. } => {
             let name = spelling(text, name);
-            read_constraint(alloc, text, scope, name, args.as_slice(), effect)
+            match read_constraint(alloc, text, scope, name, args.as_slice(), effect) {
+                Ok(()) => Ok(false),
+                Err(stop) => Err(stop),
+            }
         }
         What::Solve { anns, aim } => {
-            read_solve(alloc, text, scope, count, anns.as_slice(), aim, effect)
+            match read_solve(alloc, text, scope, count, anns.as_slice(), aim, effect) {
+                Ok(()) => Ok(false),
+                Err(stop) => Err(stop),
+            }
         }
     }
 }
@@ -98,7 +109,7 @@ fn read_effect(
 fn has_leaf(text: &[u8], scope: &Scope, kind: FaultKind, what: &What) -> bool
     ensures { result ≡ has_leaf text.now scope.now kind (what_tree what.now) }
 {
-    Sought { text, scope, kind }.is_in(what)
+    Sought { text, scope, kind }.is_in(what, false)
 }
 
 /// The kind of an item's fault: this one, or that of a name or a constraint that isn't known.
@@ -151,17 +162,17 @@ pub(crate) fn read_item(
         let kind = least_kind(text, scope, what, FaultKind::Unsupported);
         return Err(Stop::Fault(kind));
     }
-    match read_effect(alloc, text, scope, count, what, effect) {
-        Ok(()) => {}
+    let sure = match read_effect(alloc, text, scope, count, what, effect) {
+        Ok(sure) => sure,
         Err(stop) => return Err(refused(text, scope, what, stop)),
-    }
+    };
     // Each of these walks is built for its kind, and passes over the leaves that can't have it.
     let kind = FaultKind::OutOfRange;
-    if (Sought { text, scope, kind }).is_in(what) {
+    if (Sought { text, scope, kind }).is_in(what, sure) {
         return Err(Stop::Fault(FaultKind::OutOfRange));
     }
     let kind = FaultKind::TooMany;
-    if (Sought { text, scope, kind }).is_in(what) {
+    if (Sought { text, scope, kind }).is_in(what, sure) {
         return Err(Stop::Fault(FaultKind::TooMany));
     }
     Ok(())

@@ -1,6 +1,4 @@
-use Rattle.std.proofs.Common.{◌≡◌, ◌<◌, ◌∙◌, length, sym, arith, get_or}
-use Rattle.std.specs.Prelude.{true, false}
-use Rattle.fzn_lexer.specs.Bytes.{is_in_line}
+use Rattle.std.proofs.Common.{◌≡◌, ◌<◌, ◌∙◌, length, sym, arith}
 use Rattle.fzn_lexer.proofs.Rows.{comment_more, comment_dead, comment_all, line_end, in_line}
 use Rattle.fzn_lexer.proofs.machine.comment_end.Goals as goal
 

@@ -1,4 +1,4 @@
-use Rattle.std.proofs.Common.{◌∙◌, arith}
+use Rattle.std.proofs.Common.{arith}
 use Rattle.fzn_lexer.proofs.Rows.{table_tells}
 use Rattle.fzn_lexer.proofs.machine.is_word_byte.Goals as goal
 

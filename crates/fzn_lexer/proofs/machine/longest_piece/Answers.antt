@@ -1,4 +1,4 @@
-use Rattle.std.proofs.Common.{◌<◌, ◌∙◌, length, arith}
+use Rattle.std.proofs.Common.{◌<◌, length, arith}
 use Rattle.fzn_lexer.proofs.Rows.{first_byte, no_byte}
 use Rattle.fzn_lexer.proofs.machine.longest_piece.Goals as goal
 

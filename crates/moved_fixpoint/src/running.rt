@@ -41,8 +41,8 @@ fn ask_told(masks: &Masks, told: &[Tell], b: &BoxOf, rests: &Rests, asked: &mut 
 }
 
 /// Runs the kernel at a place on the box, and says how far the round has come then. It is forgotten before, and asked again
-/// if a variable of its own moves and it heeds that. Where its shape alone says that it narrows nothing, or what its one
-/// tell is, nothing else is looked at.
+/// if a variable of its own moves and it heeds that. Where its shape alone says that it narrows nothing, nothing else is
+/// looked at.
 #[inline(always)]
 pub(crate) fn run_kernel(
     kernels: &[Kernel],
@@ -73,8 +73,8 @@ pub(crate) fn run_kernel(
     // its contract says that the bounds are in range
     let _length = b.len();
     let kernel = &kernels[place];
-    match seen_visit(kernel, masks.shape(place), b.current()) {
-        Seen::Quiet(rest) => {
+    match seen_rest(kernel, masks.shape(place), b.current()) {
+        Some(rest) => {
             sets.asked.forget(place);
             if sets.rest_for(place, rest).is_ok() {
                 progress
@@ -82,7 +82,50 @@ pub(crate) fn run_kernel(
                 Progress::Refused
             }
         }
+        None if is_short(masks.shape(place)) => {
+            run_told(kernels, masks, place, b, sets, progress)
+        }
+        None => run_unseen(kernels, masks, place, b, sets, progress),
+    }
+}
+
+/// Whether the shape may say what a kernel's one tell is.
+#[inline(always)]
+fn is_short(shape: &Shape) -> bool {
+    match shape {
+        Shape::Slight | Shape::Other => false,
+        _ => true,
+    }
+}
+
+/// The same of a kernel of which its shape doesn't say that it narrows nothing: it may say what its one tell is. This stands
+/// apart, so that a visit that narrows nothing keeps no room for it.
+#[inline(never)]
+fn run_told(
+    kernels: &[Kernel],
+    masks: &Masks,
+    place: usize,
+    b: &mut TrailedBox,
+    sets: &mut AskedSets,
+    progress: Progress,
+) -> Progress
+    requires place { place < length kernels.now }
+    requires kernels { All (IsKernel (length b.old.current)) kernels.now }
+    requires masks { AreMasksOf kernels.now (length b.old.current) masks.now }
+    requires set { count_of sets.old.asked ≡ length kernels.now }
+    requires rests { FitRests (length kernels.now) sets.old.rests }
+    requires proper { IsProper b.old.current }
+    ensures stack { b.new.stack ≡ b.old.stack }
+    ensures rests { FitRests (length kernels.now) sets.new.rests }
+    ensures stacks { KeepStacks sets.old.rests sets.new.rests }
+    ensures run { KernelRuns kernels.now place b.old.current sets.old.asked sets.old.rests progress b.new.current sets.new.asked sets.new.rests result }
+{
+    // its contract says that the bounds are in range
+    let _length = b.len();
+    let kernel = &kernels[place];
+    match seen_visit(kernel, masks.shape(place), b.current()) {
         Seen::One(t) => run_one(kernels, masks, place, t, b, sets, progress),
+        Seen::Quiet(_) => run_unseen(kernels, masks, place, b, sets, progress),
         Seen::Unseen => run_unseen(kernels, masks, place, b, sets, progress),
     }
 }
@@ -147,7 +190,7 @@ fn shape_rest(kernel: &Kernel, shape: &Shape, b: &BoxOf) -> Rest
     }
 }
 
-/// The same of a kernel of which its shape doesn't say so. It tells what it does on the box as it is before any of that is
+/// The same of a kernel of which its shape says neither. It tells what it does on the box as it is before any of that is
 /// joined, and rests if it needs no visit on the box as it is then: where it tells nothing the visit itself says how long.
 #[inline(never)]
 fn run_unseen(

@@ -12,3 +12,7 @@ pub mod DifferenceLaws
 pub mod FoundLaws
 pub mod SideLaws
 pub mod OneLaws
+pub mod FailLaws
+mod FewLaws
+mod NaturalLaws
+mod ThreeLaws

@@ -1,5 +1,5 @@
 -- Shapes and the kernels that they are of.
-use Rattle.std.proofs.Common.{◌≡◌, ℕ, ◌<◌, List, [], ◌∷◌, ◌++◌, length, get_or, ℤ, pos, inl, inr, Option, Bool, true, false, cond, refl, sym, ap, subst, ◌∙◌, arith}
+use Rattle.std.proofs.Common.{◌≡◌, ℕ, ◌<◌, List, [], ◌∷◌, ◌++◌, length, get_or, ℤ, pos, unsigned_abs, inl, inr, Option, Bool, true, false, cond, refl, sym, ap, subst, ◌∙◌, arith}
 use Rattle.std.specs.Prelude.{MatchOption}
 use Rattle.std.proofs.lemmas.List.{get_or_default}
 use mir.Val.{to_z, of_z}
@@ -9,9 +9,13 @@ use Rattle.sum_tells.specs.Linear.{IsLinear}
 use Rattle.guarded_tell.specs.declared.kernel.Kernel.{Kernel}
 use Rattle.guarded_tell.specs.declared.kernel.Kernel.TheVariants.{Le, Eq, Times, Div, Mod, Abs, Max, Min, Clause, Element, InSet, AllDiff, Cumulative}
 use Rattle.guarded_tell.specs.declared.shape.Shape.{Shape}
-use Rattle.guarded_tell.specs.declared.shape.Shape.TheVariants.{AtMost, Same, Either, Triple, Slight, Other}
+use Rattle.guarded_tell.specs.declared.shape.Sign.{Sign}
+use Rattle.guarded_tell.specs.declared.shape.Sign.TheVariants.{Plus, Minus}
+use Rattle.guarded_tell.specs.declared.shape.Terms.{Terms}
+use Rattle.guarded_tell.specs.declared.shape.Shape.TheVariants.{AtMost, Same, Three, Either, Triple, Product, Slight, Other}
 use Rattle.guarded_tell.specs.Kernels.{HasNumbers}
-use Rattle.guarded_tell.specs.Shapes.{IsDifference, IsSlightSum, IsShapeOf}
+use Rattle.guarded_tell.specs.Shapes.{IsDifference, IsSlightSum, IsShapeOf, unit_of, units_of, places_of}
+use Rattle.small_sums.specs.Short.{slight_limit}
 use Rattle.small_sums.specs.Slight.{AreSlight}
 use Rattle.small_sums.proofs.ShortLaws.{short_number}
 
@@ -35,6 +39,12 @@ item_and_last xs [] x last e h f = absurd (omega arith)
 item_and_last xs (a ∷ c ∷ front) x last e h f = absurd (omega arith)
 item_and_last xs (a ∷ []) x last e h f = e ∙ (λ i. sym f i ∷ last ∷ [])
 
+pub items_and_last : {A : Type 0} (xs front : List A) (x y last : A) → xs ≡ front ++ last ∷ [] → length front ≡ 2 → x ≡ get_or front 0 x → y ≡ get_or front 1 y → xs ≡ x ∷ y ∷ last ∷ []
+items_and_last xs [] x y last e h f g = absurd (omega arith)
+items_and_last xs (a ∷ []) x y last e h f g = absurd (omega arith)
+items_and_last xs (a ∷ c ∷ d ∷ front) x y last e h f g = absurd (omega arith)
+items_and_last xs (a ∷ c ∷ []) x y last e h f g = e ∙ (λ i. sym f i ∷ sym g i ∷ last ∷ [])
+
 -- what the code reads of a coefficient
 pub coefficient_read : (coeffs : List ℤ) (vars : List ℕ) (limit : ℤ) (i : ℕ) → IsLinear coeffs vars limit → i < length coeffs → to_z w64 (of_z w64 (get_or coeffs i (pos 0))) ≡ get_or coeffs i (to_z w64 (of_z w64 (get_or coeffs i (pos 0))))
 coefficient_read coeffs vars limit i linear inside =
@@ -48,6 +58,23 @@ SaysSigns coeffs vars o = MatchOption o ((x y : ℕ) → IsDifference coeffs var
 pub says_signs : (coeffs : List ℤ) (vars : List ℕ) (a c : ℤ) (x y : ℕ) (o : Option (ℕ × ℕ)) → coeffs ≡ a ∷ c ∷ [] → vars ≡ x ∷ y ∷ [] → SaysSigns (a ∷ c ∷ []) (x ∷ y ∷ []) o → SaysSigns coeffs vars o
 says_signs coeffs vars a c x y o e f s =
     subst (λ (cs : List ℤ). SaysSigns cs vars o) (sym e) (subst (λ (vs : List ℕ). SaysSigns (a ∷ c ∷ []) vs o) (sym f) s)
+
+-- what three terms say
+abbrev pub SaysTerms : List ℤ → List ℕ → Option Terms → Type 0
+SaysTerms coeffs vars o = MatchOption o (Unit {0}) (λ t. (coeffs ≡ units_of t) × (vars ≡ places_of t))
+
+pub says_terms : (coeffs : List ℤ) (vars : List ℕ) (a c d : ℤ) (x y z : ℕ) (o : Option Terms) → coeffs ≡ a ∷ c ∷ d ∷ [] → vars ≡ x ∷ y ∷ z ∷ [] → SaysTerms (a ∷ c ∷ d ∷ []) (x ∷ y ∷ z ∷ []) o → SaysTerms coeffs vars o
+says_terms coeffs vars a c d x y z o e f s =
+    subst (λ (cs : List ℤ). SaysTerms cs vars o) (sym e) (subst (λ (vs : List ℕ). SaysTerms (a ∷ c ∷ d ∷ []) vs o) (sym f) s)
+
+-- their coefficients are slight
+one : (s : Sign) → unsigned_abs (unit_of s) ≡ 1
+one Plus = refl
+one Minus = refl
+
+units_slight : (t : Terms) → AreSlight (units_of t)
+unfolding slight_limit
+units_slight t = record { many = omega arith; slight = omega (arith, one t.x_sign, one t.y_sign, one t.z_sign) }
 
 -- ---- a kernel's parts, with others where it is of another kind
 
@@ -96,6 +123,21 @@ literals_of (InSet l x ranges) = []
 literals_of (AllDiff xs) = []
 literals_of (Cumulative starts durations usages limit) = []
 
+literal_or : Lit → Kernel → Lit
+literal_or d (Le l coeffs vars limit) = l
+literal_or d (Eq l coeffs vars limit) = l
+literal_or d (Times x y z) = d
+literal_or d (Div x y z) = d
+literal_or d (Mod x y z) = d
+literal_or d (Abs x y) = d
+literal_or d (Max m xs) = d
+literal_or d (Min m xs) = d
+literal_or d (Clause lits) = d
+literal_or d (Element x entries c) = d
+literal_or d (InSet l x ranges) = l
+literal_or d (AllDiff xs) = d
+literal_or d (Cumulative starts durations usages limit) = d
+
 -- ---- no short shape is of a kernel that is no difference, and of another kernel
 
 module _ (l : Lit) (coeffs : List ℤ) (vars : List ℕ) (limit : ℤ) (none : (x y : ℕ) → IsDifference coeffs vars x y → ⊥) (rough : AreSlight coeffs → ⊥) where
@@ -106,8 +148,10 @@ module _ (l : Lit) (coeffs : List ℤ) (vars : List ℕ) (limit : ℤ) (none : (
   unfolding IsShapeOf coeffs_of terms_of
   other_inequality k e (AtMost m x y bound) (cs, vs, f, d) = absurd (no_difference cs vs x y (ap coeffs_of (sym e ∙ f)) (ap terms_of (sym e ∙ f)) d)
   other_inequality k e (Same m x y bound) (cs, vs, f, d) = absurd (cc)
+  other_inequality k e (Three t bound) (m, f) = absurd (cc)
   other_inequality k e (Either m n) f = absurd (cc)
   other_inequality k e (Triple m n o) f = absurd (cc)
+  other_inequality k e (Product x y z) f = absurd (cc)
   other_inequality k e Slight (m, cs, vs, bound, inl f, s) = absurd (rough (subst AreSlight (ap coeffs_of (sym f ∙ e)) s))
   other_inequality k e Slight (m, cs, vs, bound, inr f, s) = absurd (cc)
   other_inequality k e Other f = refl
@@ -116,8 +160,10 @@ module _ (l : Lit) (coeffs : List ℤ) (vars : List ℕ) (limit : ℤ) (none : (
   unfolding IsShapeOf coeffs_of terms_of
   other_equation k e (AtMost m x y bound) (cs, vs, f, d) = absurd (cc)
   other_equation k e (Same m x y bound) (cs, vs, f, d) = absurd (no_difference cs vs x y (ap coeffs_of (sym e ∙ f)) (ap terms_of (sym e ∙ f)) d)
+  other_equation k e (Three t bound) (m, f) = absurd (rough (subst AreSlight (ap coeffs_of (sym f ∙ e)) (units_slight t)))
   other_equation k e (Either m n) f = absurd (cc)
   other_equation k e (Triple m n o) f = absurd (cc)
+  other_equation k e (Product x y z) f = absurd (cc)
   other_equation k e Slight (m, cs, vs, bound, inl f, s) = absurd (cc)
   other_equation k e Slight (m, cs, vs, bound, inr f, s) = absurd (rough (subst AreSlight (ap coeffs_of (sym f ∙ e)) s))
   other_equation k e Other f = refl
@@ -126,8 +172,10 @@ pub other_clause : (lits : List Lit) → (length lits ≡ 2 → ⊥) → (length
 unfolding IsShapeOf literals_of
 other_clause lits n t (AtMost m x y bound) (cs, vs, f, d) = absurd (cc)
 other_clause lits n t (Same m x y bound) (cs, vs, f, d) = absurd (cc)
+other_clause lits n t (Three ts bound) (m, f) = absurd (cc)
 other_clause lits n t (Either l m) f = absurd (n (ap (λ (k : Kernel). length (literals_of k)) f))
 other_clause lits n t (Triple l m o) f = absurd (t (ap (λ (k : Kernel). length (literals_of k)) f))
+other_clause lits n t (Product x y z) f = absurd (cc)
 other_clause lits n t Slight (m, cs, vs, bound, inl f, s) = absurd (cc)
 other_clause lits n t Slight (m, cs, vs, bound, inr f, s) = absurd (cc)
 other_clause lits n t Other f = refl
@@ -137,15 +185,17 @@ unfolding IsShapeOf
 any_is_other k = tt
 
 pub other_kernel : (k : Kernel) → ((l : Lit) (coeffs : List ℤ) (vars : List ℕ) (limit : ℤ) → k ≡ Le l coeffs vars limit → ⊥) → ((l : Lit) (coeffs : List ℤ) (vars : List ℕ) (limit : ℤ) → k ≡ Eq l coeffs vars limit → ⊥)
-    → ((lits : List Lit) → k ≡ Clause lits → ⊥) → (s : Shape) → IsShapeOf k s → s ≡ Other
+    → ((lits : List Lit) → k ≡ Clause lits → ⊥) → ((x y z : ℕ) → k ≡ Times x y z → ⊥) → (s : Shape) → IsShapeOf k s → s ≡ Other
 unfolding IsShapeOf
-other_kernel k p q r (AtMost m x y bound) (cs, vs, f, d) = absurd (p m cs vs bound f)
-other_kernel k p q r (Same m x y bound) (cs, vs, f, d) = absurd (q m cs vs bound f)
-other_kernel k p q r (Either l m) f = absurd (r (l ∷ m ∷ []) f)
-other_kernel k p q r (Triple l m n) f = absurd (r (l ∷ m ∷ n ∷ []) f)
-other_kernel k p q r Slight (m, cs, vs, bound, inl f, s) = absurd (p m cs vs bound f)
-other_kernel k p q r Slight (m, cs, vs, bound, inr f, s) = absurd (q m cs vs bound f)
-other_kernel k p q r Other f = refl
+other_kernel k p q r t (AtMost m x y bound) (cs, vs, f, d) = absurd (p m cs vs bound f)
+other_kernel k p q r t (Same m x y bound) (cs, vs, f, d) = absurd (q m cs vs bound f)
+other_kernel k p q r t (Three ts bound) (m, f) = absurd (q m (units_of ts) (places_of ts) bound f)
+other_kernel k p q r t (Either l m) f = absurd (r (l ∷ m ∷ []) f)
+other_kernel k p q r t (Triple l m n) f = absurd (r (l ∷ m ∷ n ∷ []) f)
+other_kernel k p q r t (Product x y z) f = absurd (t x y z f)
+other_kernel k p q r t Slight (m, cs, vs, bound, inl f, s) = absurd (p m cs vs bound f)
+other_kernel k p q r t Slight (m, cs, vs, bound, inr f, s) = absurd (q m cs vs bound f)
+other_kernel k p q r t Other f = refl
 
 -- ---- the shape of a sum that is no difference
 
@@ -181,6 +231,12 @@ module _ (k : Kernel) (l : Lit) (coeffs cs : List ℤ) (vars vs : List ℕ) (lim
       let read = short_number limit linear.limit_in_range in
       (coeffs, vars, subst (λ (z : ℤ). k ≡ Eq l coeffs vars z) (sym read) is, difference_read x y d)
 
+  pub equation_made : k ≡ Eq l coeffs vars limit → (r : Shape) → IsShapeOf (Eq l coeffs vars (to_z w64 (of_z w64 limit))) r → IsShapeOf k r
+  unfolding HasNumbers
+  equation_made is r h =
+      let linear : IsLinear coeffs vars limit = subst (λ (j : Kernel). HasNumbers j) is numbers in
+      subst (λ (j : Kernel). IsShapeOf j r) ((λ i. Eq l coeffs vars (short_number limit linear.limit_in_range i)) ∙ sym is) h
+
 -- the same of lists whose last items stand apart
 pub coefficients_read : (cs front : List ℤ) (vs : List ℕ) (last : ℤ) (limit : ℤ) → IsLinear cs vs limit → cs ≡ front ++ last ∷ [] → length front ≡ 1
     → cs ≡ to_z w64 (of_z w64 (get_or front 0 (pos 0))) ∷ to_z w64 (of_z w64 last) ∷ []
@@ -192,7 +248,28 @@ coefficients_read cs (a ∷ []) vs last limit linear e h =
     let second = short_number last (made.coefficients 1 (omega arith)) in
     e ∙ (λ i. sym first i ∷ sym second i ∷ [])
 
+pub three_read : (cs front : List ℤ) (vs : List ℕ) (last : ℤ) (limit : ℤ) → IsLinear cs vs limit → cs ≡ front ++ last ∷ [] → length front ≡ 2
+    → cs ≡ to_z w64 (of_z w64 (get_or front 0 (pos 0))) ∷ to_z w64 (of_z w64 (get_or front 1 (pos 0))) ∷ to_z w64 (of_z w64 last) ∷ []
+three_read cs [] vs last limit linear e h = absurd (omega arith)
+three_read cs (a ∷ []) vs last limit linear e h = absurd (omega arith)
+three_read cs (a ∷ c ∷ d ∷ front) vs last limit linear e h = absurd (omega arith)
+three_read cs (a ∷ c ∷ []) vs last limit linear e h =
+    let made : IsLinear (a ∷ c ∷ last ∷ []) vs limit = subst (λ (z : List ℤ). IsLinear z vs limit) e linear in
+    let first = short_number a (made.coefficients 0 (omega arith)) in
+    let second = short_number c (made.coefficients 1 (omega arith)) in
+    let third = short_number last (made.coefficients 2 (omega arith)) in
+    e ∙ (λ i. sym first i ∷ sym second i ∷ sym third i ∷ [])
+
+-- an equation of three terms is that of its literal
+pub three_is : (k : Kernel) (l : Lit) (cs : List ℤ) (vs : List ℕ) (z : ℤ) → k ≡ Eq l cs vs z → (t : Terms) (limit : ℤ) → IsShapeOf k (Three t limit) → k ≡ Eq l (units_of t) (places_of t) limit
+unfolding IsShapeOf literal_or
+three_is k l cs vs z e t limit (m, f) = f ∙ (λ i. Eq (ap (literal_or l) (sym f ∙ e) i) (units_of t) (places_of t) limit)
+
 -- a sum of that shape has slight coefficients
+pub slight_three : (k : Kernel) (t : Terms) (limit : ℤ) → IsShapeOf k (Three t limit) → IsSlightSum k
+unfolding IsShapeOf
+slight_three k t limit (l, is) = (l, units_of t, places_of t, limit, inr is, units_slight t)
+
 pub slight_inequality : (k : Kernel) (l : Lit) (coeffs : List ℤ) (vars : List ℕ) (limit : ℤ) → IsSlightSum k → k ≡ Le l coeffs vars limit → AreSlight coeffs
 unfolding coeffs_of
 slight_inequality k l coeffs vars limit (m, cs, vs, bound, inl f, s) e = subst AreSlight (ap coeffs_of (sym f ∙ e)) s

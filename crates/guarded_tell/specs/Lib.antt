@@ -8,5 +8,8 @@ pub mod Rests
 pub mod Sides
 pub mod Open
 pub mod Sole
+pub mod Three
 pub mod Found
+pub mod Few
 pub mod Seen
+pub mod Natural

@@ -1,4 +1,4 @@
--- Shapes: a kernel of two variables, or of two literals or three, as one record, without its lists.
+-- Shapes: a kernel of two variables or three, of two literals or three, or of a product, as one record, without its lists.
 use Rattle.std.specs.Prelude.{◌≡◌, ◌⊎◌, ℕ, ℤ, pos, negsuc, List, [], ◌∷◌, length, slice_index_or, ◌<◌}
 use Rattle.interval.specs.Boxes.{Bounds}
 use Rattle.guarded_tell.specs.Words.{Lit}
@@ -6,9 +6,12 @@ use Rattle.small_sums.specs.Short.{IsTermOf}
 use Rattle.small_sums.specs.Slight.{AreSlight}
 use Rattle.small_sums.specs.declared.pairs.Pair.{Pair}
 use Rattle.guarded_tell.specs.declared.kernel.Kernel.{Kernel}
-use Rattle.guarded_tell.specs.declared.kernel.Kernel.TheVariants.{Le, Eq, Clause}
+use Rattle.guarded_tell.specs.declared.kernel.Kernel.TheVariants.{Le, Eq, Times, Clause}
+use Rattle.guarded_tell.specs.declared.shape.Sign.{Sign}
+use Rattle.guarded_tell.specs.declared.shape.Sign.TheVariants.{Plus, Minus}
+use Rattle.guarded_tell.specs.declared.shape.Terms.{Terms}
 use Rattle.guarded_tell.specs.declared.shape.Shape.{Shape}
-use Rattle.guarded_tell.specs.declared.shape.Shape.TheVariants.{AtMost, Same, Either, Triple, Slight, Other}
+use Rattle.guarded_tell.specs.declared.shape.Shape.TheVariants.{AtMost, Same, Three, Either, Triple, Product, Slight, Other}
 
 -- the sum of these terms is x - y
 abbrev pub IsDifference : List ℤ → List ℕ → ℕ → ℕ → Type 0
@@ -23,6 +26,22 @@ IsAtMostOf k l x y limit = (coeffs : List ℤ) × (vars : List ℕ) × (k ≡ Le
 abbrev pub IsSameOf : Kernel → Lit → ℕ → ℕ → ℤ → Type 0
 IsSameOf k l x y limit = (coeffs : List ℤ) × (vars : List ℕ) × (k ≡ Eq l coeffs vars limit) × IsDifference coeffs vars x y
 
+-- the coefficient of a variable, or of its opposite
+abbrev pub unit_of : Sign → ℤ
+unit_of Plus = pos 1
+unit_of Minus = negsuc 0
+
+-- the coefficients and the variables of three terms, in order
+abbrev pub units_of : Terms → List ℤ
+units_of t = unit_of t.x_sign ∷ unit_of t.y_sign ∷ unit_of t.z_sign ∷ []
+
+abbrev pub places_of : Terms → List ℕ
+places_of t = t.x ∷ t.y ∷ t.z ∷ []
+
+-- the kernel is an equation of these three terms
+abbrev pub IsThreeOf : Kernel → Terms → ℤ → Type 0
+IsThreeOf k t limit = (l : Lit) × (k ≡ Eq l (units_of t) (places_of t) limit)
+
 -- the kernel is a sum with slight coefficients
 abbrev pub IsSlightSum : Kernel → Type 0
 IsSlightSum k = (l : Lit) × (coeffs : List ℤ) × (vars : List ℕ) × (limit : ℤ) × ((k ≡ Le l coeffs vars limit) ⊎ (k ≡ Eq l coeffs vars limit)) × AreSlight coeffs
@@ -31,8 +50,10 @@ IsSlightSum k = (l : Lit) × (coeffs : List ℤ) × (vars : List ℕ) × (limit 
 unfoldable pub IsShapeOf : Kernel → Shape → Type 0
 IsShapeOf k (AtMost l x y limit) = IsAtMostOf k l x y limit
 IsShapeOf k (Same l x y limit) = IsSameOf k l x y limit
+IsShapeOf k (Three t limit) = IsThreeOf k t limit
 IsShapeOf k (Either l m) = k ≡ Clause (l ∷ m ∷ [])
 IsShapeOf k (Triple l m n) = k ≡ Clause (l ∷ m ∷ n ∷ [])
+IsShapeOf k (Product x y z) = k ≡ Times x y z
 IsShapeOf k Slight = IsSlightSum k
 IsShapeOf k Other = Unit {0}
 

@@ -13,9 +13,12 @@
 #![tactic(auto)]
 
 mod differences;
+mod failing;
+mod few;
 mod kernel;
 mod laws;
 mod narrowing;
+mod product;
 mod quiet;
 mod resting;
 mod rooms;
@@ -25,6 +28,7 @@ mod shape;
 mod sides;
 mod slight_sum;
 mod sole;
+mod three;
 mod visit;
 
 pub use clause_tells::Literals;
@@ -34,7 +38,7 @@ pub use narrowing::{visit_narrowing, visit_unseen};
 pub use quiet::Hint;
 pub use resting::{Rest, rest_of, seen_rest};
 pub use seen::{Seen, seen_visit};
-pub use shape::{Shape, shape_of};
+pub use shape::{Shape, Sign, Terms, shape_of};
 pub use sides::{is_sided, law_sided, side_at};
 pub use sum_tells::Extended;
 pub use tell_laws::law_narrowing;

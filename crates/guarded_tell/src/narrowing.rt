@@ -64,7 +64,9 @@ pub fn visit_unseen<H: Hear>(
     ensures rest { IsRest k.now b.now result }
 {
     match shape {
-        Shape::Slight | Shape::Other => visit_listed(k, shape, b, hint, h),
+        Shape::Three { .. } | Shape::Product { .. } | Shape::Slight | Shape::Other => {
+            visit_listed(k, shape, b, hint, h)
+        }
         _ => {
             give_short(k, shape, b, h);
             Rest::Awake
@@ -118,6 +120,7 @@ fn visit_listed<H: Hear>(k: &Kernel, shape: &Shape, b: &BoxOf, hint: &mut Hint, 
     ensures rest { IsRest k.now b.now result }
 {
     match shape {
+        Shape::Three { .. } => visit_slight(k, b, hint, h),
         Shape::Slight => visit_slight(k, b, hint, h),
         _ => visit_other(k, b, hint, h),
     }

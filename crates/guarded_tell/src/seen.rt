@@ -1,4 +1,4 @@
-//! What a kernel's shape alone says of a visit: that it narrows nothing, or its one tell.
+//! What a kernel's shape alone says of a visit: that it narrows nothing, or its one tell or two.
 
 ghost use Rattle.std.specs.Prelude.{◌≡◌, ◌<◌, ◌≤ℤ◌, ◌<ℤ◌, ◌+ℤ◌, ◌-ℤ◌, ◌∷◌, [], true, false, length, unsigned_abs, MatchOption};
 ghost use Rattle.interval.specs.Limits.{IsBound};
@@ -13,8 +13,11 @@ ghost use Rattle.guarded_tell.specs.Narrowing.{narrowing_tells};
 ghost use Rattle.guarded_tell.specs.Seen.{IsSeen};
 
 use crate::differences::{is_fixed, is_product};
-use crate::resting::{Rest, at_most_rest, either_rest, same_rest, triple_rest, unequal_rest};
+use crate::failing::failing_tell;
+use crate::product::seen_product;
+use crate::resting::Rest;
 use crate::shape::{Shape, difference};
+use crate::three::seen_three;
 use crate::{Kernel, Lit, Side, Tell};
 use interval::{BoxOf, law_clamp_order, law_quotient_order};
 use small_sums::sum;
@@ -27,13 +30,34 @@ pub enum Seen {
     Quiet(Rest),
     /// It has this one tell that narrows the box, and no other.
     One(Tell),
+    /// It has these two tells that narrow the box, in this order, and no other.
+    Two(Tell, Tell),
+    /// Of its tells that narrow the box this is the first, and it leaves its variable no number.
+    Fails(Tell),
     /// Its shape doesn't say.
     Unseen,
 }
 
-/// What the kernel's shape says of a visit, from bounds that are read once.
+/// What the kernel's shape says of a visit. That a difference or a short clause narrows nothing is left to `seen_rest`.
 #[inline(always)]
 pub fn seen_visit(k: &Kernel, shape: &Shape, b: &BoxOf) -> Seen
+    requires kernel { IsKernel (length b.now) k.now }
+    requires shape { IsShapeOf k.now shape.now }
+    requires proper { IsProperIn (vars_of k.now) b.now }
+    ensures { IsSeen k.now b.now result }
+{
+    match seen_going_on(k, shape, b) {
+        Seen::Unseen => match failing_tell(k, shape, b) {
+            Some(t) => Seen::Fails(t),
+            None => Seen::Unseen,
+        },
+        seen => seen,
+    }
+}
+
+/// The same of a visit that leaves each variable a number, from bounds that are read once.
+#[inline(always)]
+fn seen_going_on(k: &Kernel, shape: &Shape, b: &BoxOf) -> Seen
     requires kernel { IsKernel (length b.now) k.now }
     requires shape { IsShapeOf k.now shape.now }
     requires proper { IsProperIn (vars_of k.now) b.now }
@@ -42,12 +66,14 @@ pub fn seen_visit(k: &Kernel, shape: &Shape, b: &BoxOf) -> Seen
     match shape {
         Shape::AtMost { lit, x, y, limit } => seen_at_most(k, *lit, *x, *y, *limit, b),
         Shape::Same { lit, x, y, limit } => seen_same(k, *lit, *x, *y, *limit, b),
+        Shape::Three { terms, limit } => seen_three(k, *terms, *limit, b),
         Shape::Either { first, second } => seen_either(k, *first, *second, b),
         Shape::Triple {
             first,
             second,
             third,
         } => seen_triple(k, *first, *second, *third, b),
+        Shape::Product { x, y, z } => seen_product(k, *x, *y, *z, b),
         Shape::Slight | Shape::Other => Seen::Unseen,
     }
 }
@@ -60,14 +86,9 @@ fn seen_at_most(k: &Kernel, lit: Lit, x: u32, y: u32, limit: i64, b: &BoxOf) -> 
     requires proper { IsProperIn (vars_of k.now) b.now }
     ensures { IsSeen k.now b.now result }
 {
-    law_quotient_order();
-    law_clamp_order();
-    match at_most_rest(lit, limit, difference(x, y, b), b) {
-        Some(rest) => Seen::Quiet(rest),
-        None => match at_most_tell(k, lit, x, y, limit, b) {
-            Some(t) => Seen::One(t),
-            None => Seen::Unseen,
-        },
+    match at_most_tell(k, lit, x, y, limit, b) {
+        Some(t) => Seen::One(t),
+        None => Seen::Unseen,
     }
 }
 
@@ -95,14 +116,9 @@ fn seen_apart(k: &Kernel, lit: Lit, x: u32, y: u32, limit: i64, b: &BoxOf) -> Se
     requires out { words.is_out lit b.now ≡ true }
     ensures { IsSeen k.now b.now result }
 {
-    law_quotient_order();
-    law_clamp_order();
-    match unequal_rest(limit, difference(x, y, b)) {
-        Some(rest) => Seen::Quiet(rest),
-        None => match apart_tell(k, lit, x, y, limit, b) {
-            Some(t) => Seen::One(t),
-            None => Seen::Unseen,
-        },
+    match apart_tell(k, lit, x, y, limit, b) {
+        Some(t) => Seen::One(t),
+        None => Seen::Unseen,
     }
 }
 
@@ -114,14 +130,9 @@ fn seen_equal(k: &Kernel, lit: Lit, x: u32, y: u32, limit: i64, b: &BoxOf) -> Se
     requires possible { words.is_out lit b.now ≡ false }
     ensures { IsSeen k.now b.now result }
 {
-    law_quotient_order();
-    law_clamp_order();
-    match same_rest(lit, limit, difference(x, y, b), b) {
-        Some(rest) => Seen::Quiet(rest),
-        None => match equal_tell(k, lit, x, y, limit, b) {
-            Some(t) => Seen::One(t),
-            None => Seen::Unseen,
-        },
+    match equal_tell(k, lit, x, y, limit, b) {
+        Some(t) => Seen::One(t),
+        None => Seen::Unseen,
     }
 }
 
@@ -133,14 +144,9 @@ fn seen_either(k: &Kernel, first: Lit, second: Lit, b: &BoxOf) -> Seen
     requires proper { IsProperIn (vars_of k.now) b.now }
     ensures { IsSeen k.now b.now result }
 {
-    law_quotient_order();
-    law_clamp_order();
-    match either_rest(first, second, b) {
-        Some(rest) => Seen::Quiet(rest),
-        None => match either_tell(k, first, second, b) {
-            Some(t) => Seen::One(t),
-            None => Seen::Unseen,
-        },
+    match either_tell(k, first, second, b) {
+        Some(t) => Seen::One(t),
+        None => Seen::Unseen,
     }
 }
 
@@ -152,14 +158,9 @@ fn seen_triple(k: &Kernel, first: Lit, second: Lit, third: Lit, b: &BoxOf) -> Se
     requires proper { IsProperIn (vars_of k.now) b.now }
     ensures { IsSeen k.now b.now result }
 {
-    law_quotient_order();
-    law_clamp_order();
-    match triple_rest(first, second, third, b) {
-        Some(rest) => Seen::Quiet(rest),
-        None => match triple_tell(k, first, second, third, b) {
-            Some(t) => Seen::One(t),
-            None => Seen::Unseen,
-        },
+    match triple_tell(k, first, second, third, b) {
+        Some(t) => Seen::One(t),
+        None => Seen::Unseen,
     }
 }
 

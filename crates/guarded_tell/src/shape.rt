@@ -4,7 +4,9 @@ ghost use Rattle.std.specs.Prelude.{◌≡◌, ◌<◌, ◌≤ℤ◌, ℕ, pos, 
 ghost use Rattle.interval.specs.Boxes.{low_of, high_of};
 ghost use Rattle.sum_tells.specs.Linear.{IsLinear};
 ghost use Rattle.guarded_tell.specs.Kernels.{HasNumbers};
-ghost use Rattle.guarded_tell.specs.Shapes.{IsShapeOf, IsDifference, IsDifferenceIn};
+ghost use Rattle.tells.specs.declared.tell.Lit.{Lit as Literal};
+ghost use Rattle.small_sums.specs.Slight.{AreSlight};
+ghost use Rattle.guarded_tell.specs.Shapes.{IsShapeOf, IsDifference, IsDifferenceIn, unit_of, units_of, places_of};
 
 use crate::{Kernel, Lit};
 use clause_tells::Literals;
@@ -12,7 +14,33 @@ use interval::BoxOf;
 use small_sums::{Pair, are_slight, are_slight_extended, opposite, plain};
 use sum_tells::Extended;
 
-/// A kernel of two variables, or of two literals or three, whole, or what kind of another kernel it is.
+/// Whether a term is its variable or the opposite.
+#[derive(Clone, Copy, PartialEq, Eq, Debug)]
+pub enum Sign {
+    /// The variable.
+    Plus,
+    /// Its opposite.
+    Minus,
+}
+
+/// The three terms of a sum, in order, each a variable or its opposite.
+#[derive(Clone, Copy, PartialEq, Eq, Debug)]
+pub struct Terms {
+    /// The variable of the first term.
+    pub x: u32,
+    /// The variable of the second term.
+    pub y: u32,
+    /// The variable of the third term.
+    pub z: u32,
+    /// The sign of the first term.
+    pub x_sign: Sign,
+    /// The sign of the second term.
+    pub y_sign: Sign,
+    /// The sign of the third term.
+    pub z_sign: Sign,
+}
+
+/// A kernel of two variables or three, of two literals or three, or of a product, whole, or what kind of another kernel it is.
 #[derive(Clone, Copy, PartialEq, Eq, Debug)]
 pub enum Shape {
     /// The literal is true exactly where `x - y` is at most the limit.
@@ -37,6 +65,13 @@ pub enum Shape {
         /// The limit.
         limit: i64,
     },
+    /// The kernel's literal is true exactly where the sum of the terms is the limit.
+    Three {
+        /// The terms.
+        terms: Terms,
+        /// The limit.
+        limit: i64,
+    },
     /// One of two literals is true.
     Either {
         /// The first literal.
@@ -52,6 +87,15 @@ pub enum Shape {
         second: Lit,
         /// The third literal.
         third: Lit,
+    },
+    /// `z` is the product of `x` and `y`.
+    Product {
+        /// The first factor.
+        x: u32,
+        /// The second factor.
+        y: u32,
+        /// The product.
+        z: u32,
     },
     /// A sum of three terms or more with slight coefficients.
     Slight,
@@ -93,10 +137,66 @@ pub fn shape_of(k: &Kernel) -> Shape
                 y,
                 limit: *limit,
             },
-            None => sum_shape(are_slight_extended(coeffs)),
+            None => equation_shape(coeffs, vars, *limit),
         },
         Kernel::Clause { lits } => clause_shape(lits),
+        Kernel::Times { x, y, z } => Shape::Product {
+            x: *x,
+            y: *y,
+            z: *z,
+        },
         _ => Shape::Other,
+    }
+}
+
+/// The shape of an equation that is no difference.
+fn equation_shape(coeffs: &Extended<i64>, vars: &Extended<u32>, limit: i64) -> Shape
+    requires { IsLinear coeffs.now vars.now limit }
+    ensures shape { (l : Literal) → IsShapeOf (Kernel.Eq l coeffs.now vars.now limit) result }
+    ensures rough { result ≡ Shape.Other → AreSlight coeffs.now → ⊥ }
+{
+    match terms_of(coeffs, vars) {
+        Some(terms) => Shape::Three { terms, limit },
+        None => sum_shape(are_slight_extended(coeffs)),
+    }
+}
+
+/// The terms of a sum of three whose coefficients are 1 or -1.
+fn terms_of(coeffs: &Extended<i64>, vars: &Extended<u32>) -> Option<Terms>
+    requires { IsLinear coeffs.now vars.now (pos 0) }
+    ensures { MatchOption result (Unit {0}) (λ t. (coeffs.now ≡ units_of t) × (vars.now ≡ places_of t)) }
+{
+    let (coeffs, last_coeff) = coeffs.split_last()?;
+    let (vars, last_var) = vars.split_last()?;
+    if coeffs.len() == 2 && vars.len() == 2 {
+        terms_by_signs(coeffs[0], coeffs[1], last_coeff, vars[0], vars[1], last_var)
+    } else {
+        None
+    }
+}
+
+/// The same of three coefficients and variables.
+fn terms_by_signs(first: i64, second: i64, third: i64, x: u32, y: u32, z: u32) -> Option<Terms>
+    ensures { MatchOption result (Unit {0}) (λ t. (first ∷ second ∷ third ∷ [] ≡ units_of t) × (x ∷ y ∷ z ∷ [] ≡ places_of t)) }
+{
+    Some(Terms {
+        x,
+        y,
+        z,
+        x_sign: sign_of(first)?,
+        y_sign: sign_of(second)?,
+        z_sign: sign_of(third)?,
+    })
+}
+
+/// The sign of a term whose coefficient is 1 or -1.
+fn sign_of(coeff: i64) -> Option<Sign>
+    ensures { MatchOption result (Unit {0}) (λ s. coeff ≡ unit_of s) }
+{
+    match coeff {
+        1 => Some(Sign::Plus),
+        -1 => Some(Sign::Minus),
+        _ => None,
     }
 }
 

@@ -1,5 +1,5 @@
 -- All tells of one kernel, heard by the box that they were made for.
-use Rattle.std.proofs.Common.{◌≡◌, ◌≢◌, ℕ, ℤ, pos, ◌<◌, ◌≤ℤ◌, ◌⊎◌, inl, inr, ⊎_elim, Bool, true, false, cond, refl, List, [], ◌∷◌, length, get_or, set, sym, subst, ◌∙◌, ap, arith}
+use Rattle.std.proofs.Common.{◌≡◌, ◌≢◌, ℕ, ℤ, pos, ◌<◌, ◌≤ℤ◌, ◌⊎◌, inl, inr, ⊎_elim, Bool, true, false, cond, refl, List, [], ◌∷◌, length, take, get_or, set, sym, subst, ◌∙◌, ap, arith}
 use Rattle.std.proofs.lemmas.List.{get_or_default, get_or-set_other, length-set}
 use Rattle.std.proofs.lemmas.List.Elements.{All-filter, All-head, All-tail, All-take}
 use Rattle.std.proofs.lemmas.Bool.{true≢false}
@@ -30,7 +30,10 @@ use Rattle.moved_fixpoint.specs.Moved.{Set, count_of}
 use Rattle.moved_fixpoint.specs.Rested.{Heeds, HasRested}
 use Rattle.moved_fixpoint.specs.Asked.{has_one, heard_at, AreAsked, IsAskedBy}
 use Rattle.moved_fixpoint.specs.Heard.{GoesOn, Hears, Joined, joined}
-use Rattle.moved_fixpoint.specs.Gathered.{SideLeavesNone, AreCut, AreGathered}
+use Rattle.guarded_tell.specs.declared.resting.Rest.{Rest}
+use Rattle.guarded_tell.specs.Rests.{IsQuietFor}
+use Rattle.guarded_tell.specs.Seen.{SideLeavesNone, IsFailedBy}
+use Rattle.moved_fixpoint.specs.Gathered.{AreCut, AreGathered}
 use Rattle.moved_fixpoint.specs.Runs.{SameAt, SparesSide, IsUnmoved, HasVisited, KernelRuns}
 use Rattle.moved_fixpoint.proofs.RestLaws.{in_or_not, proper_of, entailed_here, quiet_here}
 use Rattle.moved_fixpoint.proofs.AskedLaws.{asked_more, asked_none}
@@ -355,16 +358,30 @@ any_default kernels i k before asked rests p after asked_after rests_after p_aft
 pub here_is : (kernels : List Kernel) (n i : ℕ) (k : Kernel) → All (IsKernel n) kernels → i < length kernels → k ≡ get_or kernels i k → IsKernel n k
 here_is kernels n i k all h is = subst (IsKernel n) (sym is) (all i k h)
 
--- ---- a kernel that tells one thing
+-- ---- a kernel that tells one thing or two, or whose first tell leaves a variable no number
 
-pub told_any : (kernels : List Kernel) (i : ℕ) (k : Kernel) (b now : Bounds) (t : Tell) → i < length kernels → k ≡ get_or kernels i k → now ≡ b → narrowing_tells k now ≡ t ∷ [] →
-    (d : Kernel) → narrowing_tells (get_or kernels i d) b ≡ t ∷ []
-told_any kernels i k b now t h is same told d =
-    subst (λ (x : Kernel). narrowing_tells x b ≡ t ∷ []) (is ∙ get_or_default kernels i k d h) (subst (λ (x : Bounds). narrowing_tells k x ≡ t ∷ []) same told)
+-- what is gathered of the kernel is gathered of it by any default
+pub gathered_any : (kernels : List Kernel) (i : ℕ) (k : Kernel) (b now : Bounds) (ts : List Tell) → i < length kernels → k ≡ get_or kernels i k → now ≡ b → AreGathered now (narrowing_tells k now) ts →
+    (d : Kernel) → AreGathered b (narrowing_tells (get_or kernels i d) b) ts
+gathered_any kernels i k b now ts h is same told d =
+    subst (λ (x : Kernel). AreGathered b (narrowing_tells x b) ts) (is ∙ get_or_default kernels i k d h) (subst (λ (x : Bounds). AreGathered x (narrowing_tells k x) ts) same told)
 
-pub one_gathered : (kernels : List Kernel) (i : ℕ) (k : Kernel) (b : Bounds) (t : Tell) → k ≡ get_or kernels i k → ((d : Kernel) → narrowing_tells (get_or kernels i d) b ≡ t ∷ []) →
-    AreGathered b (narrowing_tells k b) (t ∷ [])
-one_gathered kernels i k b t is told = inl (sym ((λ j. narrowing_tells (is j) b) ∙ told k))
+pub quiet_any : (kernels : List Kernel) (i : ℕ) (k : Kernel) (b now : Bounds) (r : Rest) → i < length kernels → k ≡ get_or kernels i k → now ≡ b → IsQuietFor k now r → (d : Kernel) → IsQuietFor (get_or kernels i d) b r
+quiet_any kernels i k b now r h is same quiet d =
+    subst (λ (x : Kernel). IsQuietFor x b r) (is ∙ get_or_default kernels i k d h) (subst (λ (x : Bounds). IsQuietFor k x r) same quiet)
+
+pub gathered_here : (kernels : List Kernel) (i : ℕ) (k : Kernel) (b : Bounds) (ts : List Tell) → k ≡ get_or kernels i k → ((d : Kernel) → AreGathered b (narrowing_tells (get_or kernels i d) b) ts) →
+    AreGathered b (narrowing_tells k b) ts
+gathered_here kernels i k b ts is told = subst (λ (x : Kernel). AreGathered b (narrowing_tells x b) ts) (sym is) (told k)
+
+pub first_gathered : (k : Kernel) (b : Bounds) (t : Tell) → IsFailedBy k b t → AreGathered b (narrowing_tells k b) (t ∷ [])
+first_gathered k b t failed = inr (record {
+  count = 1;
+  first = sym (λ i. take 1 (failed.first i));
+  last = t;
+  among = (0, omega arith, refl);
+  none = failed.none;
+})
 
 pub one_heard : (j after : Joined) (t : Tell) → Hears j t after → HearsAll Hears j (t ∷ []) after
 one_heard j after t h = (after, h, refl)
@@ -374,6 +391,17 @@ pub one_asked : (naming : Naming) (rests : Rests) (b : Bounds) (by_side : Bool) 
 one_asked naming rests b by_side t old new is h =
     subst (λ (s : Bool). AreAsked naming rests b s (t ∷ []) old new) is
     (asked_more naming rests b by_side (t ∷ []) 0 t old old new (omega arith) (asked_none naming rests b by_side old) h)
+
+pub two_heard : (j mid after : Joined) (t u : Tell) → Hears j t mid → Hears mid u after → HearsAll Hears j (t ∷ u ∷ []) after
+two_heard j mid after t u h g = (mid, h, (after, g, refl))
+
+pub two_asked : (naming : Naming) (rests : Rests) (b : Bounds) (by_side : Bool) (t u : Tell) (old mid new : Set) → by_side ≡ has_one b →
+    IsAskedBy (λ j. heard_at naming by_side t.side j) rests b t.var old mid → IsAskedBy (λ j. heard_at naming by_side u.side j) rests b u.var mid new →
+    AreAsked naming rests b (has_one b) (t ∷ u ∷ []) old new
+two_asked naming rests b by_side t u old mid new is h g =
+    let ts : List Tell = t ∷ u ∷ [] in
+    subst (λ (s : Bool). AreAsked naming rests b s ts old new) is
+    (asked_more naming rests b by_side ts 1 t old mid new (omega arith) (asked_more naming rests b by_side ts 0 t old old mid (omega arith) (asked_none naming rests b by_side old) h) g)
 
 -- ---- what is so after a call
 

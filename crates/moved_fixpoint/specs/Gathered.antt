@@ -1,18 +1,9 @@
 -- What is gathered of the tells of a kernel on a box: all of them, or the first up to one that leaves its variable no number.
-use Rattle.std.specs.Prelude.{◌≡◌, ◌⊎◌, ℕ, ℤ, true, false, ◌<ℤ◌, List, [], ◌∷◌, ◌++◌, take, Contains}
-use Rattle.interval.specs.Boxes.{Bounds, low_of, high_of}
+use Rattle.std.specs.Prelude.{◌≡◌, ◌⊎◌, ℕ, true, false, List, [], ◌∷◌, ◌++◌, take, Contains}
+use Rattle.interval.specs.Boxes.{Bounds}
 use Rattle.guarded_tell.specs.Words.{Tell}
-use Rattle.guarded_tell.specs.Words.{Side}
-use Rattle.guarded_tell.specs.Words.{Low, High}
+use Rattle.guarded_tell.specs.Seen.{LeavesNone}
 use Rattle.moved_fixpoint.specs.declared.told.Told.{Told}
-
--- a bound that leaves variable v no number in the box
-abbrev pub SideLeavesNone : Bounds → Side → ℕ → ℤ → Type 0
-SideLeavesNone b Low v z = high_of b v <ℤ z
-SideLeavesNone b High v z = z <ℤ low_of b v
-
-abbrev pub LeavesNone : Bounds → Tell → Type 0
-LeavesNone b t = SideLeavesNone b t.side t.var t.bound
 
 -- the first of the tells were gathered, among them one that leaves its variable no number
 pub record AreCut (b : Bounds) (all told : List Tell) : Type 0 where

@@ -1,6 +1,6 @@
 //! How tells are joined into a box.
 
-ghost use Rattle.std.specs.Prelude.{◌≡◌, ◌<◌, ◌↔◌, length, IsTrue};
+ghost use Rattle.std.specs.Prelude.{◌≡◌, ◌<◌, ◌↔◌, ◌∷◌, [], length, IsTrue};
 ghost use Rattle.std.specs.List.{All};
 ghost use Rattle.interval.specs.Limits.{IsBound};
 ghost use Rattle.guarded_tell.specs.Hearing.{HearsAll};
@@ -48,6 +48,22 @@ pub(crate) fn join_all(told: &[Tell], b: &mut TrailedBox, mut progress: Progress
         progress = join(*t, b, progress);
     }
     progress
+}
+
+/// Joins two tells into a box, one after the other.
+#[inline(always)]
+pub(crate) fn join_two(told: (Tell, Tell), b: &mut TrailedBox, progress: Progress) -> Progress
+    requires first { told.0.var < length b.old.current }
+    requires first_bound { IsBound told.0.bound }
+    requires second { told.1.var < length b.old.current }
+    requires second_bound { IsBound told.1.bound }
+    ensures stack { b.new.stack ≡ b.old.stack }
+    ensures heard { HearsAll Hears (joined b.old.current progress) (told.0 ∷ told.1 ∷ []) (joined b.new.current result) }
+{
+    law_inside_order();
+    law_tightens_one();
+    let first = join(told.0, b, progress);
+    join(told.1, b, first)
 }
 
 /// Joins a tell into a box, unless the round is over.

@@ -7,14 +7,15 @@ ghost use Rattle.guarded_tell.specs.Words.{IsProperIn};
 ghost use Rattle.guarded_tell.specs.Kernels.{vars_of, IsKernel};
 ghost use Rattle.guarded_tell.specs.Narrowing.{narrowing_tells};
 ghost use Rattle.guarded_tell.specs.Shapes.{IsShapeOf};
-ghost use Rattle.guarded_tell.specs.Rests.{IsRest};
+ghost use Rattle.guarded_tell.specs.Rests.{IsQuietFor, IsRest};
 ghost use Rattle.moved_fixpoint.specs.Moved.{AreMasksOf, count_of};
 ghost use Rattle.moved_fixpoint.specs.Resting.{FitRests, KeepStacks};
 ghost use Rattle.moved_fixpoint.specs.Asked.{has_one, AreAsked};
+ghost use Rattle.moved_fixpoint.specs.Gathered.{AreGathered};
 ghost use Rattle.moved_fixpoint.specs.Runs.{KernelRuns};
 
 use crate::drawing::{ask, has_one};
-use crate::joiner::{Progress, join, join_all};
+use crate::joiner::{Progress, join, join_all, join_two};
 use crate::rests::Rests;
 use crate::sets::AskedSets;
 use fixpoint_laws::law_tightens_one;
@@ -125,13 +126,56 @@ fn run_told(
     let kernel = &kernels[place];
     match seen_visit(kernel, masks.shape(place), b.current()) {
         Seen::One(t) => run_one(kernels, masks, place, t, b, sets, progress),
-        Seen::Quiet(_) => run_unseen(kernels, masks, place, b, sets, progress),
+        Seen::Fails(t) => run_failing(kernels, masks, place, t, b, sets, progress),
+        Seen::Two(t, u) => run_two(kernels, masks, place, (t, u), b, sets, progress),
+        Seen::Quiet(rest) => run_quiet(kernels, masks, place, rest, b, sets, progress),
         Seen::Unseen => run_unseen(kernels, masks, place, b, sets, progress),
     }
 }
 
-/// The same of a kernel that has one tell on the box. That is joined, and the kernel rests as long as its shape says on the
-/// box as it is then.
+/// The same of a kernel that narrows nothing of the box, and rests so long.
+#[inline(always)]
+fn run_quiet(
+    kernels: &[Kernel],
+    masks: &Masks,
+    place: usize,
+    rest: Rest,
+    b: &mut TrailedBox,
+    sets: &mut AskedSets,
+    progress: Progress,
+) -> Progress
+    requires place { place < length kernels.now }
+    requires kernels { All (IsKernel (length b.old.current)) kernels.now }
+    requires masks { AreMasksOf kernels.now (length b.old.current) masks.now }
+    requires set { count_of sets.old.asked ≡ length kernels.now }
+    requires rests { FitRests (length kernels.now) sets.old.rests }
+    requires proper { IsProper b.old.current }
+    requires quiet { (k : Kernel) → IsQuietFor (slice_index_or kernels.now place k) b.old.current rest }
+    ensures stack { b.new.stack ≡ b.old.stack }
+    ensures rests { FitRests (length kernels.now) sets.new.rests }
+    ensures stacks { KeepStacks sets.old.rests sets.new.rests }
+    ensures run { KernelRuns kernels.now place b.old.current sets.old.asked sets.old.rests progress b.new.current sets.new.asked sets.new.rests result }
+{
+    law_inside_order();
+    law_tightens_one();
+    law_local();
+    law_monotone();
+    law_tell_place();
+    law_narrowing();
+    law_sided();
+    // its contract says that the bounds are in range
+    let _length = b.len();
+    sets.asked.forget(place);
+    if sets.rest_for(place, rest).is_ok() {
+        progress
+    } else {
+        Progress::Refused
+    }
+}
+
+/// The same of a kernel that has one tell on the box, or whose first leaves its variable no number. That is joined, and the
+/// kernel rests as long as its shape says on the box as it is then.
+#[inline(always)]
 fn run_one(
     kernels: &[Kernel],
     masks: &Masks,
@@ -147,7 +191,7 @@ fn run_one(
     requires set { count_of sets.old.asked ≡ length kernels.now }
     requires rests { FitRests (length kernels.now) sets.old.rests }
     requires proper { IsProper b.old.current }
-    requires told { (k : Kernel) → narrowing_tells (slice_index_or kernels.now place k) b.old.current ≡ t ∷ [] }
+    requires told { (k : Kernel) → AreGathered b.old.current (narrowing_tells (slice_index_or kernels.now place k) b.old.current) (t ∷ []) }
     ensures stack { b.new.stack ≡ b.old.stack }
     ensures rests { FitRests (length kernels.now) sets.new.rests }
     ensures stacks { KeepStacks sets.old.rests sets.new.rests }
@@ -177,7 +221,95 @@ fn run_one(
     after
 }
 
+/// The same of a kernel whose first tell leaves its variable no number. This stands apart, so that one tell is joined in place.
+#[inline(never)]
+fn run_failing(
+    kernels: &[Kernel],
+    masks: &Masks,
+    place: usize,
+    t: Tell,
+    b: &mut TrailedBox,
+    sets: &mut AskedSets,
+    progress: Progress,
+) -> Progress
+    requires place { place < length kernels.now }
+    requires kernels { All (IsKernel (length b.old.current)) kernels.now }
+    requires masks { AreMasksOf kernels.now (length b.old.current) masks.now }
+    requires set { count_of sets.old.asked ≡ length kernels.now }
+    requires rests { FitRests (length kernels.now) sets.old.rests }
+    requires proper { IsProper b.old.current }
+    requires told { (k : Kernel) → AreGathered b.old.current (narrowing_tells (slice_index_or kernels.now place k) b.old.current) (t ∷ []) }
+    ensures stack { b.new.stack ≡ b.old.stack }
+    ensures rests { FitRests (length kernels.now) sets.new.rests }
+    ensures stacks { KeepStacks sets.old.rests sets.new.rests }
+    ensures run { KernelRuns kernels.now place b.old.current sets.old.asked sets.old.rests progress b.new.current sets.new.asked sets.new.rests result }
+{
+    run_one(kernels, masks, place, t, b, sets, progress)
+}
+
+/// The same of a kernel that has two tells on the box.
+#[inline(never)]
+fn run_two(
+    kernels: &[Kernel],
+    masks: &Masks,
+    place: usize,
+    told: (Tell, Tell),
+    b: &mut TrailedBox,
+    sets: &mut AskedSets,
+    progress: Progress,
+) -> Progress
+    requires place { place < length kernels.now }
+    requires kernels { All (IsKernel (length b.old.current)) kernels.now }
+    requires masks { AreMasksOf kernels.now (length b.old.current) masks.now }
+    requires set { count_of sets.old.asked ≡ length kernels.now }
+    requires rests { FitRests (length kernels.now) sets.old.rests }
+    requires proper { IsProper b.old.current }
+    requires told { (k : Kernel) → AreGathered b.old.current (narrowing_tells (slice_index_or kernels.now place k) b.old.current) (told.0 ∷ told.1 ∷ []) }
+    ensures stack { b.new.stack ≡ b.old.stack }
+    ensures rests { FitRests (length kernels.now) sets.new.rests }
+    ensures stacks { KeepStacks sets.old.rests sets.new.rests }
+    ensures run { KernelRuns kernels.now place b.old.current sets.old.asked sets.old.rests progress b.new.current sets.new.asked sets.new.rests result }
+{
+    law_inside_order();
+    law_tightens_one();
+    law_local();
+    law_monotone();
+    law_tell_place();
+    law_narrowing();
+    law_sided();
+    // its contract says that the bounds are in range
+    let _length = b.len();
+    let kernel = &kernels[place];
+    sets.asked.forget(place);
+    let after = join_two(told, b, progress);
+    if !after.goes_on() {
+        return after;
+    }
+    let now = b.current();
+    let rest = shape_rest(kernel, masks.shape(place), now);
+    if sets.rest_for(place, rest).is_err() {
+        return Progress::Refused;
+    }
+    ask_two(masks, told, now, &sets.rests, &mut sets.asked);
+    after
+}
+
+/// Asks for the bounds of two tells.
+fn ask_two(masks: &Masks, told: (Tell, Tell), b: &BoxOf, rests: &Rests, asked: &mut AskedSet)
+    requires first { told.0.var < masks.now.count }
+    requires second { told.1.var < masks.now.count }
+    requires length { masks.now.count ≡ length b.now }
+    requires set { count_of asked.old ≡ length masks.now.sets }
+    requires rests { FitRests (length masks.now.sets) rests.now }
+    ensures { AreAsked masks.now rests.now b.now (has_one b.now) (told.0 ∷ told.1 ∷ []) asked.old asked.new }
+{
+    let by_side = has_one(b);
+    ask(masks, told.0, by_side, b, rests, asked);
+    ask(masks, told.1, by_side, b, rests, asked);
+}
+
 /// How long the kernel needs no visit, as far as its shape says.
+#[inline(always)]
 fn shape_rest(kernel: &Kernel, shape: &Shape, b: &BoxOf) -> Rest
     requires kernel { IsKernel (length b.now) kernel.now }
     requires shape { IsShapeOf kernel.now shape.now }

@@ -6,7 +6,9 @@ ghost use Rattle.interval.specs.Boxes.{IsProper};
 ghost use Rattle.guarded_tell.specs.Kernels.{IsKernel};
 ghost use Rattle.guarded_tell.specs.Shapes.{IsShapeOf};
 
-use guarded_tell::{Hear, Hint, Kernel, Shape, Side, Tell, shape_of, visit_narrowing, visit_tells};
+use guarded_tell::{
+    Hear, Hint, Kernel, Seen, Shape, Side, Tell, seen_visit, shape_of, visit_narrowing, visit_tells,
+};
 use interval::{BoxOf, NoMemory, is_crossed};
 use std::alloc::Global;
 use std::process::Abort;
@@ -92,7 +94,7 @@ pub fn bounds(rt: &impl Abort, pair: (i64, i64)) -> (i64, i64)
 }
 
 /// The box of four variables with these bounds, none of which cross.
-fn box_of(rt: &impl Abort, alloc: Global, pairs: &Pairs) -> Result<BoxOf, NoMemory>
+pub fn box_of(rt: &impl Abort, alloc: Global, pairs: &Pairs) -> Result<BoxOf, NoMemory>
     ensures four { IfOk result (λ b. length b ≡ 4) }
     ensures proper { IfOk result IsProper }
 {
@@ -107,7 +109,7 @@ fn box_of(rt: &impl Abort, alloc: Global, pairs: &Pairs) -> Result<BoxOf, NoMemo
 }
 
 /// The tells of the kernel on the box, in order.
-fn tells_on(kernel: &Kernel, b: &BoxOf) -> Heard
+pub fn tells_on(kernel: &Kernel, b: &BoxOf) -> Heard
     requires kernel { IsKernel 4 kernel.now }
     requires four { length b.now ≡ 4 }
     requires proper { IsProper b.now }
@@ -150,14 +152,42 @@ fn expect_narrowing(
     }
 }
 
+/// Asserts that what the kernel's shape alone says of a visit is so.
+fn expect_seen(
+    rt: &impl Abort,
+    kernel: &Kernel,
+    shape: &Shape,
+    b: &BoxOf,
+    pairs: &Pairs,
+    tells: &[Told],
+)
+    requires kernel { IsKernel 4 kernel.now }
+    requires shape { IsShapeOf kernel.now shape.now }
+    requires four { length b.now ≡ 4 }
+    requires proper { IsProper b.now }
+{
+    let is_so = match seen_visit(kernel, shape, b) {
+        Seen::Quiet(_) => are_those_that_narrow(tells, pairs, &[]),
+        Seen::One(t) => are_those_that_narrow(tells, pairs, &[(t.var, t.side, t.bound)]),
+        Seen::Two(t, u) => {
+            let both = [(t.var, t.side, t.bound), (u.var, u.side, u.bound)];
+            are_those_that_narrow(tells, pairs, &both)
+        }
+        Seen::Fails(t) => is_first_and_fails(tells, pairs, (t.var, t.side, t.bound)),
+        Seen::Unseen => true,
+    };
+    assert!(rt; is_so);
+}
+
 /// The tells of the kernel on the box of these bounds, in order. Those that narrow it are given alone too, by its shape and
-/// without it.
+/// without it, and what its shape alone says of them is so.
 #[tactic(auto, unfolding(guarded_tell::specs::Shapes::IsShapeOf))]
 fn told(rt: &impl Abort, alloc: Global, kernel: &Kernel, pairs: &Pairs) -> Result<Heard, NoMemory>
     requires { IsKernel 4 kernel.now }
 {
     let b = box_of(rt, alloc, pairs)?;
     let heard = tells_on(kernel, &b);
+    expect_seen(rt, kernel, &shape_of(kernel), &b, pairs, heard.as_slice(rt));
     expect_narrowing(rt, kernel, shape_of(kernel), &b, pairs, heard.as_slice(rt));
     expect_narrowing(rt, kernel, Shape::Other, &b, pairs, heard.as_slice(rt));
     Ok(heard)
@@ -198,15 +228,34 @@ fn narrowing_by(
 }
 
 /// Whether `narrowing` are the tells that narrow these bounds, in their order.
-fn are_those_that_narrow(tells: &[Told], pairs: &Pairs, narrowing: &[Told]) -> bool {
+pub fn are_those_that_narrow(tells: &[Told], pairs: &Pairs, narrowing: &[Told]) -> bool {
     tells
         .iter()
         .filter(|t| narrows(pairs, **t))
         .eq(narrowing.iter())
 }
 
+/// Whether the tell is the first that narrows these bounds, and leaves its variable no number.
+fn is_first_and_fails(tells: &[Told], pairs: &Pairs, first: Told) -> bool {
+    let mut narrowing = tells.iter().filter(|t| narrows(pairs, **t));
+    match narrowing.next() {
+        Some(t) => *t == first && leaves_none(pairs, first),
+        None => false,
+    }
+}
+
+/// Whether the tell is past the other bound of its variable.
+fn leaves_none(pairs: &Pairs, (var, side, bound): Told) -> bool {
+    let v = var as usize;
+    v < pairs.len()
+        && match side {
+            Side::Low => pairs[v].1 < bound,
+            Side::High => bound < pairs[v].0,
+        }
+}
+
 /// Whether the tell is tighter than these bounds.
-fn narrows(pairs: &Pairs, (var, side, bound): Told) -> bool {
+pub fn narrows(pairs: &Pairs, (var, side, bound): Told) -> bool {
     let v = var as usize;
     v < pairs.len()
         && match side {

@@ -17,4 +17,6 @@ mod linear;
 #[cfg(test)]
 mod lists;
 #[cfg(test)]
+mod products;
+#[cfg(test)]
 mod quotients;

@@ -12,7 +12,7 @@ use crate::four_variables::{
     tell_on_each,
 };
 use guarded_tell::Side::{High, Low};
-use guarded_tell::{Extended, Hint, Kernel, Lit, Shape};
+use guarded_tell::{Extended, Hint, Kernel, Lit, Shape, Sign, Terms};
 use interval::NoMemory;
 use shared_list::SharedList;
 use std::alloc::{AllocError, Global};
@@ -238,6 +238,44 @@ static STEEP: [(&[i64], i64); 10] = [
     (&[3, -5], -LARGEST),
 ];
 
+/// Sums of three terms with each of their signs, with limits that leave them room, little of it or none.
+static THREE: [(&[i64], i64); 18] = [
+    (&[1, 1, 1], 7),
+    (&[1, 1, -1], 2),
+    (&[1, -1, 1], 2),
+    (&[1, -1, -1], 0),
+    (&[-1, 1, 1], 1),
+    (&[-1, 1, -1], -1),
+    (&[-1, -1, 1], -2),
+    (&[-1, -1, -1], -7),
+    (&[1, 1, 1], 0),
+    (&[1, 1, -1], 12),
+    (&[1, -1, 1], -3),
+    (&[1, -1, -1], -9),
+    (&[-1, 1, 1], 6),
+    (&[-1, -1, 1], 8),
+    (&[-1, -1, -1], -14),
+    (&[1, -1, -1], LARGEST),
+    (&[-1, 1, 1], -LARGEST),
+    (&[1, 1, 1], 100),
+];
+
+/// Boxes in which such a sum narrows nothing, and those in which it narrows one bound, two or more, most with the literal true.
+static TIGHT: [Pairs; 12] = [
+    [(1, 1), (0, 5), (0, 5), (0, 5)],
+    [(1, 1), (0, 9), (2, 3), (4, 4)],
+    [(1, 1), (2, 3), (-9, 9), (3, 4)],
+    [(1, 1), (2, 2), (3, 4), (-9, 9)],
+    [(1, 1), (-9, 9), (1, 1), (2, 2)],
+    [(1, 1), (2, 2), (0, 9), (5, 5)],
+    [(1, 1), (-2, -2), (3, 3), (-9, 9)],
+    [(1, 1), (0, 2), (0, 20), (0, 2)],
+    [(1, 1), (4, 4), (-1, -1), (3, 3)],
+    [(1, 1), (0, 0), (0, 0), (0, 0)],
+    [(0, 1), (0, 5), (0, 5), (0, 5)],
+    [(0, 0), (1, 1), (-9, 9), (2, 2)],
+];
+
 /// Visits the kernels of the sums with this relation on the boxes, where what narrows is compared with the tells.
 fn told_of_sums(
     rt: &impl Abort,
@@ -268,6 +306,40 @@ fn equations_give_just_what_narrows(rt: HostRuntime) -> Result<(), Fail> {
     told_of_sums(&rt, rt.alloc(), Equal, &SUMS, &NEAR)?;
     told_of_sums(&rt, rt.alloc(), Equal, &STEEP, &WIDE)?;
     told_of_sums(&rt, rt.alloc(), Equal, &FAR_SUMS, &FAR)?;
+    Ok(())
+}
+
+#[test]
+fn equations_of_three_terms_give_just_what_narrows(rt: HostRuntime) -> Result<(), Fail> {
+    told_of_sums(&rt, rt.alloc(), Equal, &THREE, &TIGHT)?;
+    told_of_sums(&rt, rt.alloc(), Equal, &THREE, &NEAR)?;
+    told_of_sums(&rt, rt.alloc(), Equal, &THREE, &WIDE)?;
+    Ok(())
+}
+
+#[test]
+fn three_terms_are_seen_by_their_signs(rt: HostRuntime) -> Result<(), Fail> {
+    for apart in &WAYS {
+        let three = linear(&rt, rt.alloc(), &(Equal, true, &[1, -1, -1], -5), *apart)?;
+        assert_eq!(rt;
+            shape(three),
+            Shape::Three {
+                terms: Terms {
+                    x: 1,
+                    y: 2,
+                    z: 3,
+                    x_sign: Sign::Plus,
+                    y_sign: Sign::Minus,
+                    z_sign: Sign::Minus,
+                },
+                limit: -5
+            }
+        );
+        let sum = linear(&rt, rt.alloc(), &(Equal, true, &[1, -1, 2], -5), *apart)?;
+        assert_eq!(rt; shape(sum), Shape::Slight);
+    }
+    let at_most = linear(&rt, rt.alloc(), &(AtMost, true, &[1, -1, -1], -5), WAYS[0])?;
+    assert_eq!(rt; shape(at_most), Shape::Slight);
     Ok(())
 }
 

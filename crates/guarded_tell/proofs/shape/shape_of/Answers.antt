@@ -1,7 +1,8 @@
 -- A difference makes the short shape of the kernel; where there is none, no other shape is the kernel's.
-use Rattle.std.proofs.Common.{◌≡◌, refl, sym, subst, inl, inr}
-use Rattle.guarded_tell.proofs.ShapeLaws.{any_is_other, other_inequality, other_equation, other_kernel, at_most_made, same_made, none_read, sum_made, sum_rough}
+use Rattle.std.proofs.Common.{◌≡◌, refl, sym, subst, inl}
+use Rattle.guarded_tell.proofs.ShapeLaws.{any_is_other, other_inequality, other_equation, other_kernel, at_most_made, same_made, none_read, equation_made, sum_made, sum_rough}
 use Rattle.small_sums.specs.Slight.{AreSlight}
+use Rattle.guarded_tell.specs.Shapes.{IsShapeOf}
 use Rattle.guarded_tell.proofs.shape.shape_of.Goals as goal
 
 pub returns-in-Some-clause-shape : goal.returns-in-Some-clause-shape
@@ -33,17 +34,20 @@ returns-in-Some-extended_difference_of-clause-shape c =
 
 pub returns-in-None-extended_difference_of-clause-shape : goal.returns-in-None-extended_difference_of-clause-shape
 returns-in-None-extended_difference_of-clause-shape c =
-    sum_made c.args.k.now c.are_slight_extended.result c.sum_shape-in-None-extended_difference_of.result
-    (λ t. (c.in-Eq.lit, c.in-Eq.coeffs, c.in-Eq.vars, c.in-Eq.limit, inr c.in-Eq.is, c.are_slight_extended.ensures.0 t)) c.sum_shape-in-None-extended_difference_of.ensures
+    equation_made c.args.k.now c.in-Eq.lit c.in-Eq.coeffs c.in-Eq.coeffs c.in-Eq.vars c.in-Eq.vars c.in-Eq.limit c.requires refl refl c.in-Eq.is c.equation_shape.result (c.equation_shape.ensures.shape c.in-Eq.lit)
 
 pub returns-in-None-extended_difference_of-clause-shortest : goal.returns-in-None-extended_difference_of-clause-shortest
 returns-in-None-extended_difference_of-clause-shortest c s is same =
     other_equation c.in-Eq.lit c.in-Eq.coeffs c.in-Eq.vars c.in-Eq.limit c.in-None-extended_difference_of.ensures
-    (λ slight. sum_rough c.in-Eq.coeffs c.are_slight_extended.result c.sum_shape-in-None-extended_difference_of.result (λ a. c.are_slight_extended.ensures.1 a) c.sum_shape-in-None-extended_difference_of.ensures same slight)
+    (λ slight. c.equation_shape.ensures.rough same slight)
     c.args.k.now c.in-Eq.is s is
 
 pub returns-in_default : goal.returns-in_default
 returns-in_default c = record {
   shape = any_is_other c.args.k.now;
-  shortest = λ s is same. other_kernel c.args.k.now c.in_default.not-Le c.in_default.not-Eq c.in_default.not-Clause s is;
+  shortest = λ s is same. other_kernel c.args.k.now c.in_default.not-Le c.in_default.not-Eq c.in_default.not-Clause c.in_default.not-Times s is;
 }
+
+pub returns-in-Times-clause-shape : goal.returns-in-Times-clause-shape
+unfolding IsShapeOf
+returns-in-Times-clause-shape c = c.in-Times.is

@@ -1,26 +1,26 @@
 -- The one tell is joined, and asked for.
 use Rattle.std.proofs.Common.{◌∙◌, [], ◌∷◌, length, refl, sym, arith}
 use Rattle.std.proofs.lemmas.Bool.{true≢false}
-use Rattle.moved_fixpoint.proofs.RunLemmas.{here_is, gathered_placed, gathered_over, gathered_refused, gathered_runs, kernel_after, length_after, proper_after, any_default, one_gathered, one_heard, one_asked, ok_then}
+use Rattle.moved_fixpoint.proofs.RunLemmas.{here_is, gathered_placed, gathered_over, gathered_refused, gathered_runs, kernel_after, length_after, proper_after, any_default, gathered_here, one_heard, one_asked, ok_then}
 use Rattle.moved_fixpoint.specs.Heard.{joined}
 use Rattle.moved_fixpoint.proofs.running.run_one.Goals as goal
 
 pub join-after-requires-clause-variable : goal.join-after-requires-clause-variable
 join-after-requires-clause-variable c = let placed = gathered_placed c.law_tell_place.ensures c.index-kernels-place.result c.args.b.now.current
     (here_is c.args.kernels.now (length c.args.b.now.current) c.args.place c.index-kernels-place.result c.requires.kernels c.requires.place c.index-kernels-place.is) (c.args.t ∷ [])
-    (one_gathered c.args.kernels.now c.args.place c.index-kernels-place.result c.args.b.now.current c.args.t c.index-kernels-place.is c.requires.told) 0 c.args.t (omega arith) in placed.0
+    (gathered_here c.args.kernels.now c.args.place c.index-kernels-place.result c.args.b.now.current (c.args.t ∷ []) c.index-kernels-place.is c.requires.told) 0 c.args.t (omega arith) in placed.0
 
 pub join-after-requires-clause-bound : goal.join-after-requires-clause-bound
 join-after-requires-clause-bound c = let placed = gathered_placed c.law_tell_place.ensures c.index-kernels-place.result c.args.b.now.current
     (here_is c.args.kernels.now (length c.args.b.now.current) c.args.place c.index-kernels-place.result c.requires.kernels c.requires.place c.index-kernels-place.is) (c.args.t ∷ [])
-    (one_gathered c.args.kernels.now c.args.place c.index-kernels-place.result c.args.b.now.current c.args.t c.index-kernels-place.is c.requires.told) 0 c.args.t (omega arith) in placed.1
+    (gathered_here c.args.kernels.now c.args.place c.index-kernels-place.result c.args.b.now.current (c.args.t ∷ []) c.index-kernels-place.is c.requires.told) 0 c.args.t (omega arith) in placed.1
 
 pub returns-then-not-goes_on-clause-run : goal.returns-then-not-goes_on-clause-run
 returns-then-not-goes_on-clause-run c =
     any_default c.args.kernels.now c.args.place c.index-kernels-place.result _ _ _ _ _ _ _ _ c.requires.place c.index-kernels-place.is
     (gathered_over c.law_tell_place.ensures c.index-kernels-place.result c.args.b.now.current
     (here_is c.args.kernels.now (length c.args.b.now.current) c.args.place c.index-kernels-place.result c.requires.kernels c.requires.place c.index-kernels-place.is) (c.args.t ∷ [])
-    (one_gathered c.args.kernels.now c.args.place c.index-kernels-place.result c.args.b.now.current c.args.t c.index-kernels-place.is c.requires.told)
+    (gathered_here c.args.kernels.now c.args.place c.index-kernels-place.result c.args.b.now.current (c.args.t ∷ []) c.index-kernels-place.is c.requires.told)
     c.law_local.ensures.tells c.law_monotone.ensures c.len-length.ensures.in_range c.requires.proper c.args.kernels.now c.args.place c.index-kernels-place.is c.requires.place
     c.args.masks.now c.requires.masks.naming c.requires.kernels c.law_sided.ensures c.args.sets.now.asked c.requires.set c.args.sets.now.rests c.args.progress c.law_narrowing.ensures.tighter
     c.law_inside_order.ensures c.law_tightens_one.ensures c.law_narrowing.ensures.keeps
@@ -31,7 +31,7 @@ pub shape_rest-rest-requires-clause-kernel : goal.shape_rest-rest-requires-claus
 shape_rest-rest-requires-clause-kernel c =
     kernel_after c.law_tell_place.ensures c.index-kernels-place.result c.args.b.now.current
     (here_is c.args.kernels.now (length c.args.b.now.current) c.args.place c.index-kernels-place.result c.requires.kernels c.requires.place c.index-kernels-place.is) (c.args.t ∷ [])
-    (one_gathered c.args.kernels.now c.args.place c.index-kernels-place.result c.args.b.now.current c.args.t c.index-kernels-place.is c.requires.told)
+    (gathered_here c.args.kernels.now c.args.place c.index-kernels-place.result c.args.b.now.current (c.args.t ∷ []) c.index-kernels-place.is c.requires.told)
     c.law_local.ensures.tells c.law_monotone.ensures c.len-length.ensures.in_range c.requires.proper c.args.kernels.now c.args.place c.index-kernels-place.is c.requires.place
     c.args.masks.now c.requires.masks.naming c.requires.kernels c.law_sided.ensures c.args.sets.now.asked c.requires.set c.args.sets.now.rests c.args.progress c.law_narrowing.ensures.tighter
     c.law_inside_order.ensures c.law_tightens_one.ensures c.law_narrowing.ensures.keeps
@@ -42,7 +42,7 @@ pub shape_rest-rest-requires-clause-proper : goal.shape_rest-rest-requires-claus
 shape_rest-rest-requires-clause-proper c =
     proper_after c.law_tell_place.ensures c.index-kernels-place.result c.args.b.now.current
     (here_is c.args.kernels.now (length c.args.b.now.current) c.args.place c.index-kernels-place.result c.requires.kernels c.requires.place c.index-kernels-place.is) (c.args.t ∷ [])
-    (one_gathered c.args.kernels.now c.args.place c.index-kernels-place.result c.args.b.now.current c.args.t c.index-kernels-place.is c.requires.told)
+    (gathered_here c.args.kernels.now c.args.place c.index-kernels-place.result c.args.b.now.current (c.args.t ∷ []) c.index-kernels-place.is c.requires.told)
     c.law_local.ensures.tells c.law_monotone.ensures c.len-length.ensures.in_range c.requires.proper c.args.kernels.now c.args.place c.index-kernels-place.is c.requires.place
     c.args.masks.now c.requires.masks.naming c.requires.kernels c.law_sided.ensures c.args.sets.now.asked c.requires.set c.args.sets.now.rests c.args.progress c.law_narrowing.ensures.tighter
     c.law_inside_order.ensures c.law_tightens_one.ensures c.law_narrowing.ensures.keeps
@@ -54,7 +54,7 @@ returns-then-is_err-clause-run c =
     any_default c.args.kernels.now c.args.place c.index-kernels-place.result _ _ _ _ _ _ _ _ c.requires.place c.index-kernels-place.is
     (gathered_refused c.law_tell_place.ensures c.index-kernels-place.result c.args.b.now.current
     (here_is c.args.kernels.now (length c.args.b.now.current) c.args.place c.index-kernels-place.result c.requires.kernels c.requires.place c.index-kernels-place.is) (c.args.t ∷ [])
-    (one_gathered c.args.kernels.now c.args.place c.index-kernels-place.result c.args.b.now.current c.args.t c.index-kernels-place.is c.requires.told)
+    (gathered_here c.args.kernels.now c.args.place c.index-kernels-place.result c.args.b.now.current (c.args.t ∷ []) c.index-kernels-place.is c.requires.told)
     c.law_local.ensures.tells c.law_monotone.ensures c.len-length.ensures.in_range c.requires.proper c.args.kernels.now c.args.place c.index-kernels-place.is c.requires.place
     c.args.masks.now c.requires.masks.naming c.requires.kernels c.law_sided.ensures c.args.sets.now.asked c.requires.set c.args.sets.now.rests c.args.progress c.law_narrowing.ensures.tighter
     c.law_inside_order.ensures c.law_tightens_one.ensures c.law_narrowing.ensures.keeps
@@ -65,7 +65,7 @@ pub ask-requires-clause-variable : goal.ask-requires-clause-variable
 ask-requires-clause-variable c =
     let placed = gathered_placed c.law_tell_place.ensures c.index-kernels-place.result c.args.b.now.current
     (here_is c.args.kernels.now (length c.args.b.now.current) c.args.place c.index-kernels-place.result c.requires.kernels c.requires.place c.index-kernels-place.is) (c.args.t ∷ [])
-    (one_gathered c.args.kernels.now c.args.place c.index-kernels-place.result c.args.b.now.current c.args.t c.index-kernels-place.is c.requires.told) 0 c.args.t (omega arith) in
+    (gathered_here c.args.kernels.now c.args.place c.index-kernels-place.result c.args.b.now.current (c.args.t ∷ []) c.index-kernels-place.is c.requires.told) 0 c.args.t (omega arith) in
     let count = c.requires.masks.same_count in
     let lt = placed.0 in
     omega arith
@@ -75,7 +75,7 @@ ask-requires-clause-length c =
     c.requires.masks.same_count
     ∙ sym (length_after c.law_tell_place.ensures c.index-kernels-place.result c.args.b.now.current
     (here_is c.args.kernels.now (length c.args.b.now.current) c.args.place c.index-kernels-place.result c.requires.kernels c.requires.place c.index-kernels-place.is) (c.args.t ∷ [])
-    (one_gathered c.args.kernels.now c.args.place c.index-kernels-place.result c.args.b.now.current c.args.t c.index-kernels-place.is c.requires.told)
+    (gathered_here c.args.kernels.now c.args.place c.index-kernels-place.result c.args.b.now.current (c.args.t ∷ []) c.index-kernels-place.is c.requires.told)
     c.law_local.ensures.tells c.law_monotone.ensures c.len-length.ensures.in_range c.requires.proper c.args.kernels.now c.args.place c.index-kernels-place.is c.requires.place
     c.args.masks.now c.requires.masks.naming c.requires.kernels c.law_sided.ensures c.args.sets.now.asked c.requires.set c.args.sets.now.rests c.args.progress c.law_narrowing.ensures.tighter
     c.law_inside_order.ensures c.law_tightens_one.ensures c.law_narrowing.ensures.keeps
@@ -87,7 +87,7 @@ returns-clause-run c =
     any_default c.args.kernels.now c.args.place c.index-kernels-place.result _ _ _ _ _ _ _ _ c.requires.place c.index-kernels-place.is
     (gathered_runs c.law_tell_place.ensures c.index-kernels-place.result c.args.b.now.current
     (here_is c.args.kernels.now (length c.args.b.now.current) c.args.place c.index-kernels-place.result c.requires.kernels c.requires.place c.index-kernels-place.is) (c.args.t ∷ [])
-    (one_gathered c.args.kernels.now c.args.place c.index-kernels-place.result c.args.b.now.current c.args.t c.index-kernels-place.is c.requires.told)
+    (gathered_here c.args.kernels.now c.args.place c.index-kernels-place.result c.args.b.now.current (c.args.t ∷ []) c.index-kernels-place.is c.requires.told)
     c.law_local.ensures.tells c.law_monotone.ensures c.len-length.ensures.in_range c.requires.proper c.args.kernels.now c.args.place c.index-kernels-place.is c.requires.place
     c.args.masks.now c.requires.masks.naming c.requires.kernels c.law_sided.ensures c.args.sets.now.asked c.requires.set c.args.sets.now.rests c.args.progress c.law_narrowing.ensures.tighter
     c.law_inside_order.ensures c.law_tightens_one.ensures c.law_narrowing.ensures.keeps

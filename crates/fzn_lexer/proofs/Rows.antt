@@ -165,6 +165,18 @@ told_on None q r at text e f = cc
 told_on (Some found) q r at text e f =
     ap (λ (s : State). found_on (accepted s) s at text) e ∙ sym f
 
+pub told_here : (o : Option Found) (q r : State) (at : ℕ) (text : List ℕ) → q ≡ r → IfSome o (λ f. found_on (accepted r) r at text ≡ Some f)
+    → IfSome o (λ f. found_on (accepted q) q at text ≡ Some f)
+told_here None q r at text e g = cc
+told_here (Some found) q r at text e g =
+    ap (λ (s : State). found_on (accepted s) s at text) e ∙ g
+
+-- a number that begins with 0 is found as its digits are
+pub told_zero : (o : Option Found) (at : ℕ) (text : List ℕ) → found_on int Digits at text ≡ found_on int Zero at text
+    → IfSome o (λ f. found_on int Digits at text ≡ Some f) → IfSome o (λ f. found_on int Zero at text ≡ Some f)
+told_zero None at text e g = cc
+told_zero (Some found) at text e g = sym e ∙ g
+
 -- what is found behind the first byte is found from there on
 pub plain_first : (at : ℕ) (text : List ℕ) (q : State) (o : Option Found) → at < length text → q ≡ start_step (get_or text at 0)
     → IfSome o (λ f. found_on (accepted q) q (at + 1) text ≡ Some f) → IfSome o (λ f. longest_found Start at (drop at text) ≡ Some f)

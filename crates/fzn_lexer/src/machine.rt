@@ -471,6 +471,21 @@ fn plain_number(text: &[u8], from: usize) -> Option<Found>
     None
 }
 
+/// The number where the 0 with which it begins stands before `from`, if it ends where its decimal digits do.
+#[inline(always)]
+fn plain_zero(text: &[u8], from: usize) -> Option<Found>
+    requires { from ≤ length text.now }
+    ensures { IfSome result (λ f. machine.found_on machine.int States.Zero from text.now ≡ Some f) }
+{
+    if from >= text.len() {
+        return None;
+    }
+    if is_base_letter(text[from]) {
+        return None;
+    }
+    plain_number(text, from)
+}
+
 /// The longest piece where its first byte, before `from`, leaves this state, and it is of those that most are.
 #[inline(always)]
 fn plain_behind(text: &[u8], from: usize, state: State) -> Option<Found>
@@ -489,7 +504,7 @@ fn plain_behind(text: &[u8], from: usize, state: State) -> Option<Found>
         }),
         State::Colon => colon_behind(text, from),
         State::Dot => point_behind(text, from),
-        State::Zero => zero_behind(text, from),
+        State::Zero => plain_zero(text, from),
         _ => None,
     }
 }

@@ -241,7 +241,7 @@ fn simple_at(
         Elem::Int(token) => Ok(Some(Meaning::One(integer(number_at(text, token))))),
         Elem::Float(_) => Ok(None),
         Elem::Name(token) => meaning_named(alloc, scope, spelling(text, token)),
-        Elem::Set(set) => Ok(Some(Meaning::Set(set_at(alloc, text, set)?))),
+        Elem::Set(set) => Ok(Some(Meaning::Set(set_at(alloc, text, set.literal())?))),
     }
 }
 

@@ -40,11 +40,9 @@ const NO_HINT: Hint = Hint {
 /// The first bytes of a name. Whether they are those of the name is seen where they are compared.
 fn first_bytes(name: &[u8]) -> [u8; MOST_BYTES] {
     let mut bytes = [0; MOST_BYTES];
-    for place in 0..MOST_BYTES {
-        if place < name.len() {
-            bytes[place] = name[place];
-        }
-    }
+    let length = name.len().min(MOST_BYTES);
+    let (first, _) = bytes.as_mut_slice().split_at_mut(length);
+    first.copy_from_slice(&name[..length]);
     bytes
 }
 

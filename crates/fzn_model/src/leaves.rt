@@ -101,7 +101,7 @@ impl<'a> Sought<'a> {
         match elem {
             Elem::Int(literal) => self.is_at(Leaf::Number(*literal)),
             Elem::Name(name) => self.is_at(Leaf::Used(*name)),
-            Elem::Set(set) => self.in_set(set),
+            Elem::Set(set) => self.in_set(set.literal()),
             Elem::True | Elem::False | Elem::Float(_) => false,
         }
     }

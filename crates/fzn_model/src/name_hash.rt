@@ -6,7 +6,7 @@ ghost use Rattle.fzn_model.specs.Hashes.{with_byte, written, finished};
 use crate::exprs::spelling;
 use fzn_lexer::Token;
 use fzn_parser::tree::{Item, What};
-use sha2::{Digest, Sha256};
+use sha2::{Digest, Sha512};
 use std::hash::{BuildHasher, DefaultHasher, Hasher};
 
 /// Below this number a word has room for one byte more.
@@ -108,8 +108,8 @@ pub(crate) fn name_count(items: &[Item]) -> usize {
 
 /// The digest of all names that are declared. Behind each stands a blank, which no name has: where names could be cut in
 /// another way for one digest, they could be cut so that they collide.
-fn names_digest(text: &[u8], items: &[Item]) -> [u8; 32] {
-    let mut digest = Sha256::new();
+fn names_digest(text: &[u8], items: &[Item]) -> [u8; 64] {
+    let mut digest = Sha512::new();
     for item in items {
         if let Some(name) = declared_name(&item.what) {
             digest.update(spelling(text, &name));
@@ -127,7 +127,7 @@ pub(crate) fn name_hash(text: &[u8], items: &[Item]) -> NameHash {
 /// The words of a text that stand where a name is declared, by which its names are hashed. No contract speaks of them.
 #[derive(Drop)]
 pub struct Names {
-    digest: Sha256,
+    digest: Sha512,
     count: usize,
 }
 
@@ -135,7 +135,7 @@ impl Names {
     /// No words.
     pub fn new() -> Names {
         Names {
-            digest: Sha256::new(),
+            digest: Sha512::new(),
             count: 0,
         }
     }

@@ -18,7 +18,7 @@ fn arg_from(elem: Elem) -> Arg
         Elem::Int(token) => Arg::Int(token),
         Elem::Float(token) => Arg::Float(token),
         Elem::Name(name) => Arg::Ann(Ann { name, args: None }),
-        Elem::Set(set) => Arg::Set(set),
+        Elem::Set(set) => Arg::Set(set.into_literal()),
     }
 }
 

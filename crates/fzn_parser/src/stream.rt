@@ -3,12 +3,13 @@
 ghost use Rattle.std.specs.Prelude.{◌≡◌, ◌≤◌, ◌++◌, ◌∷◌, [], length, map, cond, MatchResult, IfOk, OnOk, IfErr};
 ghost use Rattle.fzn_lexer.specs.Lexing.{IsNext, LacksToken as LacksPieceAt};
 ghost use Rattle.fzn_parser.specs.declared.cursor.Symbol.{Symbol as Sign};
-ghost use Rattle.fzn_parser.specs.Texts.{is_at, lexeme_of};
+ghost use Rattle.fzn_parser.specs.declared.cursor.Lexeme.{Lexeme as Sort};
+ghost use Rattle.fzn_parser.specs.Texts.{is_at, is_symbol, lexeme_of};
 ghost use Rattle.fzn_parser.specs.Stream.{IsStretch, IsNextItem, IsCause, TellsOfNext};
 ghost use Rattle.fzn_parser.specs.Gathering.{IsGathered};
 
-use crate::cursor::{Lexeme, Stop, Symbol, begins, same_token};
-use crate::texts::{is_at, lexeme_of, plain_lexeme};
+use crate::cursor::{Class, Lexeme, Stop, Symbol, begins, same_token};
+use crate::texts::{is_at, is_plain_name, lexeme_of, plain_mark};
 use crate::tree::Item;
 use crate::{read_item, read_other};
 use fzn_lexer::{Kind, NoToken, Token, law_tokens_in_turn, next_plain, next_token};
@@ -62,17 +63,6 @@ pub struct Stretch {
     pub(crate) to: usize,
 }
 
-/// The lexeme of a token. Most are told in fewer steps.
-#[inline(always)]
-fn lexeme_at(text: &[u8], token: Token) -> Lexeme
-    ensures { result ≡ lexeme_of text.now token }
-{
-    match plain_lexeme(text, token) {
-        Some(lexeme) => lexeme,
-        None => lexeme_of(text, token),
-    }
-}
-
 /// Puts a lexeme at the end. Mostly there is room for it.
 #[inline(always)]
 fn put(lexemes: &mut Vec<Lexeme>, lexeme: Lexeme) -> Result<(), AllocError>
@@ -86,17 +76,60 @@ fn put(lexemes: &mut Vec<Lexeme>, lexeme: Lexeme) -> Result<(), AllocError>
     Ok(())
 }
 
-/// Puts a token's lexeme at the end, and tells whether it is a semicolon.
+/// Puts a keyword or a mark at the end, and tells whether it is a semicolon.
+#[inline(always)]
+fn keep_symbol(symbol: Symbol, lexemes: &mut Vec<Lexeme>) -> Result<bool, AllocError>
+    ensures ends { IfOk result (λ b. b ≡ is_symbol Sign.Semicolon (Sort.Fixed symbol)) }
+    ensures lexemes { OnOk result (lexemes.new.items ≡ lexemes.old.items ++ Sort.Fixed symbol ∷ []) }
+{
+    put(lexemes, Lexeme::Fixed(symbol))?;
+    Ok(symbol.is_same(Symbol::Semicolon))
+}
+
+/// Puts a name or a literal at the end, and tells that it is no semicolon.
+#[inline(always)]
+fn keep_literal(class: Class, token: Token, lexemes: &mut Vec<Lexeme>) -> Result<bool, AllocError>
+    ensures ends { IfOk result (λ b. b ≡ is_symbol Sign.Semicolon (Sort.Kept class token)) }
+    ensures lexemes { OnOk result (lexemes.new.items ≡ lexemes.old.items ++ Sort.Kept class token ∷ []) }
+{
+    put(lexemes, Lexeme::Kept(class, same_token(token)))?;
+    Ok(false)
+}
+
+/// Puts any token's lexeme at the end, and tells whether it is a semicolon.
+#[inline(never)]
+fn keep_any(text: &[u8], token: Token, lexemes: &mut Vec<Lexeme>) -> Result<bool, AllocError>
+    ensures ends { IfOk result (λ b. b ≡ is_at Sign.Semicolon text.now token) }
+    ensures lexemes { OnOk result (lexemes.new.items ≡ lexemes.old.items ++ lexeme_of text.now token ∷ []) }
+{
+    match lexeme_of(text, token) {
+        Lexeme::Fixed(symbol) => keep_symbol(symbol, lexemes),
+        Lexeme::Kept(class, kept) => keep_literal(class, kept, lexemes),
+    }
+}
+
+/// Puts a token's lexeme at the end, and tells whether it is a semicolon. Most lexemes are told in few steps, and put where they are
+/// told: so none is copied from place to place.
+#[tactic(auto, unfolding(crate::specs::Texts::lexeme_of))]
 #[inline(always)]
 fn keep(text: &[u8], token: Token, lexemes: &mut Vec<Lexeme>) -> Result<bool, AllocError>
     ensures ends { IfOk result (λ b. b ≡ is_at Sign.Semicolon text.now token) }
     ensures lexemes { OnOk result (lexemes.new.items ≡ lexemes.old.items ++ lexeme_of text.now token ∷ []) }
 {
-    let lexeme = lexeme_at(text, same_token(token));
-    put(lexemes, lexeme)?;
-    match lexeme {
-        Lexeme::Fixed(found) => Ok(found.is_same(Symbol::Semicolon)),
-        Lexeme::Kept(_, _) => Ok(false),
+    match token.kind {
+        Kind::Int => keep_literal(Class::Int, token, lexemes),
+        Kind::Mark => match plain_mark(text, token) {
+            Some(symbol) => keep_symbol(symbol, lexemes),
+            None => keep_any(text, token, lexemes),
+        },
+        Kind::Word => {
+            if is_plain_name(text, token) {
+                keep_literal(Class::Name, token, lexemes)
+            } else {
+                keep_any(text, token, lexemes)
+            }
+        }
+        Kind::Float | Kind::Text => keep_any(text, token, lexemes),
     }
 }
 

@@ -1,7 +1,6 @@
 //! The tokens of a text as lexemes.
 
-ghost use Rattle.std.specs.Prelude.{◌≡◌, ◌≤◌, ◌<◌, ℕ, List, [], ◌∷◌, None, false, length, map, take, IfOk, IfSome, MatchOption};
-ghost use Rattle.fzn_lexer.specs.declared.Kind.TheVariants.{Mark, Word};
+ghost use Rattle.std.specs.Prelude.{◌≡◌, ◌≤◌, ◌<◌, ℕ, List, [], ◌∷◌, None, Some, true, false, length, map, take, IfOk, IfSome, MatchOption};
 ghost use Rattle.fzn_parser.specs.Texts.{type_word, other_word, keyword, bracket, other_mark, mark, spelling, lexeme_of, is_at, is_symbol, first_stretch, before_last};
 
 use crate::cursor::{Class, Lexeme, Symbol, same_token};
@@ -195,49 +194,25 @@ fn spelling<'a>(text: &'a [u8], token: Token) -> &'a [u8]
     }
 }
 
-/// The lexeme of a mark of one byte.
-#[tactic(auto, unfolding(crate::specs::Texts::lexeme_of))]
+/// The mark that a token is, where it has one byte.
 #[inline(always)]
-fn mark_lexeme(text: &[u8], token: Token) -> Option<Lexeme>
-    requires { token.kind ≡ Mark }
-    ensures { IfSome result (λ l. l ≡ lexeme_of text.now token) }
+pub(crate) fn plain_mark(text: &[u8], token: Token) -> Option<Symbol>
+    ensures { IfSome result (λ s. mark (spelling text.now token) ≡ Some s) }
 {
     match spelling(text, token) {
-        [byte] => match byte_mark(*byte) {
-            Some(symbol) => Some(Lexeme::Fixed(symbol)),
-            None => None,
-        },
+        [byte] => byte_mark(*byte),
         _ => None,
     }
 }
 
-/// The lexeme of a word that begins as no keyword does.
-#[tactic(auto, unfolding(crate::specs::Texts::lexeme_of))]
+/// Whether a word begins as no keyword does.
 #[inline(always)]
-fn word_lexeme(text: &[u8], token: Token) -> Option<Lexeme>
-    requires { token.kind ≡ Word }
-    ensures { IfSome result (λ l. l ≡ lexeme_of text.now token) }
+pub(crate) fn is_plain_name(text: &[u8], token: Token) -> bool
+    ensures { result ≡ true → keyword (spelling text.now token) ≡ None }
 {
     match spelling(text, token) {
-        [first, ..] if !begins_keyword(*first) => Some(Lexeme::Kept(
-            Class::Name,
-            same_token(token),
-        )),
-        _ => None,
-    }
-}
-
-/// The lexeme of a token that is told in few steps: an integer, a mark of one byte, or a word that begins as no keyword does.
-#[tactic(auto, unfolding(crate::specs::Texts::lexeme_of))]
-#[inline(always)]
-pub(crate) fn plain_lexeme(text: &[u8], token: Token) -> Option<Lexeme>
-    ensures { IfSome result (λ l. l ≡ lexeme_of text.now token) }
-{
-    match token.kind {
-        Kind::Int => Some(Lexeme::Kept(Class::Int, same_token(token))),
-        Kind::Mark => mark_lexeme(text, token),
-        Kind::Word => word_lexeme(text, token),
-        Kind::Float | Kind::Text => None,
+        [first, ..] => !begins_keyword(*first),
+        _ => false,
     }
 }
 

@@ -1,7 +1,11 @@
 //! The items of a text, as the grammar of FlatZinc has them.
 
+ghost use Rattle.std.specs.Prelude.{◌≡◌, IfOk};
+
 use fzn_lexer::Token;
 use list_of::ListOf;
+use std::alloc::{AllocError, Global};
+use std::marker::Model;
 
 /// A set literal.
 #[derive(Drop)]
@@ -12,6 +16,47 @@ pub enum SetLit {
     Braces(ListOf<Token>),
 }
 
+/// A set literal that stands apart, seen by contracts as that literal. So an entry of an array, which is a number or a name
+/// mostly, takes no room for a set.
+#[derive(Drop)]
+pub struct SetApart {
+    set: Box<SetLit>,
+}
+
+impl Model for SetApart {
+    ghost use Rattle.fzn_parser.specs.declared.tree.SetLit.{SetLit};
+
+    ghost Value = { SetLit };
+
+    ghost view = { λ s. s.set.value };
+}
+
+impl SetApart {
+    /// This set.
+    pub(crate) fn new(alloc: Global, set: SetLit) -> Result<SetApart, AllocError>
+        ensures { IfOk result (λ apart. apart ≡ set) }
+    {
+        Ok(SetApart {
+            set: Box::new(alloc, set)?,
+        })
+    }
+
+    /// The set as it is written.
+    pub fn literal(&self) -> &SetLit
+        ensures { result.now ≡ self.now }
+    {
+        &self.set
+    }
+
+    /// The set as it is written, which stands apart no longer.
+    pub(crate) fn into_literal(self) -> SetLit
+        ensures { result ≡ self }
+    {
+        let SetApart { set } = self;
+        Box::into_inner(set)
+    }
+}
+
 /// A simple expression.
 #[derive(Drop)]
 pub enum Elem {
@@ -20,7 +65,7 @@ pub enum Elem {
     Int(Token),
     Float(Token),
     Name(Token),
-    Set(SetLit),
+    Set(SetApart),
 }
 
 /// An expression: a simple one, or an array literal.

@@ -1,11 +1,12 @@
 //! Reads sets and expressions.
 
 ghost use Rattle.std.specs.Prelude.{◌≡◌, ◌≢◌, IfOk};
+ghost use Rattle.fzn_parser.specs.declared.tree.Elem.{Elem as Written};
 ghost use Rattle.fzn_parser.specs.Reading.{int_at, set_at, from_int, number_at, elem_at, expr_at};
 
 use crate::cursor::{Class, Cursor, Stop, Symbol};
 use crate::entries::{Entry, read_list};
-use crate::tree::{Elem, Expr, SetLit};
+use crate::tree::{Elem, Expr, SetApart, SetLit};
 use fzn_lexer::Token;
 use std::alloc::Global;
 
@@ -33,33 +34,40 @@ pub(crate) fn read_set(alloc: Global, cursor: &mut Cursor) -> Result<SetLit, Sto
     Ok(SetLit::Range(low, high))
 }
 
+/// A set as an entry. It is called, so that what stands for the many other entries is written once where they are read.
+#[inline(never)]
+fn set_entry(alloc: Global, set: SetLit) -> Result<Elem, Stop>
+    ensures set { IfOk result (λ e. e ≡ Written.Set set) }
+    ensures taken { result ≢ Err Stop.Refused }
+{
+    Ok(Elem::Set(SetApart::new(alloc, set)?))
+}
+
 /// The integer `low`, or the set that begins with it.
 #[tactic(auto, unfolding(crate::specs::Reading::from_int))]
 #[inline(always)]
-fn read_from_int(low: Token, cursor: &mut Cursor) -> Result<Elem, Stop>
+fn read_from_int(alloc: Global, low: Token, cursor: &mut Cursor) -> Result<Elem, Stop>
     ensures read { IfOk result (λ e. from_int low cursor.old ≡ Some (e, cursor.new)) }
     ensures refused { result ≡ Err Stop.Refused → from_int low cursor.old ≡ None }
-    ensures memory { result ≢ Err Stop.NoMemory }
 {
     if cursor.take(Symbol::DotDot) {
         let high = cursor.kept(Class::Int)?;
-        return Ok(Elem::Set(SetLit::Range(low, high)));
+        return set_entry(alloc, SetLit::Range(low, high));
     }
     Ok(Elem::Int(low))
 }
 
 #[tactic(auto, unfolding(crate::specs::Reading::number_at))]
 #[inline(always)]
-fn read_number(cursor: &mut Cursor) -> Result<Elem, Stop>
+fn read_number(alloc: Global, cursor: &mut Cursor) -> Result<Elem, Stop>
     ensures read { IfOk result (λ e. number_at cursor.old ≡ Some (e, cursor.new)) }
     ensures refused { result ≡ Err Stop.Refused → number_at cursor.old ≡ None }
-    ensures memory { result ≢ Err Stop.NoMemory }
 {
     if let Some(token) = cursor.take_kept(Class::Float) {
         return Ok(Elem::Float(token));
     }
     let low = cursor.kept(Class::Int)?;
-    read_from_int(low, cursor)
+    read_from_int(alloc, low, cursor)
 }
 
 #[tactic(auto, unfolding(crate::specs::Reading::elem_at))]
@@ -76,12 +84,12 @@ pub(crate) fn read_elem(alloc: Global, cursor: &mut Cursor) -> Result<Elem, Stop
     }
     if cursor.take(Symbol::BraceOpen) {
         let values = read_list(alloc, cursor, Symbol::BraceClose)?;
-        return Ok(Elem::Set(SetLit::Braces(values)));
+        return set_entry(alloc, SetLit::Braces(values));
     }
     if let Some(token) = cursor.take_kept(Class::Name) {
         return Ok(Elem::Name(token));
     }
-    read_number(cursor)
+    read_number(alloc, cursor)
 }
 
 /// An entry of an array literal.

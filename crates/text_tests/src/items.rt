@@ -290,10 +290,10 @@ fn push_elem(found: &mut Vec<usize>, entry: &Elem) -> Result<(), AllocError> {
     match entry {
         Elem::True | Elem::False => found.push(0)?,
         Elem::Int(token) | Elem::Float(token) | Elem::Name(token) => found.push(token.from)?,
-        Elem::Set(SetLit::Range(low, high)) => {
-            found.extend_from_slice(&[low.from, high.from])?;
-        }
-        Elem::Set(SetLit::Braces(_)) => found.push(1)?,
+        Elem::Set(set) => match set.literal() {
+            SetLit::Range(low, high) => found.extend_from_slice(&[low.from, high.from])?,
+            SetLit::Braces(_) => found.push(1)?,
+        },
     }
     Ok(())
 }

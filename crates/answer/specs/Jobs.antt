@@ -1,5 +1,5 @@
 -- What jobs say of seats, of what a worker keeps, and of runs.
-use Rattle.std.specs.Prelude.{◌≡◌, ◌≢◌, ℕ, ◌^◌, List, length}
+use Rattle.std.specs.Prelude.{◌≡◌, ◌≢◌, ◌↔◌, ℕ, ◌^◌, ℤ, List, length}
 use Rattle.best_bound.specs.declared.seat.FoundSeat.{FoundSeat}
 use Rattle.best_bound.specs.declared.seat.BestSeat.{BestSeat}
 use Rattle.best_bound.specs.Seats.{IsFoundSeatOf, found_parts, numbers_seen, numbers_posted, IsBestSeatOf, best_parts, costs_seen, costs_posted}
@@ -7,6 +7,7 @@ use Rattle.constraint_model.specs.declared.model.Goal.{Goal}
 use Rattle.search.specs.declared.ends.FirstEnd.{FirstEnd}
 use Rattle.search.specs.declared.ends.AllEnd.{AllEnd}
 use Rattle.search.specs.declared.ends.LeastEnd.{LeastEnd}
+use Rattle.search.specs.LeastEnds.{IsCost}
 use Rattle.answer.specs.declared.plan.Plan.{Plan}
 use Rattle.answer.specs.declared.plan.Own.{Own}
 use Rattle.answer.specs.Owned.{IsOwnFrom}
@@ -14,7 +15,7 @@ use Rattle.answer.specs.declared.first_job.FirstJob.{FirstJob}
 use Rattle.answer.specs.declared.all_job.AllJob.{AllJob}
 use Rattle.answer.specs.declared.least_job.LeastJob.{LeastJob}
 use Rattle.answer.specs.Plans.{IsPlan, model_of, kernels_in}
-use Rattle.answer.specs.Runs.{AreFirstRuns, AreAllRuns, AreLeastRuns}
+use Rattle.answer.specs.Runs.{HasSolution, AreFirstRuns, AreAllRuns, AreLeastRuns}
 
 -- how many numbers there are
 abbrev pub numbers_of : {L : Type 0} → Plan L → ℕ
@@ -25,6 +26,10 @@ abbrev pub Owns : {L : Type 0} → Plan L → Own → Type 0
 Owns plan own = IsOwnFrom (model_of plan) (kernels_in plan) plan.start.now (length plan.run.now.program.now.start) own
 
 -- ---- for the first solution
+
+-- it says of each number whether what the number leads to has a solution
+abbrev pub SaysWhichSolve : {L : Type 0} → Plan L → (ℕ → Type 0) → Type 0
+SaysWhichSolve plan has_solution = (number : ℕ) → has_solution number ↔ HasSolution (model_of plan) plan.options.depth plan.start.now number
 
 abbrev pub FirstFits : {L M : Type 0} → FirstJob L M → FoundSeat → Type 0
 FirstFits job seat = IsPlan job.plan.now × IsFoundSeatOf job.found.now seat
@@ -47,6 +52,10 @@ abbrev pub AllStands : {L : Type 0} → AllJob L → Unit {0} → List (ℕ × A
 AllStands job seat runs = AreAllRuns (model_of job.plan.now) job.plan.now.options job.plan.now.start.now runs
 
 -- ---- for the least cost
+
+-- it says of each number whether a solution of the model costs so much
+abbrev pub SaysWhichCost : {L : Type 0} → Plan L → (ℤ → Type 0) → Type 0
+SaysWhichCost plan is_cost = (cost : ℤ) → is_cost cost ↔ IsCost (model_of plan) cost
 
 -- the job's model has an objective
 pub record LeastFits {L M : Type 0} (job : LeastJob L M) (seat : BestSeat) : Type 0 where

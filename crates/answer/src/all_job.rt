@@ -9,7 +9,7 @@ ghost use Rattle.answer.specs.Results.{IsAllResult};
 ghost use Rattle.answer.specs.Jobs.{numbers_of, Owns, AllFits, AllParts, AllStands};
 
 use crate::plan::{Own, Plan, subproblem};
-use crew::{Gate as CrewGate, Job, Workers, run_numbers};
+use crew::{Gate as CrewGate, Job, Work, Workers, run_numbers};
 use interval::NoMemory;
 use list_of::ListOf;
 use rounds::Gate;
@@ -92,9 +92,13 @@ fn run_each<R: Threads + Sync, C: CrewGate + Sync, L: Gate + Sync>(
         requires { (number < numbers_of job.now.plan.now) × Owns job.now.plan.now own.now × IsPlan job.now.plan.now }
         ensures { IsRun (AllFits job.entry.now) AllParts (Owns job.entry.now.plan.now) (AllStands job.entry.now) own.exit.now tt tt number result }
     { run_number(rt, alloc, job, own, number) };
-    let count = numbers_to(job.plan.options.depth);
+    let work = Work {
+        job: &*job,
+        run: &run,
+        count: numbers_to(job.plan.options.depth),
+    };
     let mut seat = ();
-    let ends = run_numbers(rt, alloc, crew, job, &run, count, gate, &mut seat)?;
+    let ends = run_numbers(rt, alloc, crew, &work, gate, &mut seat)?;
     Ok(ends)
 }
 

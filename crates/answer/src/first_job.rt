@@ -1,6 +1,6 @@
 //! The search of all subproblems for the first solution.
 
-ghost use Rattle.std.specs.Prelude.{◌≡◌, ◌<◌, ◌↔◌, ℕ, [], IfOk};
+ghost use Rattle.std.specs.Prelude.{◌≡◌, ◌<◌, ℕ, [], IfOk};
 ghost use Rattle.crew.specs.AtWork.{IsRun};
 ghost use Rattle.crew.specs.Ends.{AreEndsOf};
 ghost use Rattle.best_bound.specs.Lists.{Among};
@@ -8,16 +8,15 @@ ghost use Rattle.best_bound.specs.Seats.{numbers_seen};
 ghost use Rattle.search.specs.Ends.{IsCut};
 ghost use Rattle.answer.specs.Plans.{IsPlan, IsCrewFor, model_of};
 ghost use Rattle.answer.specs.Results.{AreFirstResults};
-ghost use Rattle.answer.specs.Runs.{HasSolution};
-ghost use Rattle.answer.specs.Jobs.{numbers_of, Owns, FirstFits, FirstParts, FirstStands};
+ghost use Rattle.answer.specs.Jobs.{numbers_of, Owns, SaysWhichSolve, FirstFits, FirstParts, FirstStands};
 
 use crate::plan::{Own, Plan, subproblem};
 use best_bound::{Found, FoundSeat, Numbers};
-use crew::{Gate as CrewGate, Job, Workers, run_numbers};
+use crew::{Gate as CrewGate, Job, Work, Workers, run_numbers};
 use interval::{NoMemory, law_inside_order};
 use list_of::ListOf;
 use rounds::Gate;
-use search::{FirstEnd, Start, lesser_seen, run_first_from};
+use search::{FirstEnd, Numbered, Start, lesser_seen, run_first_from};
 use std::alloc::Global;
 use std::marker::{Brand, PhantomData};
 use std::thread::Threads;
@@ -91,7 +90,7 @@ fn run_there<R: Threads + Sync, L: Gate + Sync, M: OfParts>(
     requires number { number < numbers_of job.now.plan.now }
     requires owns { Owns job.now.plan.now own.old }
     requires fits { FirstFits job.now seat.old }
-    requires numbers { (number : ℕ) → M.has_solution number ↔ HasSolution (model_of job.now.plan.now) job.now.plan.now.options.depth job.now.plan.now.start.now number }
+    requires numbers { SaysWhichSolve job.now.plan.now M.has_solution }
     ensures { IsRun (FirstFits job.now) FirstParts (Owns job.now.plan.now) (FirstStands job.now) own.new seat.old seat.new number result }
 {
     match subproblem(alloc, job.plan, &mut own.walk, number)? {
@@ -101,14 +100,17 @@ fn run_there<R: Threads + Sync, L: Gate + Sync, M: OfParts>(
                 boxes: found.boxes,
                 changed: found.changed,
             };
+            let numbered = Numbered {
+                number,
+                found: job.found,
+            };
             let over = run_first_from(
                 rt,
                 alloc,
                 job.plan.run,
                 start,
                 &mut own.kept,
-                number,
-                job.found,
+                &numbered,
                 seat,
             )?;
             own.walk.take_back(over.boxes);
@@ -129,7 +131,7 @@ fn run_number<R: Threads + Sync, L: Gate + Sync, M: OfParts>(
     requires number { number < numbers_of job.now.plan.now }
     requires owns { Owns job.now.plan.now own.old }
     requires fits { FirstFits job.now seat.old }
-    requires numbers { (number : ℕ) → M.has_solution number ↔ HasSolution (model_of job.now.plan.now) job.now.plan.now.options.depth job.now.plan.now.start.now number }
+    requires numbers { SaysWhichSolve job.now.plan.now M.has_solution }
     ensures run { IsRun (FirstFits job.now) FirstParts (Owns job.now.plan.now) (FirstStands job.now) own.new seat.old seat.new number result }
     ensures at_once { (n : ℕ) → Among (numbers_seen seat.old) n → n < number → IfOk result IsCut × (own.new ≡ own.old) }
 {
@@ -155,7 +157,7 @@ fn run_all<R: Threads + Sync, C: CrewGate + Sync, L: Gate + Sync, M: OfParts + S
     requires fits { FirstFits job.now seat.old }
     requires parts { FirstParts seat.old 1024 }
     requires none { FirstStands job.now seat.old [] }
-    requires numbers { (number : ℕ) → M.has_solution number ↔ HasSolution (model_of job.now.plan.now) job.now.plan.now.options.depth job.now.plan.now.start.now number }
+    requires numbers { SaysWhichSolve job.now.plan.now M.has_solution }
     requires crew { IsCrewFor job.now.plan.now.options crew.old }
     ensures ends { IfOk result (AreEndsOf (numbers_of job.now.plan.now) (FirstStands job.now seat.new)) }
     ensures fits { FirstFits job.now seat.new }
@@ -163,11 +165,19 @@ fn run_all<R: Threads + Sync, C: CrewGate + Sync, L: Gate + Sync, M: OfParts + S
     ensures crew { IsCrewFor job.now.plan.now.options crew.new }
 {
     let run = |own: &mut Own, seat: &mut FoundSeat, number: u32| -> Result<FirstEnd, NoMemory>
-        requires { (number < numbers_of job.now.plan.now) × Owns job.now.plan.now own.now × FirstFits job.now seat.now × ((number : ℕ) → M.has_solution number ↔ HasSolution (model_of job.now.plan.now) job.now.plan.now.options.depth job.now.plan.now.start.now number) }
-        ensures { IsRun (FirstFits job.entry.now) FirstParts (Owns job.entry.now.plan.now) (FirstStands job.entry.now) own.exit.now seat.entry.now seat.exit.now number result }
+        requires number { number < numbers_of job.now.plan.now }
+        requires owns { Owns job.now.plan.now own.now }
+        requires fits { FirstFits job.now seat.now }
+        requires numbers { SaysWhichSolve job.now.plan.now M.has_solution }
+        ensures { IsRun (FirstFits job.entry.now) FirstParts (Owns job.entry.now.plan.now) (FirstStands job.entry.now)
+            own.exit.now seat.entry.now seat.exit.now number result }
     { run_number(rt, alloc, job, own, seat, number) };
-    let count = numbers_to(job.plan.options.depth);
-    let ends = run_numbers(rt, alloc, crew, job, &run, count, gate, seat)?;
+    let work = Work {
+        job: &*job,
+        run: &run,
+        count: numbers_to(job.plan.options.depth),
+    };
+    let ends = run_numbers(rt, alloc, crew, &work, gate, seat)?;
     Ok(ends)
 }
 
@@ -181,7 +191,7 @@ fn ends_of<R: Threads + Sync, C: CrewGate + Sync, L: Gate + Sync, M: OfParts + S
     _parts: PhantomData<M>,
 ) -> Result<ListOf<FirstEnd>, NoMemory>
     requires plan { IsPlan plan.now }
-    requires numbers { (number : ℕ) → M.has_solution number ↔ HasSolution (model_of plan.now) plan.now.options.depth plan.now.start.now number }
+    requires numbers { SaysWhichSolve plan.now M.has_solution }
     requires crew { IsCrewFor plan.now.options crew.old }
     ensures ends { IfOk result (AreFirstResults (model_of plan.now) plan.now.options plan.now.start.now) }
     ensures crew { IsCrewFor plan.now.options crew.new }

@@ -1,19 +1,18 @@
 //! The search of all subproblems for the least cost.
 
-ghost use Rattle.std.specs.Prelude.{◌≡◌, ◌≢◌, ◌<◌, ◌↔◌, ℤ, [], IfOk};
+ghost use Rattle.std.specs.Prelude.{◌≡◌, ◌≢◌, ◌<◌, [], IfOk};
 ghost use Rattle.constraint_model.specs.declared.model.Goal.TheVariants.{Satisfy};
-ghost use Rattle.search.specs.LeastEnds.{IsCost};
 ghost use Rattle.crew.specs.AtWork.{IsRun};
 ghost use Rattle.crew.specs.Ends.{AreEndsOf};
 ghost use Rattle.decompose.specs.Program.{start_of};
 ghost use Rattle.answer.specs.Plans.{IsPlan, IsCrewFor, model_of};
 ghost use Rattle.answer.specs.Runs.{AreWholeEnds};
-ghost use Rattle.answer.specs.Jobs.{numbers_of, Owns, LeastFits, LeastParts, LeastStands};
+ghost use Rattle.answer.specs.Jobs.{numbers_of, Owns, SaysWhichCost, LeastFits, LeastParts, LeastStands};
 
 use crate::plan::{Own, Plan, subproblem_below};
 use best_bound::{Best, BestSeat, Costs};
 use branching::law_every_list;
-use crew::{Gate as CrewGate, Job, Workers, run_numbers};
+use crew::{Gate as CrewGate, Job, Work, Workers, run_numbers};
 use interval::{NoMemory, law_inside_order};
 use list_of::ListOf;
 use rounds::Gate;
@@ -95,7 +94,7 @@ fn run_number<R: Threads + Sync, L: Gate + Sync, M: OfModel>(
     requires number { number < numbers_of job.now.plan.now }
     requires owns { Owns job.now.plan.now own.old }
     requires fits { LeastFits job.now seat.old }
-    requires costs { (cost : ℤ) → M.is_cost cost ↔ IsCost (model_of job.now.plan.now) cost }
+    requires costs { SaysWhichCost job.now.plan.now M.is_cost }
     ensures { IsRun (LeastFits job.now) LeastParts (Owns job.now.plan.now) (LeastStands job.now) own.new seat.old seat.new number result }
 {
     law_more_posted();
@@ -143,7 +142,7 @@ fn run_all<R: Threads + Sync, C: CrewGate + Sync, L: Gate + Sync, M: OfModel + S
     requires fits { LeastFits job.now seat.old }
     requires parts { LeastParts seat.old 1024 }
     requires none { LeastStands job.now seat.old [] }
-    requires costs { (cost : ℤ) → M.is_cost cost ↔ IsCost (model_of job.now.plan.now) cost }
+    requires costs { SaysWhichCost job.now.plan.now M.is_cost }
     requires crew { IsCrewFor job.now.plan.now.options crew.old }
     ensures ends { IfOk result (AreEndsOf (numbers_of job.now.plan.now) (LeastStands job.now seat.new)) }
     ensures fits { LeastFits job.now seat.new }
@@ -151,11 +150,19 @@ fn run_all<R: Threads + Sync, C: CrewGate + Sync, L: Gate + Sync, M: OfModel + S
     ensures crew { IsCrewFor job.now.plan.now.options crew.new }
 {
     let run = |own: &mut Own, seat: &mut BestSeat, number: u32| -> Result<LeastEnd, NoMemory>
-        requires { (number < numbers_of job.now.plan.now) × Owns job.now.plan.now own.now × LeastFits job.now seat.now × ((cost : ℤ) → M.is_cost cost ↔ IsCost (model_of job.now.plan.now) cost) }
-        ensures { IsRun (LeastFits job.entry.now) LeastParts (Owns job.entry.now.plan.now) (LeastStands job.entry.now) own.exit.now seat.entry.now seat.exit.now number result }
+        requires number { number < numbers_of job.now.plan.now }
+        requires owns { Owns job.now.plan.now own.now }
+        requires fits { LeastFits job.now seat.now }
+        requires costs { SaysWhichCost job.now.plan.now M.is_cost }
+        ensures { IsRun (LeastFits job.entry.now) LeastParts (Owns job.entry.now.plan.now) (LeastStands job.entry.now)
+            own.exit.now seat.entry.now seat.exit.now number result }
     { run_number(rt, alloc, job, own, seat, number) };
-    let count = numbers_to(job.plan.options.depth);
-    let ends = run_numbers(rt, alloc, crew, job, &run, count, gate, seat)?;
+    let work = Work {
+        job: &*job,
+        run: &run,
+        count: numbers_to(job.plan.options.depth),
+    };
+    let ends = run_numbers(rt, alloc, crew, &work, gate, seat)?;
     Ok(ends)
 }
 
@@ -171,7 +178,7 @@ fn ends_of<R: Threads + Sync, C: CrewGate + Sync, L: Gate + Sync, M: OfModel + S
     requires plan { IsPlan plan.now }
     requires start { plan.now.start.now ≡ start_of (model_of plan.now) }
     requires objective { (model_of plan.now).goal ≢ Satisfy }
-    requires costs { (cost : ℤ) → M.is_cost cost ↔ IsCost (model_of plan.now) cost }
+    requires costs { SaysWhichCost plan.now M.is_cost }
     requires crew { IsCrewFor plan.now.options crew.old }
     ensures ends { IfOk result (AreWholeEnds (model_of plan.now) plan.now.options) }
     ensures crew { IsCrewFor plan.now.options crew.new }

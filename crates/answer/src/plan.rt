@@ -63,15 +63,7 @@ pub(crate) fn subproblem<L>(
     ensures walk { IsWalkFrom (model_of plan.now) (kernels_in plan.now) plan.now.start.now walk.new }
     ensures under { IfOk result (StandsUnder (model_of plan.now) (kernels_in plan.now) plan.now.start.now walk.new) }
 {
-    law_inside_order();
-    let tree = Tree {
-        model: plan.run.model,
-        program: plan.run.program,
-        masks: plan.run.masks,
-        start: plan.start,
-        depth: plan.options.depth,
-    };
-    let found = walk.path_box(alloc, &tree, number)?;
+    let found = subproblem_below(alloc, plan, walk, number, None)?;
     Ok(found)
 }
 
@@ -86,7 +78,8 @@ pub(crate) fn subproblem_below<L>(
     requires plan { IsPlan plan.now }
     requires number { number < 2 ^ plan.now.options.depth }
     requires walk { IsWalkFrom (model_of plan.now) (kernels_in plan.now) plan.now.start.now walk.old }
-    ensures path { IfOk result (λ found. LeadsBelow (model_of plan.now) (kernels_in plan.now) plan.now.options.depth plan.now.start.now number best (box_of found)) }
+    ensures path { IfOk result (λ found.
+        LeadsBelow (model_of plan.now) (kernels_in plan.now) plan.now.options.depth plan.now.start.now number best (box_of found)) }
     ensures inside { IfOk result (λ found. IfSome (box_of found) (λ b. IsInside b plan.now.run.now.program.now.start)) }
     ensures made { IfOk result (IsMadeFrom (kernels_in plan.now)) }
     ensures walk { IsWalkFrom (model_of plan.now) (kernels_in plan.now) plan.now.start.now walk.new }

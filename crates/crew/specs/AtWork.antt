@@ -1,7 +1,7 @@
 -- A worker before, between and after its runs, and who hired it. Each definition takes what the job says of seats (`fits`,
 -- `has_parts`), of what a worker keeps (`owns`) and of runs (`stands`), and what the source of the numbers says of rights
 -- (`is_right`, `drawn`, `has_passed`).
-use Rattle.std.specs.Prelude.{ℕ, ◌≡◌, ◌<◌, ◌≤◌, ◌+◌, List, [], ◌∷◌, ◌++◌, true, Result, IfOk, OnErr}
+use Rattle.std.specs.Prelude.{ℕ, ◌≡◌, ◌<◌, ◌≤◌, ◌+◌, List, [], ◌∷◌, ◌++◌, true, length, slice_index_or, Result, IfOk, OnErr}
 use denote.Ref.{MutBor}
 use Rattle.interval.specs.declared.NoMemory.{NoMemory}
 use Rattle.tickets.specs.Counting.{times}
@@ -26,10 +26,23 @@ pub record IsFirstSeat {S : Type 0} (fits : S → Type 0) (has_parts : S → ℕ
   pub all : parts + workers ≡ 1024
   pub has : has_parts seat parts
 
+-- of 64 workers at most, one more has a part of the first seat
+abbrev pub GivesPart : {S : Type 0} → (S → Type 0) → (S → ℕ → Type 0) → S → S → Type 0
+GivesPart fits has_parts before after =
+    (workers : ℕ) → workers < 64 → IsFirstSeat fits has_parts workers before → IsFirstSeat fits has_parts (workers + 1) after
+
 -- a worker has a seat of one part
 pub record HasSeat {N S W E : Type 0} (fits : S → Type 0) (has_parts : S → ℕ → Type 0) (w : Worker N S W E) : Type 0 where
   pub seat_fits : fits w.seat
   pub part : has_parts w.seat 1
+
+-- it has run all numbers that it has drawn, in this order
+abbrev pub HasRun : {N S W E : Type 0} → (N → List ℕ) → (S → List (ℕ × E) → Type 0) → Worker N S W E → Type 0
+HasRun drawn stands w = HaveRun stands (drawn w.right) w.seat w.runs.items
+
+-- it has run some of the numbers that it has drawn
+abbrev pub HasRunSome : {N S W E : Type 0} → (N → List ℕ) → (S → List (ℕ × E) → Type 0) → Worker N S W E → Type 0
+HasRunSome drawn stands w = HaveRunSome stands (drawn w.right) w.seat
 
 -- it is at the start of its work
 pub record IsHired {N S W E : Type 0} (fits : S → Type 0) (has_parts : S → ℕ → Type 0) (owns : W → Type 0) (stands : S → List (ℕ × E) → Type 0) (w : Worker N S W E) : Type 0 where
@@ -47,14 +60,18 @@ pub record MayStart {N S W E : Type 0} (is_right : N → Type 0) (drawn : N → 
 pub record MayDraw {N S W E : Type 0} (is_right : N → Type 0) (drawn : N → List ℕ) (owns : W → Type 0) (stands : S → List (ℕ × E) → Type 0) (w : Worker N S W E) : Type 0 where
   pub right : is_right w.right
   pub own : owns w.own
-  pub run : HaveRun stands (drawn w.right) w.seat w.runs.items
+  pub run : HasRun drawn stands w
 
 -- it can be taken back, and if it says that it is done, it has run all that it has drawn and found nothing left to draw
 pub record IsBack {N S W E : Type 0} (is_right : N → Type 0) (drawn : N → List ℕ) (has_passed : N → Type 0) (fits : S → Type 0) (has_parts : S → ℕ → Type 0) (stands : S → List (ℕ × E) → Type 0) (w : Worker N S W E) : Type 0 where
   pub seat : HasSeat fits has_parts w
   pub right : is_right w.right
   pub passed : w.is_done ≡ true → has_passed w.right
-  pub run : w.is_done ≡ true → HaveRun stands (drawn w.right) w.seat w.runs.items
+  pub run : w.is_done ≡ true → HasRun drawn stands w
+
+-- at each place, what stands there before and after is so
+abbrev pub AtEachPlace : {X : Type 0} → (X → X → Type 0) → List X → List X → Type 0
+AtEachPlace {X} is_so before after = (i : ℕ) (d : X) → i < length before → is_so (slice_index_or before i d) (slice_index_or after i d)
 
 -- what a run of a number leaves, by its result: the seat is one with as many parts, and where memory sufficed the worker may
 -- keep what it has, and the run was made with the seat

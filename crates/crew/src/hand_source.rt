@@ -62,7 +62,6 @@ pub(crate) fn deal_hands(
 ) -> Result<Dealt<HandSource, Hand>, NoMemory>
     requires some { 1 ≤ workers }
     requires few { workers ≤ 64 }
-    ensures count { IfOk result (λ dealt. dealt.count ≡ count) }
     ensures numbers { IfOk result (λ dealt. numbers_dealt dealt.source ≡ count) }
     ensures workers { IfOk result (λ dealt. length dealt.rights.items ≡ workers) }
     ensures all { IfOk result (λ dealt. AreHandsOf dealt.source dealt.rights.items) }
@@ -71,7 +70,6 @@ pub(crate) fn deal_hands(
 {
     let rights = deal(alloc, count, workers)?;
     Ok(Dealt {
-        count,
         source: HandSource { count },
         rights,
     })

@@ -1,10 +1,11 @@
 //! Workers that are given seats, set to work side by side, and taken back.
 
-ghost use Rattle.std.specs.Prelude.{◌≡◌, ◌<◌, ◌≤◌, ◌+◌, ◌++◌, ◌∷◌, ℕ, List, [], length, map, flat_map, true, slice_index_or, vec_len, vec_capacity};
+ghost use Rattle.std.specs.Prelude.{◌≡◌, ◌<◌, ◌≤◌, ◌+◌, ◌++◌, ◌∷◌, ℕ, List, [], length, map, flat_map, true, vec_len, vec_capacity};
 ghost use Rattle.std.specs.Bool.{OnTrue};
 ghost use Rattle.std.specs.List.{All};
 ghost use Rattle.crew.specs.Rights.{KeepsSame};
-ghost use Rattle.crew.specs.AtWork.{HaveRun, HaveRunSome, HasSeat, IsFirstSeat, MayStart, IsHired, IsBack, CanRun, Runs, KeepRuns};
+ghost use Rattle.crew.specs.AtWork.{HaveRun, HaveRunSome, HasRun, HasRunSome, HasSeat, IsFirstSeat, GivesPart, AtEachPlace};
+ghost use Rattle.crew.specs.AtWork.{MayStart, IsHired, IsBack, CanRun, Runs, KeepRuns};
 ghost use Rattle.crew.specs.Crews.{HasAsked};
 ghost use Rattle.crew.specs.declared.worker.Worker.{Worker};
 
@@ -27,7 +28,7 @@ fn hire<N, S, W, E, J: Job<S, W, E>>(
     requires seat { (workers : ℕ) × (workers < 64) × IsFirstSeat (J.fits job.now) J.has_parts workers seat.old }
     requires none { J.stands job.now seat.old [] }
     requires own { J.owns job.now recruit.own }
-    ensures seat { (workers : ℕ) → workers < 64 → IsFirstSeat (J.fits job.now) J.has_parts workers seat.old → IsFirstSeat (J.fits job.now) J.has_parts (workers + 1) seat.new }
+    ensures seat { GivesPart (J.fits job.now) J.has_parts seat.old seat.new }
     ensures none { J.stands job.now seat.new [] }
     ensures hired { IsHired (J.fits job.now) J.has_parts (J.owns job.now) (J.stands job.now) result }
     ensures number { result.number ≡ recruit.number }
@@ -97,10 +98,12 @@ pub(crate) fn work_all<
     requires count { Q.count source.now ≡ J.count job.now }
     requires hired { All (IsHired (J.fits job.now) J.has_parts (J.owns job.now) (J.stands job.now)) workers.old }
     requires may_start { All (MayStart (Q.is_right source.now) Q.drawn) workers.old }
-    ensures back { (i : ℕ) (d : Worker N S W E) → i < length workers.old → IsBack (Q.is_right source.now) Q.drawn (Q.has_passed source.now) (J.fits job.now) J.has_parts (J.stands job.now) (slice_index_or workers.new i d) }
-    ensures asked { (i : ℕ) (d : Worker N S W E) → i < length workers.old → HasAsked (slice_index_or workers.old i d).turn (slice_index_or workers.new i d).turn }
-    ensures same { (i : ℕ) (d : Worker N S W E) → i < length workers.old → KeepsSame Q.same (slice_index_or workers.old i d).right (slice_index_or workers.new i d).right }
-    ensures made { KeepRuns (J.count job.now) (J.owns job.now) (J.fits job.now) (J.stands job.now) (F.post run.now) → (i : ℕ) (d : Worker N S W E) → i < length workers.old → HaveRunSome (J.stands job.now) (Q.drawn (slice_index_or workers.new i d).right) (slice_index_or workers.new i d).seat }
+    ensures back { AtEachPlace (λ _. IsBack (Q.is_right source.now) Q.drawn (Q.has_passed source.now) (J.fits job.now) J.has_parts (J.stands job.now))
+        workers.old workers.new }
+    ensures asked { AtEachPlace (λ before after. HasAsked before.turn after.turn) workers.old workers.new }
+    ensures same { AtEachPlace (λ before after. KeepsSame Q.same before.right after.right) workers.old workers.new }
+    ensures made { KeepRuns (J.count job.now) (J.owns job.now) (J.fits job.now) (J.stands job.now) (F.post run.now) →
+        AtEachPlace (λ _. HasRunSome Q.drawn (J.stands job.now)) workers.old workers.new }
 {
     if workers.len() == 1 {
         work(source, job, run, gate, &mut workers[0]);
@@ -112,11 +115,17 @@ pub(crate) fn work_all<
         workers,
         threads,
         &|_, worker: &mut Worker<N, S, W, E>|
-            requires { (Q.count source.now ≡ J.count job.now) × CanRun (J.count job.now) (J.owns job.now) (J.fits job.now) (F.pre run.now) × Runs (J.count job.now) (J.owns job.now) (J.fits job.now) J.has_parts (J.stands job.now) (F.post run.now) × IsHired (J.fits job.now) J.has_parts (J.owns job.now) (J.stands job.now) worker.now × MayStart (Q.is_right source.now) Q.drawn worker.now }
-            ensures back { IsBack (Q.is_right source.entry.now) Q.drawn (Q.has_passed source.entry.now) (J.fits job.entry.now) J.has_parts (J.stands job.entry.now) worker.exit.now }
+            requires can { CanRun (J.count job.now) (J.owns job.now) (J.fits job.now) (F.pre run.now) }
+            requires does { Runs (J.count job.now) (J.owns job.now) (J.fits job.now) J.has_parts (J.stands job.now) (F.post run.now) }
+            requires count { Q.count source.now ≡ J.count job.now }
+            requires hired { IsHired (J.fits job.now) J.has_parts (J.owns job.now) (J.stands job.now) worker.now }
+            requires may_start { MayStart (Q.is_right source.now) Q.drawn worker.now }
+            ensures back { IsBack (Q.is_right source.entry.now) Q.drawn (Q.has_passed source.entry.now)
+                (J.fits job.entry.now) J.has_parts (J.stands job.entry.now) worker.exit.now }
             ensures asked { HasAsked worker.entry.now.turn worker.exit.now.turn }
             ensures same { KeepsSame Q.same worker.entry.now.right worker.exit.now.right }
-            ensures made { KeepRuns (J.count job.entry.now) (J.owns job.entry.now) (J.fits job.entry.now) (J.stands job.entry.now) (F.post run.entry.now) → HaveRunSome (J.stands job.entry.now) (Q.drawn worker.exit.now.right) worker.exit.now.seat }
+            ensures made { KeepRuns (J.count job.entry.now) (J.owns job.entry.now) (J.fits job.entry.now) (J.stands job.entry.now) (F.post run.entry.now) →
+                HasRunSome Q.drawn (J.stands job.entry.now) worker.exit.now }
         { work(source, job, run, gate, worker) },
     );
 }
@@ -137,8 +146,10 @@ fn take_in<N, S, W: Drop, E: Drop, J: Job<S, W, E>>(
     ensures right { rights.new.items ≡ rights.old.items ++ worker.right ∷ [] }
     ensures capacity { vec_capacity rights.new ≡ vec_capacity rights.old }
     ensures done { OnTrue result (worker.is_done ≡ true) }
-    ensures run { OnTrue result ((numbers others : List ℕ) → HaveRun (J.stands job.now) numbers seat.old runs.old.items → HaveRun (J.stands job.now) others worker.seat worker.runs.items → HaveRun (J.stands job.now) (numbers ++ others) seat.new runs.new.items) }
-    ensures made { (numbers others : List ℕ) → HaveRunSome (J.stands job.now) numbers seat.old → HaveRunSome (J.stands job.now) others worker.seat → HaveRunSome (J.stands job.now) (numbers ++ others) seat.new }
+    ensures run { OnTrue result ((numbers others : List ℕ) → HaveRun (J.stands job.now) numbers seat.old runs.old.items →
+        HaveRun (J.stands job.now) others worker.seat worker.runs.items → HaveRun (J.stands job.now) (numbers ++ others) seat.new runs.new.items) }
+    ensures made { (numbers others : List ℕ) → HaveRunSome (J.stands job.now) numbers seat.old → HaveRunSome (J.stands job.now) others worker.seat →
+        HaveRunSome (J.stands job.now) (numbers ++ others) seat.new }
 {
     let Worker {
         right,
@@ -171,8 +182,10 @@ pub(crate) fn take_all<N: Drop, S: Drop, W: Drop, E: Drop, J: Job<S, W, E>>(
     ensures parts { J.has_parts seat.new 1024 }
     ensures rights { rights.new.items ≡ map (λ worker. worker.right) workers.items }
     ensures done { OnTrue result (All (λ worker. worker.is_done ≡ true) workers.items) }
-    ensures run { OnTrue result ((drawn : N → List ℕ) → All (λ worker. HaveRun (J.stands job.now) (drawn worker.right) worker.seat worker.runs.items) workers.items → HaveRun (J.stands job.now) (flat_map drawn rights.new.items) seat.new runs.new.items) }
-    ensures made { (drawn : N → List ℕ) → All (λ worker. HaveRunSome (J.stands job.now) (drawn worker.right) worker.seat) workers.items → HaveRunSome (J.stands job.now) (flat_map drawn rights.new.items) seat.new }
+    ensures run { OnTrue result ((drawn : N → List ℕ) → All (HasRun drawn (J.stands job.now)) workers.items →
+        HaveRun (J.stands job.now) (flat_map drawn rights.new.items) seat.new runs.new.items) }
+    ensures made { (drawn : N → List ℕ) → All (HasRunSome drawn (J.stands job.now)) workers.items →
+        HaveRunSome (J.stands job.now) (flat_map drawn rights.new.items) seat.new }
 {
     let mut is_whole = true;
     for worker in workers {

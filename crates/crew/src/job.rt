@@ -45,5 +45,6 @@ pub trait Job<S, W, E> {
         requires other_fits { fits self.now other }
         ensures fits { fits self.now seat.new }
         ensures parts { (m n : ℕ) → has_parts seat.old m → has_parts other n → has_parts seat.new (m + n) }
-        ensures stands { (runs others : List (ℕ × E)) → stands self.now seat.old runs → stands self.now other others → stands self.now seat.new (runs ++ others) };
+        ensures stands { (runs others : List (ℕ × E)) → stands self.now seat.old runs → stands self.now other others →
+            stands self.now seat.new (runs ++ others) };
 }

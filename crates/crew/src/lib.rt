@@ -16,10 +16,12 @@ mod recruit;
 mod source;
 mod sourced;
 mod ticket_source;
+mod work;
 mod worker;
 mod workers;
 
 pub use gate::{Gate, NoGate};
 pub use job::Job;
 pub use numbers::run_numbers;
+pub use work::Work;
 pub use workers::Workers;

@@ -3,8 +3,6 @@
 /// A source with all its rights to draw, one for each worker.
 #[derive(Drop)]
 pub struct Dealt<Q, N> {
-    /// How many numbers there are.
-    pub count: u32,
     /// What the numbers are drawn from.
     pub source: Q,
     /// The rights, in the order of the workers.

@@ -6,13 +6,14 @@ ghost use Rattle.tickets.specs.Counting.{IsEachOnce};
 ghost use Rattle.crew.specs.Ends.{AreEndsOf, AreSomeRuns, numbers_of};
 ghost use Rattle.crew.specs.Crews.{workers_of, turns_of, steals_of, HasAsked};
 ghost use Rattle.crew.specs.Rights.{AreDrawn};
-ghost use Rattle.crew.specs.AtWork.{HaveRunSome, IsFirstSeat, IsBack, CanRun, Runs, KeepRuns};
+ghost use Rattle.crew.specs.AtWork.{HasRunSome, IsFirstSeat, IsBack, CanRun, Runs, KeepRuns};
 
 use crate::ends::in_order;
 use crate::hiring::{hire_all, take_all, work_all};
 use crate::job::Job;
 use crate::recruit::recruit_all;
 use crate::source::{Dealt, Source};
+use crate::work::Work;
 use crate::worker::Worker;
 use crate::workers::Workers;
 use gate::Gate;
@@ -40,7 +41,7 @@ fn gather<N: Drop, S: Drop, W: Drop, E: Drop, Q: Source<N>, J: Job<S, W, E>>(
     ensures parts { J.has_parts seat.new 1024 }
     ensures run { IfOk result (λ runs. J.stands job.now seat.new runs.items) }
     ensures each_once { IfOk result (λ runs. IsEachOnce (Q.count source) (numbers_of runs.items)) }
-    ensures made { All (λ worker. HaveRunSome (J.stands job.now) (Q.drawn worker.right) worker.seat) workers.items → AreSomeRuns (Q.count source) (J.stands job.now seat.new) }
+    ensures made { All (HasRunSome Q.drawn (J.stands job.now)) workers.items → AreSomeRuns (Q.count source) (J.stands job.now seat.new) }
 {
     let mut rights = room;
     let mut runs = Vec::new(alloc);
@@ -69,42 +70,40 @@ pub(crate) fn run_from<
     rt: &R,
     alloc: Global,
     crew: &mut Workers,
-    job: &J,
-    run: &F,
+    work: &Work<'_, J, F>,
     gate: &C,
     seat: &mut S,
     dealt: Dealt<Q, N>,
 ) -> Result<ListOf<E>, NoMemory>
-    requires can { CanRun (J.count job.now) (J.owns job.now) (J.fits job.now) (F.pre run.now) }
-    requires does { Runs (J.count job.now) (J.owns job.now) (J.fits job.now) J.has_parts (J.stands job.now) (F.post run.now) }
-    requires job_count { dealt.count ≡ J.count job.now }
-    requires count { Q.count dealt.source ≡ dealt.count }
-    requires fits { J.fits job.now seat.old }
+    requires can { CanRun (J.count work.now.job.now) (J.owns work.now.job.now) (J.fits work.now.job.now) (F.pre work.now.run.now) }
+    requires does { Runs (J.count work.now.job.now) (J.owns work.now.job.now) (J.fits work.now.job.now) J.has_parts (J.stands work.now.job.now)
+        (F.post work.now.run.now) }
+    requires count { work.now.count ≡ J.count work.now.job.now }
+    requires source { Q.count dealt.source ≡ work.now.count }
+    requires fits { J.fits work.now.job.now seat.old }
     requires parts { J.has_parts seat.old 1024 }
-    requires none { J.stands job.now seat.old [] }
+    requires none { J.stands work.now.job.now seat.old [] }
     requires dealt { Q.are_dealt dealt.source dealt.rights.items }
     requires rights { All (Q.is_right dealt.source) dealt.rights.items }
     requires idle { All (λ right. Q.drawn right ≡ []) dealt.rights.items }
     requires workers { length dealt.rights.items ≡ workers_of crew.old }
-    ensures ends { IfOk result (AreEndsOf dealt.count (J.stands job.now seat.new)) }
-    ensures made { KeepRuns (J.count job.now) (J.owns job.now) (J.fits job.now) (J.stands job.now) (F.post run.now) → OnErr result (AreSomeRuns dealt.count (J.stands job.now seat.new)) }
-    ensures fits { J.fits job.now seat.new }
+    ensures ends { IfOk result (AreEndsOf work.now.count (J.stands work.now.job.now seat.new)) }
+    ensures made { KeepRuns (J.count work.now.job.now) (J.owns work.now.job.now) (J.fits work.now.job.now) (J.stands work.now.job.now)
+        (F.post work.now.run.now) → OnErr result (AreSomeRuns work.now.count (J.stands work.now.job.now seat.new)) }
+    ensures fits { J.fits work.now.job.now seat.new }
     ensures parts { J.has_parts seat.new 1024 }
     ensures crew { workers_of crew.new ≡ workers_of crew.old }
     ensures turns { OnOk result (AllZip HasAsked (turns_of crew.old) (turns_of crew.new)) }
     ensures steals { steals_of crew.new ≡ steals_of crew.old }
 {
-    let Dealt {
-        count,
-        source,
-        rights,
-    } = dealt;
+    let Dealt { source, rights } = dealt;
+    let job = work.job;
     let room = Vec::with_capacity(alloc, rights.len())?;
     let mut workers = Vec::with_capacity(alloc, rights.len())?;
     let recruits = recruit_all(alloc, job, crew.turns(), rights)?;
     hire_all(alloc, job, seat, recruits, &mut workers);
-    work_all(rt, &source, job, run, gate, &mut workers);
+    work_all(rt, &source, job, work.run, gate, &mut workers);
     crew.note_turns(&workers);
     let runs = gather(alloc, source, job, seat, workers, room)?;
-    in_order(alloc, count, runs)
+    in_order(alloc, work.count, runs)
 }

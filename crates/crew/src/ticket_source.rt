@@ -100,7 +100,6 @@ pub(crate) fn deal_tickets(
 ) -> Result<Dealt<Tickets, TicketSeat>, NoMemory>
     requires some { 1 ≤ workers }
     requires few { workers ≤ 64 }
-    ensures count { IfOk result (λ dealt. dealt.count ≡ count) }
     ensures numbers { IfOk result (λ dealt. count_of dealt.source ≡ count) }
     ensures workers { IfOk result (λ dealt. length dealt.rights.items ≡ workers) }
     ensures all { IfOk result (λ dealt. HaveAllParts dealt.rights.items) }
@@ -109,9 +108,5 @@ pub(crate) fn deal_tickets(
 {
     let (source, first) = Tickets::new(alloc, count)?;
     let rights = split_all(alloc, &source, first, workers)?;
-    Ok(Dealt {
-        count,
-        source,
-        rights,
-    })
+    Ok(Dealt { source, rights })
 }

@@ -4,7 +4,7 @@ ghost use Rattle.std.specs.Prelude.{◌≡◌, ◌<◌, ℕ, ◌≤◌, [], IfOk
 ghost use Rattle.std.specs.Bool.{OnTrue, OnFalse};
 ghost use Rattle.crew.specs.Rights.{KeepsSame};
 ghost use Rattle.crew.specs.Crews.{HasAsked};
-ghost use Rattle.crew.specs.AtWork.{HasSeat, HaveRun, HaveRunSome, MayStart, MayDraw, IsHired, IsBack, CanRun, Runs, KeepRuns};
+ghost use Rattle.crew.specs.AtWork.{HasSeat, HasRun, HasRunSome, MayStart, MayDraw, IsHired, IsBack, CanRun, Runs, KeepRuns};
 
 use crate::job::Job;
 use crate::source::Source;
@@ -52,7 +52,8 @@ fn run_next<
     ensures same { KeepsSame Q.same worker.old.right worker.new.right }
     ensures may_draw { IfOk result (λ _. MayDraw (Q.is_right source.now) Q.drawn (J.owns job.now) (J.stands job.now) worker.new) }
     ensures went_on { IfOk result (λ went_on. OnTrue went_on (Q.most_left source.now worker.new.right < Q.most_left source.now worker.old.right)) }
-    ensures made { KeepRuns (J.count job.now) (J.owns job.now) (J.fits job.now) (J.stands job.now) (F.post run.now) → OnErr result (HaveRunSome (J.stands job.now) (Q.drawn worker.new.right) worker.new.seat) }
+    ensures made { KeepRuns (J.count job.now) (J.owns job.now) (J.fits job.now) (J.stands job.now) (F.post run.now) →
+        OnErr result (HasRunSome Q.drawn (J.stands job.now) worker.new) }
     ensures ended { IfOk result (λ went_on. OnFalse went_on (Q.has_passed source.now worker.new.right)) }
 {
     gate.pass(worker.number, worker.turn);
@@ -88,8 +89,9 @@ fn run_all<
     ensures asked { HasAsked worker.old.turn worker.new.turn }
     ensures same { KeepsSame Q.same worker.old.right worker.new.right }
     ensures passed { OnOk result (Q.has_passed source.now worker.new.right) }
-    ensures run { OnOk result (HaveRun (J.stands job.now) (Q.drawn worker.new.right) worker.new.seat worker.new.runs.items) }
-    ensures made { KeepRuns (J.count job.now) (J.owns job.now) (J.fits job.now) (J.stands job.now) (F.post run.now) → OnErr result (HaveRunSome (J.stands job.now) (Q.drawn worker.new.right) worker.new.seat) }
+    ensures run { OnOk result (HasRun Q.drawn (J.stands job.now) worker.new) }
+    ensures made { KeepRuns (J.count job.now) (J.owns job.now) (J.fits job.now) (J.stands job.now) (F.post run.now) →
+        OnErr result (HasRunSome Q.drawn (J.stands job.now) worker.new) }
 {
     'draws: while run_next(source, job, run, gate, worker)? {}
     Ok(())
@@ -114,7 +116,8 @@ pub(crate) fn work<
     ensures back { IsBack (Q.is_right source.now) Q.drawn (Q.has_passed source.now) (J.fits job.now) J.has_parts (J.stands job.now) worker.new }
     ensures asked { HasAsked worker.old.turn worker.new.turn }
     ensures same { KeepsSame Q.same worker.old.right worker.new.right }
-    ensures made { KeepRuns (J.count job.now) (J.owns job.now) (J.fits job.now) (J.stands job.now) (F.post run.now) → HaveRunSome (J.stands job.now) (Q.drawn worker.new.right) worker.new.seat }
+    ensures made { KeepRuns (J.count job.now) (J.owns job.now) (J.fits job.now) (J.stands job.now) (F.post run.now) →
+        HasRunSome Q.drawn (J.stands job.now) worker.new }
 {
     let ended = run_all(source, job, run, gate, worker);
     worker.is_done = ended.is_ok();

@@ -29,6 +29,15 @@ use rounds::Gate;
 use std::alloc::Global;
 use std::thread::Threads;
 
+/// One of the numbered subproblems whose runs share the least number that has a solution.
+#[derive(Drop)]
+pub struct Numbered<'a, N: Numbers> {
+    /// Its number.
+    pub number: u32,
+    /// Where that is posted, and lesser ones are looked for.
+    pub found: &'a Found<N>,
+}
+
 /// The least number of a subproblem with a solution that the seat then sees, if it is below `number`.
 pub fn lesser_seen<N: Numbers>(found: &Found<N>, seat: &mut FoundSeat, number: u32) -> Option<u32>
     requires seat { IsFoundSeatOf found.now seat.old }
@@ -61,23 +70,22 @@ fn search_first<R: Threads + Sync, L: Gate + Sync, N: Numbers>(
     alloc: Global,
     run: &Run<'_, L>,
     searcher: &mut Searcher,
-    number: u32,
-    found: &Found<N>,
+    numbered: &Numbered<'_, N>,
     seat: &mut FoundSeat,
 ) -> Result<FirstEnd, NoMemory>
     requires run { CanSearch run.now (count_of searcher.old) }
     requires boxes { boxes_of searcher.old ≡ searcher.old.boxes.current ∷ [] }
     requires ready { IsReady run.now searcher.old }
-    requires seat { IsFoundSeatOf found.now seat.old }
+    requires seat { IsFoundSeatOf numbered.now.found.now seat.old }
     ensures again { IfOk result (λ _. CanRestart run.now.program.now.kernels (count_of searcher.old) searcher.new) }
     ensures bottom { IfOk result (λ _. below_of searcher.new ≡ below_of searcher.old) }
-    ensures seat { IsFoundSeatOf found.now seat.new }
+    ensures seat { IsFoundSeatOf numbered.now.found.now seat.new }
     ensures parts { found_parts seat.new ≡ found_parts seat.old }
     ensures posted { numbers_posted seat.new ≡ numbers_posted seat.old }
     ensures seen { (n : ℕ) → Among (numbers_seen seat.old) n → Among (numbers_seen seat.new) n }
-    ensures end { IfOk result (IsFirstEnd (search_in run.now Kind.First searcher.old.boxes.current) number (numbers_seen seat.new)) }
+    ensures end { IfOk result (IsFirstEnd (search_in run.now Kind.First searcher.old.boxes.current) numbered.now.number (numbers_seen seat.new)) }
     ensures cut { IfOk result (λ end. (n : ℕ) → end ≡ FirstEnd.Cut n → N.has_solution n) }
-    ensures at_once { (n : ℕ) → Among (numbers_seen seat.old) n → n < number → IfOk result IsCut }
+    ensures at_once { (n : ℕ) → Among (numbers_seen seat.old) n → n < numbered.now.number → IfOk result IsCut }
 {
     law_branches();
     law_every_list();
@@ -87,7 +95,7 @@ fn search_first<R: Threads + Sync, L: Gate + Sync, N: Numbers>(
     let mut solutions = ListOf::new(alloc);
     let mut nodes = 0u64;
     'boxes: while searcher.has_next() {
-        if let Some(n) = lesser_seen(found, seat, number) {
+        if let Some(n) = lesser_seen(numbered.found, seat, numbered.number) {
             return Ok(FirstEnd::Cut(n));
         }
         if is_full(run.node_limit, nodes) {
@@ -120,27 +128,26 @@ fn run_unposted<R: Threads + Sync, L: Gate + Sync, N: Numbers>(
     run: &Run<'_, L>,
     start: Start,
     kept: &mut Kept,
-    number: u32,
-    found: &Found<N>,
+    numbered: &Numbered<'_, N>,
     seat: &mut FoundSeat,
 ) -> Result<Over<FirstEnd>, NoMemory>
     requires run { CanSearch run.now (length start.boxes.current) }
     requires made { IsMadeBy start.changed run.now.program.now.kernels start.boxes.current }
     requires searcher { IsKeptFor run.now.program.now.kernels (length start.boxes.current) kept.old }
-    requires seat { IsFoundSeatOf found.now seat.old }
+    requires seat { IsFoundSeatOf numbered.now.found.now seat.old }
     ensures over { IfOk result (λ over. IsOver start.boxes.stack over.boxes.stack × (length over.boxes.current ≡ length start.boxes.current)) }
     ensures searcher { IsKeptFor run.now.program.now.kernels (length start.boxes.current) kept.new }
     ensures spare { IfOk result (λ _. HasKept kept.new) }
-    ensures seat { IsFoundSeatOf found.now seat.new }
+    ensures seat { IsFoundSeatOf numbered.now.found.now seat.new }
     ensures parts { found_parts seat.new ≡ found_parts seat.old }
     ensures posted { numbers_posted seat.new ≡ numbers_posted seat.old }
     ensures seen { (n : ℕ) → Among (numbers_seen seat.old) n → Among (numbers_seen seat.new) n }
-    ensures end { IfOk result (λ over. IsFirstEnd (search_in run.now Kind.First start.boxes.current) number (numbers_seen seat.new) over.end) }
+    ensures end { IfOk result (λ over. IsFirstEnd (search_in run.now Kind.First start.boxes.current) numbered.now.number (numbers_seen seat.new) over.end) }
     ensures cut { IfOk result (λ over. (n : ℕ) → over.end ≡ FirstEnd.Cut n → N.has_solution n) }
-    ensures at_once { (n : ℕ) → Among (numbers_seen seat.old) n → n < number → IfOk result (λ over. IsCut over.end) }
+    ensures at_once { (n : ℕ) → Among (numbers_seen seat.old) n → n < numbered.now.number → IfOk result (λ over. IsCut over.end) }
 {
     let mut searcher = kept.begin(alloc, run, start)?;
-    let end = search_first(rt, alloc, run, &mut searcher, number, found, seat)?;
+    let end = search_first(rt, alloc, run, &mut searcher, numbered, seat)?;
     let (boxes, spare) = searcher.into_parts();
     kept.keep(spare);
     Ok(Over { end, boxes })
@@ -177,8 +184,12 @@ pub fn run_first<R: Threads + Sync, L: Gate + Sync, N: Numbers>(
         boxes: alone(alloc, sub)?,
         changed: None,
     };
+    let numbered = Numbered {
+        number,
+        found: &*found,
+    };
     let mut kept = Kept::new();
-    let over = run_first_from(rt, alloc, run, start, &mut kept, number, found, seat)?;
+    let over = run_first_from(rt, alloc, run, start, &mut kept, &numbered, seat)?;
     Ok(over.end)
 }
 
@@ -190,33 +201,32 @@ pub fn run_first_from<R: Threads + Sync, L: Gate + Sync, N: Numbers>(
     run: &Run<'_, L>,
     start: Start,
     kept: &mut Kept,
-    number: u32,
-    found: &Found<N>,
+    numbered: &Numbered<'_, N>,
     seat: &mut FoundSeat,
 ) -> Result<Over<FirstEnd>, NoMemory>
     requires run { IsRun run.now }
     requires inside { IsInside start.boxes.current run.now.program.now.start }
     requires made { IsMadeBy start.changed run.now.program.now.kernels start.boxes.current }
     requires searcher { IsKeptFor run.now.program.now.kernels (length start.boxes.current) kept.old }
-    requires seat { IsFoundSeatOf found.now seat.old }
+    requires seat { IsFoundSeatOf numbered.now.found.now seat.old }
     requires solution { (solutions : List (List ℤ)) → SolutionsIn run.now.model.now run.now.program.now.kernels start.boxes.current solutions →
-        solutions ≢ [] → N.has_solution number }
+        solutions ≢ [] → N.has_solution numbered.now.number }
     ensures over { IfOk result (λ over. IsOver start.boxes.stack over.boxes.stack × (length over.boxes.current ≡ length start.boxes.current)) }
     ensures searcher { IsKeptFor run.now.program.now.kernels (length start.boxes.current) kept.new }
     ensures spare { IfOk result (λ _. HasKept kept.new) }
-    ensures seat { IsFoundSeatOf found.now seat.new }
+    ensures seat { IsFoundSeatOf numbered.now.found.now seat.new }
     ensures parts { found_parts seat.new ≡ found_parts seat.old }
     ensures seen { (n : ℕ) → Among (numbers_seen seat.old) n → Among (numbers_seen seat.new) n }
-    ensures end { IfOk result (λ over. IsFirstEnd (search_in run.now Kind.First start.boxes.current) number (numbers_seen seat.new) over.end) }
+    ensures end { IfOk result (λ over. IsFirstEnd (search_in run.now Kind.First start.boxes.current) numbered.now.number (numbers_seen seat.new) over.end) }
     ensures cut { IfOk result (λ over. (n : ℕ) → over.end ≡ FirstEnd.Cut n → N.has_solution n) }
-    ensures at_once { (n : ℕ) → Among (numbers_seen seat.old) n → n < number → IfOk result (λ over. IsCut over.end) }
-    ensures posts { IfOk result (λ over. numbers_posted seat.new ≡ posts_of number (numbers_posted seat.old) over.end) }
+    ensures at_once { (n : ℕ) → Among (numbers_seen seat.old) n → n < numbered.now.number → IfOk result (λ over. IsCut over.end) }
+    ensures posts { IfOk result (λ over. numbers_posted seat.new ≡ posts_of numbered.now.number (numbers_posted seat.old) over.end) }
     ensures err { OnErr result (numbers_posted seat.new ≡ numbers_posted seat.old) }
 {
     law_can_search(run, start.boxes.current());
-    let over = run_unposted(rt, alloc, run, start, kept, number, found, seat)?;
+    let over = run_unposted(rt, alloc, run, start, kept, numbered, seat)?;
     if let FirstEnd::Done(Some(_)) = &over.end {
-        found.post(seat, number);
+        numbered.found.post(seat, numbered.number);
     }
     Ok(over)
 }

@@ -2,7 +2,7 @@
 
 ghost use Rattle.std.specs.Prelude.{◌≡◌, ◌<◌, ◌≤◌, ◌+◌, ◌*◌, ◌/◌, min, length, slice_index, IfOk};
 
-use crew::{Gate, Job, NoGate, Workers, run_numbers};
+use crew::{Gate, Job, NoGate, Work, Workers, run_numbers};
 use interval::NoMemory;
 use list_of::ListOf;
 use std::alloc::Global;
@@ -104,7 +104,12 @@ fn double_all<R: Threads + Sync, C: Gate + Sync>(
         ensures value { IfOk result (λ end. end ≡ 2 * number) }
         ensures counted { IfOk result (λ end. seat.exit.now.runs ≡ min (seat.entry.now.runs + 1) 18446744073709551615) }
     { double(job, own, seat, number) };
-    let ends = run_numbers(rt, alloc, crew, job, &run, count, gate, seat)?;
+    let work = Work {
+        job: &*job,
+        run: &run,
+        count,
+    };
+    let ends = run_numbers(rt, alloc, crew, &work, gate, seat)?;
     Ok(ends)
 }
 
@@ -329,7 +334,12 @@ fn halve_all<R: Threads + Sync>(
         requires { number < length job.now.numbers.now }
         ensures { IfOk result (λ end. end ≡ slice_index job.entry.now.numbers.now number / 2) }
     { Ok(job.numbers[number as usize] / 2) };
-    let ends = run_numbers(rt, alloc, crew, job, &run, count, &NoGate, &mut ())?;
+    let work = Work {
+        job: &*job,
+        run: &run,
+        count,
+    };
+    let ends = run_numbers(rt, alloc, crew, &work, &NoGate, &mut ())?;
     Ok(ends)
 }
 

@@ -1,4 +1,5 @@
-//! A model of one variable, cut by hand: all subproblems at once, each by its number alone, and one after another.
+//! A model of one variable, cut by hand: all subproblems at once, each by its number alone, and one after another, also with a
+//! best cost.
 
 ghost use Rattle.std.specs.Prelude.{◌≡◌, ◌<◌, ◌≤◌, ◌^◌, List, length, OnOk};
 ghost use Rattle.interval.specs.Boxes.{Bounds};
@@ -18,6 +19,13 @@ use subproblems::{expand, numbers_to, path_box};
 use trailed_box::TrailedBox;
 
 const FOUR: &str = "var 0..3: x; solve satisfy;";
+
+/// The lesser values cost less, and come first.
+const LEAST: &str = "var 0..3: x; solve minimize x;";
+
+/// So they do, and the values are halved.
+const LEAST_OF_HALVES: &str =
+    "var 0..3: x; solve :: int_search([x],input_order,indomain_split,complete) minimize x;";
 
 /// The bounds of the variable, which has pair 1.
 fn bounds(b: &BoxOf) -> Option<(i64, i64)> {
@@ -191,5 +199,89 @@ fn numbers_lead_to_the_subproblems(rt: HostRuntime) -> Result<(), Fail> {
     for steps in [IN_ORDER, DEEP, BACK_AND_FORTH, TO_OTHER_DEPTHS] {
         assert_walk(&rt, rt.alloc(), &cut, steps)?;
     }
+    Ok(())
+}
+
+/// What a walk gives for a number to depth 2, where so much is the best cost.
+fn asked_below(
+    alloc: Global,
+    cut: &Compiled,
+    walk: &mut Walk,
+    number: u32,
+    best: i64,
+) -> Result<Option<(i64, i64)>, NoMemory>
+    requires compiled { IsCompiled cut.now.model cut.now.program cut.now.masks }
+    requires number { number < 2 ^ 2 }
+    requires walk { IsWalkFrom cut.now.model cut.now.program.kernels cut.now.program.start walk.old }
+    ensures { IsWalkFrom cut.now.model cut.now.program.kernels cut.now.program.start walk.new }
+{
+    let tree = Tree {
+        model: &cut.model,
+        program: &cut.program,
+        masks: &cut.masks,
+        start: &cut.program.start,
+        depth: 2,
+    };
+    match walk.path_box_below(alloc, &tree, number, Some(best))? {
+        None => Ok(None),
+        Some(sub) => given_back(walk, sub),
+    }
+}
+
+/// A number, the best cost, and the bounds where the number leads to.
+type Below = (u32, i64, Option<(i64, i64)>);
+
+/// A walk goes from number to number, each with a best cost of its own.
+fn assert_below(
+    rt: &impl Abort,
+    alloc: Global,
+    cut: &Compiled,
+    steps: &[Below],
+) -> Result<(), NoMemory>
+    requires { IsCompiled cut.now.model cut.now.program cut.now.masks }
+{
+    let mut walk = Walk::new(alloc);
+    for (number, best, expected) in steps {
+        assert!(rt; *number < 4);
+        let found = asked_below(alloc, cut, &mut walk, *number, *best)?;
+        assert_eq!(rt; found, *expected, "at {number} below {best}");
+    }
+    Ok(())
+}
+
+#[test]
+fn what_costs_no_less_is_not_gone_to(rt: HostRuntime) -> Result<(), Fail> {
+    const BELOW_ONE: &[Below] = &[
+        (0, 1, Some((0, 0))),
+        (1, 1, None),
+        (2, 1, None),
+        (3, 1, None),
+    ];
+    // nothing costs less than 0, and all costs less than 4
+    const BACK_AND_FORTH: &[Below] = &[
+        (3, 1, None),
+        (3, 4, Some((2, 3))),
+        (2, 4, Some((1, 1))),
+        (2, 0, None),
+        (0, 4, Some((0, 0))),
+    ];
+    let cut = compile_text(rt.alloc(), LEAST)?;
+    for steps in [BELOW_ONE, BACK_AND_FORTH] {
+        assert_below(&rt, rt.alloc(), &cut, steps)?;
+    }
+    Ok(())
+}
+
+#[test]
+fn what_costs_less_is_gone_to(rt: HostRuntime) -> Result<(), Fail> {
+    const BELOW_ONE: &[Below] = &[
+        (0, 1, Some((0, 0))),
+        (1, 1, Some((1, 1))),
+        (2, 1, None),
+        (3, 1, None),
+        (3, 3, Some((3, 3))),
+    ];
+    let cut = compile_text(rt.alloc(), LEAST_OF_HALVES)?;
+    assert_below(&rt, rt.alloc(), &cut, BELOW_ONE)?;
     Ok(())
 }

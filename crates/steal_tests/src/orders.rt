@@ -1,6 +1,6 @@
 //! The order in which one worker of a crew gets the numbers, while the other is held up.
 
-use crew::{Gate, Job, Workers, run_numbers};
+use crew::{Gate, Job, Work, Workers, run_numbers};
 use interval::NoMemory;
 use list_of::ListOf;
 use std::alloc::Global;
@@ -91,7 +91,12 @@ fn ranks<R: Threads + Sync>(
     let run = |_own: &mut (), _seat: &mut (), _number: u32| -> Result<u64, NoMemory> {
         Ok(job.made.fetch_add(1, Ordering::SeqCst))
     };
-    run_numbers(rt, alloc, crew, &job, &run, 4, gate, &mut ())
+    let work = Work {
+        job: &job,
+        run: &run,
+        count: 4,
+    };
+    run_numbers(rt, alloc, crew, &work, gate, &mut ())
 }
 
 #[test]

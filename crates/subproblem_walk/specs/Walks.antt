@@ -106,6 +106,7 @@ MayEndAt below End.Failed = 0 < below
 MayEndAt below End.Fixed = 0 < below
 MayEndAt below (End.Beaten cost) = 0 < below
 
+-- the walk's way is the whole one to a number to a depth, or one to a box on it that is beaten
 pub record IsWayTowards (depth number : ℕ) (walk : Walk) : Type 0 where
   pub below : ℕ
   pub rest : ℕ

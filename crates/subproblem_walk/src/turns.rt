@@ -59,7 +59,8 @@ pub(crate) fn first_turn(address: Address) -> (bool, Address)
 
 /// The bounds that are put in the part on the side of a turn.
 pub(crate) fn part_on(goes_right: bool, branching: &Branching) -> Part
-    ensures part { (closed : Bounds) → put_of closed result.var result.low result.high ≡ side_of goes_right (left_by closed branching.now) (right_by closed branching.now) }
+    ensures part { (closed : Bounds) →
+        put_of closed result.var result.low result.high ≡ side_of goes_right (left_by closed branching.now) (right_by closed branching.now) }
     ensures pair { result.var ≡ branching.now.pair }
     ensures fits { (closed : Bounds) → FitsBox closed branching.now → IsPart (length closed) result.var result.low result.high }
 {

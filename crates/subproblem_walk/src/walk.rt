@@ -140,7 +140,8 @@ fn lead(
     requires goal { IfSome best (λ _. IsGoalOf tree.now.model.now.vars tree.now.model.now.goal) }
     ensures way { IfOk result (IsReached tree.now.model.now tree.now.program.now.kernels address sub.old.boxes sub.new.boxes turns.old.items turns.new.items) }
     ensures end_for { IfOk result (λ reached. IsEndFor best reached.end) }
-    ensures made { IfOk result (λ reached. IsLedTo reached.end reached.rest.number → IsMadeBy sub.new.changed tree.now.program.now.kernels sub.new.boxes.current) }
+    ensures made { IfOk result (λ reached.
+        IsLedTo reached.end reached.rest.number → IsMadeBy sub.new.changed tree.now.program.now.kernels sub.new.boxes.current) }
     ensures told { (address.depth ≡ 0 → sub.old.changed ≢ None) → IfOk result (λ reached. IsLedTo reached.end reached.rest.number → sub.new.changed ≢ None) }
     ensures length { length sub.new.boxes.current ≡ length sub.old.boxes.current }
     ensures sets { OnOk result (Serve sets.new tree.now.program.now.kernels (length sub.old.boxes.current)) }
@@ -252,7 +253,8 @@ impl Walk {
         requires number { number < 2 ^ tree.now.depth }
         requires walk { IsWalkFrom tree.now.model.now tree.now.program.now.kernels tree.now.start.now self.old }
         requires goal { IfSome best (λ _. IsGoalOf tree.now.model.now.vars tree.now.model.now.goal) }
-        ensures path { IfOk result (λ found. LeadsBelow tree.now.model.now tree.now.program.now.kernels tree.now.depth tree.now.start.now number best (box_of found)) }
+        ensures path { IfOk result (λ found.
+            LeadsBelow tree.now.model.now tree.now.program.now.kernels tree.now.depth tree.now.start.now number best (box_of found)) }
         ensures inside { IfOk result (λ found. IfSome (box_of found) (λ b. IsInside b tree.now.start.now)) }
         ensures made { IfOk result (IsMadeFrom tree.now.program.now.kernels) }
         ensures told { tree.now.depth ≢ 0 → IfOk result IsTold }

@@ -1,5 +1,6 @@
-use Rattle.answer.proofs.JobLaws.{inside_more}
+use Rattle.std.proofs.Common.{inl, inr}
 use Rattle.answer.proofs.plan.subproblem.Goals as goal
 
-pub returns-clause-inside : goal.returns-clause-inside
-returns-clause-inside g c = inside_more c.law_inside_order.ensures c.in_ok-found.found c.args.plan.now.start.now c.args.plan.now.run.now.program.now.start c.in_ok-found.ensures.inside c.requires.plan.inside
+-- without a best cost nothing is beaten
+pub returns-clause-path : goal.returns-clause-path
+returns-clause-path g c = elim c.in_ok-found.ensures.path [ inl leads ↦ leads | inr none ↦ absurd none.1 ]

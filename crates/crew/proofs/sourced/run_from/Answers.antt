@@ -13,17 +13,17 @@ use Rattle.crew.proofs.Hired.{all_may_start, rights_drawn, turns_asked}
 use Rattle.crew.proofs.sourced.run_from.Goals as goal
 
 pub returns-in_err-room-clause-made : goal.returns-in_err-room-clause-made
-returns-in_err-room-clause-made g c = λ kept. on_err _ _ (no_runs (g.J.Job.stands c.args.job.now) c.args.dealt.count c.args.seat.now c.requires.none)
+returns-in_err-room-clause-made g c = λ kept. on_err _ _ (no_runs (g.J.Job.stands c.args.work.now.job.now) c.args.work.now.count c.args.seat.now c.requires.none)
 
 pub returns-in_err-workers-clause-made : goal.returns-in_err-workers-clause-made
-returns-in_err-workers-clause-made g c = λ kept. on_err _ _ (no_runs (g.J.Job.stands c.args.job.now) c.args.dealt.count c.args.seat.now c.requires.none)
+returns-in_err-workers-clause-made g c = λ kept. on_err _ _ (no_runs (g.J.Job.stands c.args.work.now.job.now) c.args.work.now.count c.args.seat.now c.requires.none)
 
 pub returns-in_err-recruits-clause-made : goal.returns-in_err-recruits-clause-made
-returns-in_err-recruits-clause-made g c = λ kept. on_err _ _ (no_runs (g.J.Job.stands c.args.job.now) c.args.dealt.count c.args.seat.now c.requires.none)
+returns-in_err-recruits-clause-made g c = λ kept. on_err _ _ (no_runs (g.J.Job.stands c.args.work.now.job.now) c.args.work.now.count c.args.seat.now c.requires.none)
 
 pub work_all-requires-clause-hired : goal.work_all-requires-clause-hired
 work_all-requires-clause-hired g c κs within =
-    subst (All (λ (w : Worker g.row.N.Denot g.row.S.Denot g.row.W.Denot g.row.E.Denot). IsHired (g.J.Job.fits c.args.job.now) g.J.Job.has_parts (g.J.Job.owns c.args.job.now) (g.J.Job.stands c.args.job.now) w))
+    subst (All (λ (w : Worker g.row.N.Denot g.row.S.Denot g.row.W.Denot g.row.E.Denot). IsHired (g.J.Job.fits c.args.work.now.job.now) g.J.Job.has_parts (g.J.Job.owns c.args.work.now.job.now) (g.J.Job.stands c.args.work.now.job.now) w))
     (sym c.deref_mut.ensures.value) c.hire_all.ensures.hired
 
 pub work_all-requires-clause-may_start : goal.work_all-requires-clause-may_start
@@ -34,14 +34,14 @@ work_all-requires-clause-may_start g c κs within =
 pub gather-requires-clause-seat : goal.gather-requires-clause-seat
 gather-requires-clause-seat g c =
     let size : length c.work_all.new.workers ≡ length c.hire_all.new.workers.items = search rules in
-    subst (λ xs. IsFirstSeat (g.J.Job.fits c.args.job.now) g.J.Job.has_parts (length xs) c.hire_all.new.seat)
+    subst (λ xs. IsFirstSeat (g.J.Job.fits c.args.work.now.job.now) g.J.Job.has_parts (length xs) c.hire_all.new.seat)
     (sym (written c.hire_all.new.workers.items c.work_all.new.workers c.hire_all.new.workers.len (search rules) size))
-    (subst (λ n. IsFirstSeat (g.J.Job.fits c.args.job.now) g.J.Job.has_parts n c.hire_all.new.seat) (sym size) c.hire_all.ensures.seat)
+    (subst (λ n. IsFirstSeat (g.J.Job.fits c.args.work.now.job.now) g.J.Job.has_parts n c.hire_all.new.seat) (sym size) c.hire_all.ensures.seat)
 
 pub gather-requires-clause-back : goal.gather-requires-clause-back
 gather-requires-clause-back g c =
-    all_written (λ (w : Worker g.row.N.Denot g.row.S.Denot g.row.W.Denot g.row.E.Denot). IsBack (g.Q.Source.is_right c.args.dealt.source) g.Q.Source.drawn (g.Q.Source.has_passed c.args.dealt.source) (g.J.Job.fits c.args.job.now) g.J.Job.has_parts (g.J.Job.stands c.args.job.now) w) c.hire_all.new.workers.items c.work_all.new.workers c.hire_all.new.workers.len (search rules) (search rules)
-    (subst (λ xs. (i : ℕ) (d : Worker g.row.N.Denot g.row.S.Denot g.row.W.Denot g.row.E.Denot) → i < length xs → IsBack (g.Q.Source.is_right c.args.dealt.source) g.Q.Source.drawn (g.Q.Source.has_passed c.args.dealt.source) (g.J.Job.fits c.args.job.now) g.J.Job.has_parts (g.J.Job.stands c.args.job.now) (get_or c.work_all.new.workers i d)) c.deref_mut.ensures.value c.work_all.ensures.back)
+    all_written (λ (w : Worker g.row.N.Denot g.row.S.Denot g.row.W.Denot g.row.E.Denot). IsBack (g.Q.Source.is_right c.args.dealt.source) g.Q.Source.drawn (g.Q.Source.has_passed c.args.dealt.source) (g.J.Job.fits c.args.work.now.job.now) g.J.Job.has_parts (g.J.Job.stands c.args.work.now.job.now) w) c.hire_all.new.workers.items c.work_all.new.workers c.hire_all.new.workers.len (search rules) (search rules)
+    (subst (λ xs. (i : ℕ) (d : Worker g.row.N.Denot g.row.S.Denot g.row.W.Denot g.row.E.Denot) → i < length xs → IsBack (g.Q.Source.is_right c.args.dealt.source) g.Q.Source.drawn (g.Q.Source.has_passed c.args.dealt.source) (g.J.Job.fits c.args.work.now.job.now) g.J.Job.has_parts (g.J.Job.stands c.args.work.now.job.now) (get_or c.work_all.new.workers i d)) c.deref_mut.ensures.value c.work_all.ensures.back)
 
 pub gather-requires-clause-all : goal.gather-requires-clause-all
 gather-requires-clause-all g c =
@@ -52,19 +52,19 @@ gather-requires-clause-all g c =
     (subst (λ xs. (i : ℕ) (d : Worker g.row.N.Denot g.row.S.Denot g.row.W.Denot g.row.E.Denot) → i < length xs → KeepsSame g.Q.Source.same (get_or xs i d).right (get_or c.work_all.new.workers i d).right) c.deref_mut.ensures.value c.work_all.ensures.same))
 
 pub in_order-requires : goal.in_order-requires
-in_order-requires g c = subst (λ n. IsEachOnce n (numbers_of c.in_ok-runs.runs.items)) c.requires.count c.in_ok-runs.ensures.each_once
+in_order-requires g c = subst (λ n. IsEachOnce n (numbers_of c.in_ok-runs.runs.items)) c.requires.source c.in_ok-runs.ensures.each_once
 
 pub returns-in_err-runs-clause-made : goal.returns-in_err-runs-clause-made
 returns-in_err-runs-clause-made g c = λ kept. on_err _ _
-    (subst (λ n. AreSomeRuns n (g.J.Job.stands c.args.job.now c.gather.new.seat)) c.requires.count
+    (subst (λ n. AreSomeRuns n (g.J.Job.stands c.args.work.now.job.now c.gather.new.seat)) c.requires.source
     (c.gather.ensures.made
-    (all_written (λ (w : Worker g.row.N.Denot g.row.S.Denot g.row.W.Denot g.row.E.Denot). HaveRunSome (g.J.Job.stands c.args.job.now) (g.Q.Source.drawn w.right) w.seat) c.hire_all.new.workers.items c.work_all.new.workers c.hire_all.new.workers.len (search rules) (search rules)
-    (subst (λ xs. (i : ℕ) (d : Worker g.row.N.Denot g.row.S.Denot g.row.W.Denot g.row.E.Denot) → i < length xs → HaveRunSome (g.J.Job.stands c.args.job.now) (g.Q.Source.drawn (get_or c.work_all.new.workers i d).right) (get_or c.work_all.new.workers i d).seat) c.deref_mut.ensures.value (c.work_all.ensures.made kept)))))
+    (all_written (λ (w : Worker g.row.N.Denot g.row.S.Denot g.row.W.Denot g.row.E.Denot). HaveRunSome (g.J.Job.stands c.args.work.now.job.now) (g.Q.Source.drawn w.right) w.seat) c.hire_all.new.workers.items c.work_all.new.workers c.hire_all.new.workers.len (search rules) (search rules)
+    (subst (λ xs. (i : ℕ) (d : Worker g.row.N.Denot g.row.S.Denot g.row.W.Denot g.row.E.Denot) → i < length xs → HaveRunSome (g.J.Job.stands c.args.work.now.job.now) (g.Q.Source.drawn (get_or c.work_all.new.workers i d).right) (get_or c.work_all.new.workers i d).seat) c.deref_mut.ensures.value (c.work_all.ensures.made kept)))))
 
 pub returns-clause-ends : goal.returns-clause-ends
 returns-clause-ends g c =
-    IfOk-weaker c.in_order.result (AreInOrder c.args.dealt.count c.in_ok-runs.runs.items)
-    (AreEndsOf c.args.dealt.count (g.J.Job.stands c.args.job.now c.gather.new.seat)) (λ ends order. record {
+    IfOk-weaker c.in_order.result (AreInOrder c.args.work.now.count c.in_ok-runs.runs.items)
+    (AreEndsOf c.args.work.now.count (g.J.Job.stands c.args.work.now.job.now c.gather.new.seat)) (λ ends order. record {
       runs = c.in_ok-runs.runs.items;
       stand = c.in_ok-runs.ensures.run;
       in_order = order;
@@ -72,10 +72,10 @@ returns-clause-ends g c =
 
 pub returns-clause-made : goal.returns-clause-made
 returns-clause-made g c = λ kept. on_err _ _
-    (subst (λ n. AreSomeRuns n (g.J.Job.stands c.args.job.now c.gather.new.seat)) c.requires.count
+    (subst (λ n. AreSomeRuns n (g.J.Job.stands c.args.work.now.job.now c.gather.new.seat)) c.requires.source
     (c.gather.ensures.made
-    (all_written (λ (w : Worker g.row.N.Denot g.row.S.Denot g.row.W.Denot g.row.E.Denot). HaveRunSome (g.J.Job.stands c.args.job.now) (g.Q.Source.drawn w.right) w.seat) c.hire_all.new.workers.items c.work_all.new.workers c.hire_all.new.workers.len (search rules) (search rules)
-    (subst (λ xs. (i : ℕ) (d : Worker g.row.N.Denot g.row.S.Denot g.row.W.Denot g.row.E.Denot) → i < length xs → HaveRunSome (g.J.Job.stands c.args.job.now) (g.Q.Source.drawn (get_or c.work_all.new.workers i d).right) (get_or c.work_all.new.workers i d).seat) c.deref_mut.ensures.value (c.work_all.ensures.made kept)))))
+    (all_written (λ (w : Worker g.row.N.Denot g.row.S.Denot g.row.W.Denot g.row.E.Denot). HaveRunSome (g.J.Job.stands c.args.work.now.job.now) (g.Q.Source.drawn w.right) w.seat) c.hire_all.new.workers.items c.work_all.new.workers c.hire_all.new.workers.len (search rules) (search rules)
+    (subst (λ xs. (i : ℕ) (d : Worker g.row.N.Denot g.row.S.Denot g.row.W.Denot g.row.E.Denot) → i < length xs → HaveRunSome (g.J.Job.stands c.args.work.now.job.now) (g.Q.Source.drawn (get_or c.work_all.new.workers i d).right) (get_or c.work_all.new.workers i d).seat) c.deref_mut.ensures.value (c.work_all.ensures.made kept)))))
 
 pub returns-clause-turns : goal.returns-clause-turns
 returns-clause-turns g c = on_ok c.in_order.result

@@ -12,7 +12,7 @@ search_first-requires-clause-run g c = λ ks b. subst (λ (b : Bounds). CanSearc
 
 pub returns-clause-end : goal.returns-clause-end
 returns-clause-end g c =
-    subst (λ (b : Bounds). IsFirstEnd (search_in c.args.run.now Kind.First b) c.args.number (numbers_seen c.search_first.new.seat) c.in_ok-end.end) c.in_ok-searcher.ensures.current
+    subst (λ (b : Bounds). IsFirstEnd (search_in c.args.run.now Kind.First b) c.args.numbered.now.number (numbers_seen c.search_first.new.seat) c.in_ok-end.end) c.in_ok-searcher.ensures.current
     c.in_ok-end.ensures.end
 
 pub returns-clause-over : goal.returns-clause-over

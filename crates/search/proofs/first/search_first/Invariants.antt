@@ -21,11 +21,11 @@ invariant-boxes g l = record {
   ready : IsReady l.run l.searcher;
   same_count : count_of l.searcher ≡ count_of l.initial.searcher;
   bottom : below_of l.searcher ≡ below_of l.initial.searcher;
-  seat : IsFoundSeatOf l.found l.seat;
+  seat : IsFoundSeatOf l.numbered.found.now l.seat;
   parts : found_parts l.seat ≡ found_parts l.initial.seat;
   posted : numbers_posted l.seat ≡ numbers_posted l.initial.seat;
   seen : (n : ℕ) → Among (numbers_seen l.initial.seat) n → Among (numbers_seen l.seat) n;
-  fresh : (n : ℕ) → Among (numbers_seen l.initial.seat) n → n < l.number → boxes_of l.searcher ≢ [];
+  fresh : (n : ℕ) → Among (numbers_seen l.initial.seat) n → n < l.numbered.number → boxes_of l.searcher ≢ [];
 }
 
 abbrev pub decreases-boxes : goal.decreases-boxes

@@ -133,13 +133,13 @@ module _ (quotients : QuotientOrder) (clamped : ClampOrder) (b : Bounds) (k : Ke
     second_proper : p.second.least ≤ℤ p.second.greatest
     second_proper = let r = least_under_greatest b (negsuc 0, y) in let l = within.second.least in let g = within.second.greatest in omega (arith, ints)
 
-    equation_none : sums.least ≤ℤ c → c ≤ℤ sums.greatest → narrowing b (equation_tells l c sums.least sums.greatest) ≡ []
+    pub equation_none : sums.least ≤ℤ c → c ≤ℤ sums.greatest → narrowing b (equation_tells l c sums.least sums.greatest) ≡ []
     equation_none low high = none_narrows b (equation_tells l c sums.least sums.greatest)
         (All-append (Keeps b) (when (int_lt c sums.least || int_lt sums.greatest c) (tell_false l ∷ [])) (when (is_same sums.least c && is_same sums.greatest c) (tell_true l ∷ []))
         (All-when (Keeps b) (int_lt c sums.least || int_lt sums.greatest c) (tell_false l ∷ []) (λ e. ⊎_elim (λ q. absurd (omega (arith, ints))) (λ q. absurd (omega (arith, ints))) (or_cases (int_lt c sums.least) (int_lt sums.greatest c) e)))
         (All-when (Keeps b) (is_same sums.least c && is_same sums.greatest c) (tell_true l ∷ []) (λ e. All-one (Keeps b) (tell_true l) (sure_keeps clamped b l sure))))
 
-    literal_none : sums.least ≤ℤ c → narrowing b (literal_tells l c sums.least sums.greatest) ≡ []
+    pub literal_none : sums.least ≤ℤ c → narrowing b (literal_tells l c sums.least sums.greatest) ≡ []
     literal_none low = none_narrows b (literal_tells l c sums.least sums.greatest)
         (All-append (Keeps b) (when (int_le sums.greatest c) (tell_true l ∷ [])) (when (int_lt c sums.least) (tell_false l ∷ []))
         (All-when (Keeps b) (int_le sums.greatest c) (tell_true l ∷ []) (λ e. All-one (Keeps b) (tell_true l) (sure_keeps clamped b l sure)))
@@ -152,11 +152,11 @@ module _ (quotients : QuotientOrder) (clamped : ClampOrder) (b : Bounds) (k : Ke
     abbrev rising : Room
     rising = record { rise = Some (c -ℤ sums.least); fall = None }
 
-    both_is : both ≡ room_equal b l c sums
+    pub both_is : both ≡ room_equal b l c sums
     unfolding room_equal
     both_is = (λ i. cond (sym sure i) both any_room)
 
-    rising_is : rising ≡ room_at_most b l c sums
+    pub rising_is : rising ≡ room_at_most b l c sums
     unfolding room_at_most
     rising_is = (λ i. cond (sym sure i) rising (cond (is_out l b) (record { rise = None; fall = Some (sums.greatest -ℤ (c +ℤ pos 1)) }) any_room))
 

@@ -12,7 +12,9 @@ pub mod DifferenceLaws
 pub mod FoundLaws
 pub mod SideLaws
 pub mod OneLaws
+pub mod LastLaws
 pub mod FailLaws
 mod FewLaws
 mod NaturalLaws
 mod ThreeLaws
+mod HeldLaws

@@ -1,6 +1,5 @@
 -- What a shape says that its kernel tells, where that is one tell.
-use Rattle.std.proofs.Common.{◌≡◌, ℕ, zero, suc, List, [], ◌∷◌, ◌++◌, Bool, true, false, not, cond, ◌&&◌, ◌||◌, Option, None, Some, ℤ, pos, negsuc, ◌+ℤ◌, ◌-ℤ◌, ◌*ℤ◌, ◌≤ℤ◌, ◌<ℤ◌, unsigned_abs, to_z, of_z, refl, sym, ◌∙◌, arith}
-use Rattle.std.specs.Prelude.{MatchOption}
+use Rattle.std.proofs.Common.{◌≡◌, ℕ, zero, suc, [], ◌∷◌, ◌++◌, Bool, true, false, not, cond, ◌&&◌, ◌||◌, None, Some, ℤ, pos, negsuc, ◌+ℤ◌, ◌-ℤ◌, ◌*ℤ◌, ◌≤ℤ◌, ◌<ℤ◌, unsigned_abs, to_z, of_z, refl, sym, ◌∙◌, arith}
 use Rattle.std.proofs.lemmas.Int.{ints, clamps}
 use Rattle.std.proofs.lemmas.Bool.{true≢false, and_from, cond-true}
 use Rattle.std.proofs.lemmas.List.{append-nil}
@@ -18,7 +17,7 @@ use Rattle.guarded_tell.specs.declared.kernel.Kernel.{Kernel}
 use Rattle.guarded_tell.specs.declared.shape.Shape.TheVariants.{AtMost, Same, Either, Triple}
 use Rattle.guarded_tell.specs.Words.{when, low_tell, high_tell, is_sure, is_out, sign_true, sign_tell, tell_true, tell_false}
 use Rattle.sum_tells.specs.Linear.{least_of, greatest_of}
-use Rattle.sum_tells.specs.Equality.{is_same, is_product, low_is_not, high_is_not, product_is_not}
+use Rattle.sum_tells.specs.Equality.{is_same, is_product, product_is_not}
 use Rattle.tell_laws.specs.Narrowing.{narrows, narrowing}
 use Rattle.guarded_tell.specs.Narrowing.{narrowing_tells}
 use Rattle.small_sums.specs.Short.{sums_of_two}
@@ -30,11 +29,6 @@ use Rattle.short_tells.proofs.GrowthLaws.{high_told, low_told}
 use Rattle.guarded_tell.proofs.ApartLaws.{either_tells, either_told, triple_tells, triple_told}
 use Rattle.guarded_tell.proofs.DifferenceLaws.{same_open, at_most_open, at_most_first, at_most_second}
 
--- what is said of the one tell goes on
-pub one_by : {P Q : Tell → Type 0} (o : Option Tell) → ((t : Tell) → P t → Q t) → MatchOption o (Unit {0}) P → MatchOption o (Unit {0}) Q
-one_by None f m = tt
-one_by (Some t) f m = f t m
-
 -- a limit is a bound, as the code reads it
 pub limit_bound : (z : ℤ) → IsNumber z → IsBound (to_z w64 (of_z w64 z))
 unfolding bound_limit largest_number
@@ -42,7 +36,7 @@ limit_bound z h = omega (arith, ints)
 
 -- ---- literals
 
-sign_not : (s : Bool) (z : ℤ) → not (sign_true s z) ≡ sign_true (not s) z
+pub sign_not : (s : Bool) (z : ℤ) → not (sign_true s z) ≡ sign_true (not s) z
 sign_not true z = by_bool (int_le (pos 1) z)
     (λ t. let f : false ≡ int_le z (pos 0) = omega (arith, ints) in (λ i. not (t i)) ∙ f)
     (λ f. let t : true ≡ int_le z (pos 0) = omega (arith, ints) in (λ i. not (f i)) ∙ t)
@@ -51,11 +45,11 @@ sign_not false z = by_bool (int_le z (pos 0))
     (λ f. let t : true ≡ int_le (pos 1) z = omega (arith, ints) in (λ i. not (f i)) ∙ t)
 
 module _ (clamped : ClampOrder) (b : Bounds) where
-  one_same : clamp_of (pos 1) ≡ pos 1
+  pub one_same : clamp_of (pos 1) ≡ pos 1
   unfolding bound_limit largest_number
   one_same = clamped.same (pos 1) (omega arith)
 
-  none_same : clamp_of (pos 0) ≡ pos 0
+  pub none_same : clamp_of (pos 0) ≡ pos 0
   none_same = clamped.same (pos 0) (omega arith)
 
   sign_told : (s : Bool) (v : ℕ) → (sign_true s (low_of b v) && sign_true s (high_of b v)) ≡ false → low_of b v ≤ℤ high_of b v → narrows b (sign_tell s v) ≡ true

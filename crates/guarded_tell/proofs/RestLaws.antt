@@ -53,15 +53,15 @@ high_bound b c v w p q = let x = w.low in let y = w.proper in let z = w.high in 
 
 -- ---- the two terms of a difference in a box inside
 
-record Terms (b c : Bounds) (x y : ℕ) (p : Pair) : Type 0 where
-  now : Pair
-  are : IsDifferenceIn c x y now
-  first_least : p.first.least ≤ℤ now.first.least
-  first_greatest : now.first.greatest ≤ℤ p.first.greatest
-  second_least : p.second.least ≤ℤ now.second.least
-  second_greatest : now.second.greatest ≤ℤ p.second.greatest
-  first_proper : now.first.least ≤ℤ now.first.greatest
-  second_proper : now.second.least ≤ℤ now.second.greatest
+pub record Terms (b c : Bounds) (x y : ℕ) (p : Pair) : Type 0 where
+  pub now : Pair
+  pub are : IsDifferenceIn c x y now
+  pub first_least : p.first.least ≤ℤ now.first.least
+  pub first_greatest : now.first.greatest ≤ℤ p.first.greatest
+  pub second_least : p.second.least ≤ℤ now.second.least
+  pub second_greatest : now.second.greatest ≤ℤ p.second.greatest
+  pub first_proper : now.first.least ≤ℤ now.first.greatest
+  pub second_proper : now.second.least ≤ℤ now.second.greatest
 
 terms : (b c : Bounds) (x y : ℕ) (p : Pair) → IsDifferenceIn b x y p → Lies b c x → Lies b c y → Terms b c x y p
 unfolding least_of greatest_of
@@ -148,16 +148,16 @@ pub literals_all : (n : ℕ) (lits : List Lit) → AreVariables n (clause_vars l
 literals_all n lits vars i d h = let at = literal_at lits i d h in subst (λ (v : ℕ). v < n) at.1 (vars.each i at.0)
 
 module _ (quotients : QuotientOrder) (clamped : ClampOrder) (b : Bounds) (k : Kernel) (kernel : IsKernel (length b) k) where
-  kernel_in : (c : Bounds) → IsInside c b → IsKernel (length c) k
+  pub kernel_in : (c : Bounds) → IsInside c b → IsKernel (length c) k
   kernel_in c inside = subst (λ (n : ℕ). IsKernel n k) (sym inside.same_length) kernel
 
   module _ (l : Lit) (x y : ℕ) (limit : ℤ) (p : Pair) (within : IsDifferenceIn b x y p) where
     -- what stands in a box inside
-    record Found (c : Bounds) : Type 0 where
-      literal : Lies b c l.var
-      terms : Terms b c x y p
+    pub record Found (c : Bounds) : Type 0 where
+      pub literal : Lies b c l.var
+      pub terms : Terms b c x y p
 
-    found : (c : Bounds) → IsInside c b → HasPlaces c l x y → Found c
+    pub found : (c : Bounds) → IsInside c b → HasPlaces c l x y → Found c
     found c inside places =
         let same = inside.same_length in
         let a = places.literal in let d = places.first in let e = places.second in

@@ -69,7 +69,7 @@ module _ (clamped : ClampOrder) (b : Bounds) (x : ℕ) (z : ℤ) where
 -- ---- the tells of one term
 
 module _ (quotients : QuotientOrder) where
-  whole : (r : ℤ) → floor_of r (pos 1) ≡ r
+  pub whole : (r : ℤ) → floor_of r (pos 1) ≡ r
   whole r =
       let up = (quotients.floor_above_zero r (pos 1) r (omega (arith, ints))).1 (omega (arith, ints)) in
       let down = (quotients.floor_above_zero r (pos 1) (floor_of r (pos 1)) (omega (arith, ints))).0 (omega (arith, ints)) in
@@ -89,6 +89,14 @@ module _ (quotients : QuotientOrder) where
         let down = fall_below quotients b (negsuc 0) x proper fall fall (pos 1) refl (omega (arith, ints)) refl ∙ (λ i. high_tell x (low_of b x +ℤ whole fall i) ∷ []) in
         filter-append (narrows b) (rise_tells b (Some rise) (negsuc 0, x)) (fall_tells b (Some fall) (negsuc 0, x))
         ∙ (λ i. narrowing b (up i) ++ narrowing b (down i))
+
+    -- a term that may rise and fall by as much as its bounds are apart is told nothing
+    pub term_kept : ClampOrder → IsBound (low_of b x) → IsBound (high_of b x) → (s : Sign) → (high_of b x -ℤ low_of b x) ≤ℤ rise → (high_of b x -ℤ low_of b x) ≤ℤ fall →
+        narrowing b (room_tells b (room_of rise fall) (unit_of s, x)) ≡ []
+    term_kept clamped low high Plus up down =
+        plus_told ∙ (λ i. high_kept clamped b x (low_of b x +ℤ rise) high (omega (arith, ints)) i ++ low_kept clamped b x (high_of b x -ℤ fall) low (omega (arith, ints)) i)
+    term_kept clamped low high Minus up down =
+        minus_told ∙ (λ i. low_kept clamped b x (high_of b x -ℤ rise) low (omega (arith, ints)) i ++ high_kept clamped b x (low_of b x +ℤ fall) high (omega (arith, ints)) i)
 
 -- ---- the kernel's variables stand in the box, and its limit is a number
 

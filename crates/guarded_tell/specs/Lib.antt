@@ -12,4 +12,5 @@ pub mod Three
 pub mod Found
 pub mod Few
 pub mod Seen
+pub mod Held
 pub mod Natural

@@ -15,7 +15,7 @@ use tells::{stands_false, stands_true, tell_false, tell_true};
 /// The first tell of the kernel that narrows the box, where it is seen to leave its variable no number. It is the literal's, or
 /// that of a clause's first literal. Half of all nodes end so.
 #[inline(never)]
-pub(crate) fn failing_tell(k: &Kernel, shape: &Shape, b: &BoxOf) -> Option<Tell>
+pub fn failing_tell(k: &Kernel, shape: &Shape, b: &BoxOf) -> Option<Tell>
     requires kernel { IsKernel (length b.now) k.now }
     requires shape { IsShapeOf k.now shape.now }
     requires proper { IsProperIn (vars_of k.now) b.now }

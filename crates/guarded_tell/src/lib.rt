@@ -7,14 +7,15 @@
 //!
 //! Begin with `specs/Kernels.antt`, which has a line of `tells` for each. It stands on the families (`sum_tells`, with
 //! `small_sums` and `short_tells`, `clause_tells`, `arithmetic_tells`, `extreme_tells`, `element_tells`, `set_tells`,
-//! `global_tells`), whose tells it gives on and whose laws make its own. Its own are shapes, how long a kernel rests,
-//! which bounds it reads, and differences of two variables. It runs nothing to a fixpoint. That a visit which narrows nothing forms no tell isn't
-//! claimed.
+//! `global_tells`), whose tells it gives on and whose laws make its own. Its own are shapes (differences of two variables,
+//! equations of three terms, products, clauses of two or three literals), how long a kernel rests and which bounds it reads.
+//! It runs nothing to a fixpoint. That a visit which narrows nothing forms no tell isn't claimed.
 #![tactic(auto)]
 
 mod differences;
 mod failing;
 mod few;
+mod held;
 mod kernel;
 mod laws;
 mod narrowing;
@@ -32,6 +33,7 @@ mod three;
 mod visit;
 
 pub use clause_tells::Literals;
+pub use failing::failing_tell;
 pub use kernel::Kernel;
 pub use laws::{law_local, law_monotone, law_point, law_tell_place};
 pub use narrowing::{visit_narrowing, visit_unseen};

@@ -181,7 +181,7 @@ fn larger(first: i64, second: i64) -> i64
 /// What one number leaves of another.
 #[tactic(auto, unfolding(small_sums::specs::Short::short_sum_limit))]
 #[inline(always)]
-fn left(whole: i64, part: i64) -> i64
+pub(crate) fn left(whole: i64, part: i64) -> i64
     requires whole { unsigned_abs whole ≤ short_sum_limit }
     requires part { unsigned_abs part ≤ short_sum_limit }
     ensures { result ≡ whole -ℤ part }
@@ -197,15 +197,43 @@ fn told(terms: Terms, rise: i64, fall: i64, b: &BoxOf) -> Few
     ensures { AreFew (flat_map (λ t. narrowing b.now (room_tells b.now (room_of rise fall) t)) (zip (units_of terms) (places_of terms))) result }
 {
     let mut few = Few::None;
-    add_term(&mut few, terms.x_sign, terms.x, rise, fall, b);
-    add_term(&mut few, terms.y_sign, terms.y, rise, fall, b);
-    add_term(&mut few, terms.z_sign, terms.z, rise, fall, b);
+    add_if_wide(&mut few, terms.x_sign, terms.x, rise, fall, b);
+    add_if_wide(&mut few, terms.y_sign, terms.y, rise, fall, b);
+    add_if_wide(&mut few, terms.z_sign, terms.z, rise, fall, b);
     few
 }
 
-/// Adds the tells of one more term, which may rise and fall by so much. This stands apart, so that a term that is told nothing
-/// moves no tells.
+/// Adds the tells of one more term. Most are told nothing.
+#[inline(always)]
+fn add_if_wide(few: &mut Few, sign: Sign, var: u32, rise: i64, fall: i64, b: &BoxOf)
+    requires variable { var < length b.now }
+    requires proper { low_of b.now var ≤ℤ high_of b.now var }
+    requires rise { pos 0 ≤ℤ rise }
+    requires fall { pos 0 ≤ℤ fall }
+    ensures { (ts : List Told) → AreFew ts few.old → AreFew (ts ++ narrowing b.now (room_tells b.now (room_of rise fall) (unit_of sign, var))) few.new }
+{
+    law_quotient_order();
+    law_clamp_order();
+    let width = gap(b.low(var), b.high(var));
+    if rise < width || fall < width {
+        add_term_apart(few, sign, var, rise, fall, b);
+    }
+}
+
+/// The same of a term that is told something. This stands apart, so that one that is told nothing moves no tells.
 #[inline(never)]
+fn add_term_apart(few: &mut Few, sign: Sign, var: u32, rise: i64, fall: i64, b: &BoxOf)
+    requires variable { var < length b.now }
+    requires proper { low_of b.now var ≤ℤ high_of b.now var }
+    requires rise { pos 0 ≤ℤ rise }
+    requires fall { pos 0 ≤ℤ fall }
+    ensures { (ts : List Told) → AreFew ts few.old → AreFew (ts ++ narrowing b.now (room_tells b.now (room_of rise fall) (unit_of sign, var))) few.new }
+{
+    add_term(few, sign, var, rise, fall, b);
+}
+
+/// Adds the tells of one more term, which may rise and fall by so much.
+#[inline(always)]
 pub(crate) fn add_term(few: &mut Few, sign: Sign, var: u32, rise: i64, fall: i64, b: &BoxOf)
     requires variable { var < length b.now }
     requires proper { low_of b.now var ≤ℤ high_of b.now var }
@@ -228,7 +256,7 @@ pub(crate) fn add_term(few: &mut Few, sign: Sign, var: u32, rise: i64, fall: i64
 
 /// Adds the tell of a variable that is at most so far above its low.
 #[inline(always)]
-fn add_high(few: &mut Few, var: u32, slack: i64, b: &BoxOf)
+pub(crate) fn add_high(few: &mut Few, var: u32, slack: i64, b: &BoxOf)
     requires variable { var < length b.now }
     requires slack { pos 0 ≤ℤ slack }
     ensures { (ts : List Told) → AreFew ts few.old → AreFew (ts ++ narrowing b.now (high_tell var (low_of b.now var +ℤ slack) ∷ [])) few.new }
@@ -248,7 +276,7 @@ fn add_high(few: &mut Few, var: u32, slack: i64, b: &BoxOf)
 
 /// Adds the tell of a variable that is at most so far below its high.
 #[inline(always)]
-fn add_low(few: &mut Few, var: u32, slack: i64, b: &BoxOf)
+pub(crate) fn add_low(few: &mut Few, var: u32, slack: i64, b: &BoxOf)
     requires variable { var < length b.now }
     requires slack { pos 0 ≤ℤ slack }
     ensures { (ts : List Told) → AreFew ts few.old → AreFew (ts ++ narrowing b.now (low_tell var (high_of b.now var -ℤ slack) ∷ [])) few.new }

@@ -6,6 +6,7 @@ use Rattle.std.proofs.lemmas.Bool.{true≢false}
 use Rattle.std.specs.Prelude.{Result, Ok, Err, OnOk}
 use Rattle.std.specs.Result.{is_err, is_ok}
 use Rattle.std.specs.Int.RustNames.{int_le}
+use Rattle.std.specs.Bool.{OnTrue}
 use Rattle.std.specs.List.{All, Contains, filter}
 use Rattle.std.proofs.lemmas.Int.{ints}
 use Rattle.interval.specs.Limits.{IsBound}
@@ -31,12 +32,13 @@ use Rattle.moved_fixpoint.specs.Rested.{Heeds, HasRested}
 use Rattle.moved_fixpoint.specs.Asked.{has_one, heard_at, AreAsked, IsAskedBy}
 use Rattle.moved_fixpoint.specs.Heard.{GoesOn, Hears, Joined, joined}
 use Rattle.guarded_tell.specs.declared.resting.Rest.{Rest}
-use Rattle.guarded_tell.specs.Rests.{IsQuietFor}
-use Rattle.guarded_tell.specs.Seen.{SideLeavesNone, IsFailedBy}
+use Rattle.guarded_tell.specs.Rests.{IsEntailed, IsQuietFor}
+use Rattle.guarded_tell.specs.Seen.{SideLeavesNone, IsFailedBy, IsEntailedBy}
 use Rattle.moved_fixpoint.specs.Gathered.{AreCut, AreGathered}
 use Rattle.moved_fixpoint.specs.Runs.{SameAt, SparesSide, IsUnmoved, HasVisited, KernelRuns}
 use Rattle.moved_fixpoint.proofs.RestLaws.{in_or_not, proper_of, entailed_here, quiet_here}
 use Rattle.moved_fixpoint.proofs.AskedLaws.{asked_more, asked_none}
+use Rattle.moved_fixpoint.proofs.Telling.{keeps_inside}
 use Rattle.moved_fixpoint.proofs.Hearing.{Effect, IsPlaced, effect, effect_of_all, same_side_back}
 
 -- the laws of the kernels, as their functions state them
@@ -314,6 +316,19 @@ module _ (place : TellPlace) (k : Kernel) (b : Bounds) (kernel : IsKernel (lengt
           pub proper_after : GoesOn p' → IsProperIn (vars_of k) then
           proper_after g = proper_of k (length b) then kernel length_after (subst IsProper (sym then_is) (own_heard.proper g proper))
 
+          -- after its one tell the kernel rests for good, where that is its last
+          pub entailed_after : (t : Tell) → told ≡ t ∷ [] → GoesOn p' → IsEntailedBy t k b → IsEntailed k then
+          entailed_after t is g by c i proper_c =
+              let j = subst (λ (x : Bounds). IsInside c x) then_is i in
+              let placed = All-head (IsPlaced (length b)) t [] (subst (λ (ts : List Tell). All (IsPlaced (length b)) ts) is gathered_placed) in
+              let kept = All-head (Keeps after) t [] (subst (λ (ts : List Tell). All (Keeps after) ts) is (own_heard.heard g)) in
+              by c (order.through c after b j own_heard.inside) proper_c
+              (keeps_inside after c t (subst (λ (n : ℕ). t.var < n) (sym own_heard.inside.same_length) placed.0) j kept)
+
+          pub last_after : (t : Tell) → told ≡ t ∷ [] → (last : Bool) → GoesOn p' → OnTrue last (IsEntailedBy t k b) → OnTrue last (IsEntailed k then)
+          last_after t is true g by = entailed_after t is g by
+          last_after t is false g by = tt
+
         pub gathered_runs : (rested_on : Bounds) → rested_on ≡ after → (rests_before : Rests) → rests_before ≡ rests → (rests' : Rests) → HasRested k i rested_on rests_before rests' →
             (asked_on : Bounds) → asked_on ≡ after → (told' : List Tell) → told' ≡ told → (mid new : Set) → mid ≡ set old i false → AreAsked naming rests' asked_on (has_one asked_on) told' mid new →
             HasVisited kernels i k b old rests p after new rests' p'
@@ -369,6 +384,15 @@ gathered_any kernels i k b now ts h is same told d =
 pub quiet_any : (kernels : List Kernel) (i : ℕ) (k : Kernel) (b now : Bounds) (r : Rest) → i < length kernels → k ≡ get_or kernels i k → now ≡ b → IsQuietFor k now r → (d : Kernel) → IsQuietFor (get_or kernels i d) b r
 quiet_any kernels i k b now r h is same quiet d =
     subst (λ (x : Kernel). IsQuietFor x b r) (is ∙ get_or_default kernels i k d h) (subst (λ (x : Bounds). IsQuietFor k x r) same quiet)
+
+-- nor is whether its one tell is its last
+pub last_any : (kernels : List Kernel) (i : ℕ) (k : Kernel) (b now : Bounds) (t : Tell) → i < length kernels → k ≡ get_or kernels i k → now ≡ b → IsEntailedBy t k now → (d : Kernel) → IsEntailedBy t (get_or kernels i d) b
+last_any kernels i k b now t h is same by d =
+    subst (λ (x : Kernel). IsEntailedBy t x b) (is ∙ get_or_default kernels i k d h) (subst (λ (x : Bounds). IsEntailedBy t k x) same by)
+
+pub last_here : (kernels : List Kernel) (i : ℕ) (k : Kernel) (b : Bounds) (t : Tell) (last : Bool) → k ≡ get_or kernels i k → ((d : Kernel) → OnTrue last (IsEntailedBy t (get_or kernels i d) b)) →
+    OnTrue last (IsEntailedBy t k b)
+last_here kernels i k b t last is by = subst (λ (x : Kernel). OnTrue last (IsEntailedBy t x b)) (sym is) (by k)
 
 pub gathered_here : (kernels : List Kernel) (i : ℕ) (k : Kernel) (b : Bounds) (ts : List Tell) → k ≡ get_or kernels i k → ((d : Kernel) → AreGathered b (narrowing_tells (get_or kernels i d) b) ts) →
     AreGathered b (narrowing_tells k b) ts

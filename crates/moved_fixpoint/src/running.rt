@@ -1,13 +1,15 @@
 //! Running one kernel.
 
 ghost use Rattle.std.specs.Prelude.{◌≡◌, ◌<◌, ◌∷◌, [], length, slice_index_or};
+ghost use Rattle.std.specs.Bool.{OnTrue};
 ghost use Rattle.std.specs.List.{All};
 ghost use Rattle.interval.specs.Boxes.{IsProper};
 ghost use Rattle.guarded_tell.specs.Words.{IsProperIn};
 ghost use Rattle.guarded_tell.specs.Kernels.{vars_of, IsKernel};
 ghost use Rattle.guarded_tell.specs.Narrowing.{narrowing_tells};
 ghost use Rattle.guarded_tell.specs.Shapes.{IsShapeOf};
-ghost use Rattle.guarded_tell.specs.Rests.{IsQuietFor, IsRest};
+ghost use Rattle.guarded_tell.specs.Rests.{IsEntailed, IsQuietFor, IsRest};
+ghost use Rattle.guarded_tell.specs.Seen.{IsEntailedBy};
 ghost use Rattle.moved_fixpoint.specs.Moved.{AreMasksOf, count_of};
 ghost use Rattle.moved_fixpoint.specs.Resting.{FitRests, KeepStacks};
 ghost use Rattle.moved_fixpoint.specs.Asked.{has_one, AreAsked};
@@ -20,8 +22,8 @@ use crate::rests::Rests;
 use crate::sets::AskedSets;
 use fixpoint_laws::law_tightens_one;
 use guarded_tell::{
-    Kernel, Rest, Seen, Shape, Tell, law_local, law_monotone, law_narrowing, law_sided,
-    law_tell_place, seen_rest, seen_visit,
+    Kernel, Rest, Seen, Shape, Tell, failing_tell, law_local, law_monotone, law_narrowing,
+    law_sided, law_tell_place, seen_rest, seen_visit,
 };
 use interval::{BoxOf, law_inside_order};
 use moved_set::{AskedSet, Masks};
@@ -125,11 +127,19 @@ fn run_told(
     let _length = b.len();
     let kernel = &kernels[place];
     match seen_visit(kernel, masks.shape(place), b.current()) {
-        Seen::One(t) => run_one(kernels, masks, place, t, b, sets, progress),
-        Seen::Fails(t) => run_failing(kernels, masks, place, t, b, sets, progress),
+        Seen::One(tell) => {
+            let is_last = false;
+            let sole = Sole { tell, is_last };
+            run_one(kernels, masks, place, sole, b, sets, progress)
+        }
+        Seen::Last(tell) => {
+            let is_last = true;
+            let sole = Sole { tell, is_last };
+            run_one(kernels, masks, place, sole, b, sets, progress)
+        }
         Seen::Two(t, u) => run_two(kernels, masks, place, (t, u), b, sets, progress),
         Seen::Quiet(rest) => run_quiet(kernels, masks, place, rest, b, sets, progress),
-        Seen::Unseen => run_unseen(kernels, masks, place, b, sets, progress),
+        Seen::Unseen => run_failing(kernels, masks, place, b, sets, progress),
     }
 }
 
@@ -173,6 +183,15 @@ fn run_quiet(
     }
 }
 
+/// A kernel's one tell, or its first where that leaves its variable no number.
+#[derive(Clone, Copy)]
+struct Sole {
+    /// The tell.
+    tell: Tell,
+    /// Whether the kernel rests for good once it is joined.
+    is_last: bool,
+}
+
 /// The same of a kernel that has one tell on the box, or whose first leaves its variable no number. That is joined, and the
 /// kernel rests as long as its shape says on the box as it is then.
 #[inline(always)]
@@ -180,7 +199,7 @@ fn run_one(
     kernels: &[Kernel],
     masks: &Masks,
     place: usize,
-    t: Tell,
+    sole: Sole,
     b: &mut TrailedBox,
     sets: &mut AskedSets,
     progress: Progress,
@@ -191,7 +210,8 @@ fn run_one(
     requires set { count_of sets.old.asked ≡ length kernels.now }
     requires rests { FitRests (length kernels.now) sets.old.rests }
     requires proper { IsProper b.old.current }
-    requires told { (k : Kernel) → AreGathered b.old.current (narrowing_tells (slice_index_or kernels.now place k) b.old.current) (t ∷ []) }
+    requires told { (k : Kernel) → AreGathered b.old.current (narrowing_tells (slice_index_or kernels.now place k) b.old.current) (sole.tell ∷ []) }
+    requires last { (k : Kernel) → OnTrue sole.is_last (IsEntailedBy sole.tell (slice_index_or kernels.now place k) b.old.current) }
     ensures stack { b.new.stack ≡ b.old.stack }
     ensures rests { FitRests (length kernels.now) sets.new.rests }
     ensures stacks { KeepStacks sets.old.rests sets.new.rests }
@@ -208,26 +228,48 @@ fn run_one(
     let _length = b.len();
     let kernel = &kernels[place];
     sets.asked.forget(place);
-    let after = join(t, b, progress);
+    let after = join(sole.tell, b, progress);
     if !after.goes_on() {
         return after;
     }
     let now = b.current();
-    let rest = shape_rest(kernel, masks.shape(place), now);
+    let rest = rest_after(kernel, masks.shape(place), sole.is_last, now);
     if sets.rest_for(place, rest).is_err() {
         return Progress::Refused;
     }
-    ask(masks, t, has_one(now), now, &sets.rests, &mut sets.asked);
+    ask(
+        masks,
+        sole.tell,
+        has_one(now),
+        now,
+        &sets.rests,
+        &mut sets.asked,
+    );
     after
 }
 
-/// The same of a kernel whose first tell leaves its variable no number. This stands apart, so that one tell is joined in place.
+/// How long the kernel needs no visit once its tell is joined: for good where that is its last, else as far as its shape says.
+#[inline(always)]
+fn rest_after(kernel: &Kernel, shape: &Shape, is_last: bool, b: &BoxOf) -> Rest
+    requires kernel { IsKernel (length b.now) kernel.now }
+    requires shape { IsShapeOf kernel.now shape.now }
+    requires proper { IsProperIn (vars_of kernel.now) b.now }
+    requires last { OnTrue is_last (IsEntailed kernel.now b.now) }
+    ensures { IsRest kernel.now b.now result }
+{
+    if is_last {
+        Rest::ForGood
+    } else {
+        shape_rest(kernel, shape, b)
+    }
+}
+
+/// The same of a kernel of which its shape says no tells: it may say that the first of them leaves its variable no number.
 #[inline(never)]
 fn run_failing(
     kernels: &[Kernel],
     masks: &Masks,
     place: usize,
-    t: Tell,
     b: &mut TrailedBox,
     sets: &mut AskedSets,
     progress: Progress,
@@ -238,13 +280,21 @@ fn run_failing(
     requires set { count_of sets.old.asked ≡ length kernels.now }
     requires rests { FitRests (length kernels.now) sets.old.rests }
     requires proper { IsProper b.old.current }
-    requires told { (k : Kernel) → AreGathered b.old.current (narrowing_tells (slice_index_or kernels.now place k) b.old.current) (t ∷ []) }
     ensures stack { b.new.stack ≡ b.old.stack }
     ensures rests { FitRests (length kernels.now) sets.new.rests }
     ensures stacks { KeepStacks sets.old.rests sets.new.rests }
     ensures run { KernelRuns kernels.now place b.old.current sets.old.asked sets.old.rests progress b.new.current sets.new.asked sets.new.rests result }
 {
-    run_one(kernels, masks, place, t, b, sets, progress)
+    // its contract says that the bounds are in range
+    let _length = b.len();
+    match failing_tell(&kernels[place], masks.shape(place), b.current()) {
+        Some(tell) => {
+            let is_last = false;
+            let sole = Sole { tell, is_last };
+            run_one(kernels, masks, place, sole, b, sets, progress)
+        }
+        None => run_unseen(kernels, masks, place, b, sets, progress),
+    }
 }
 
 /// The same of a kernel that has two tells on the box.

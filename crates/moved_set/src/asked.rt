@@ -92,6 +92,7 @@ impl AskedSet {
     }
 
     /// Puts those kernels of the masks into the set too that are in both other sets.
+    #[inline(always)]
     pub(crate) fn unite_in_both(&mut self, row: &[Mask], one: &TrailedSet, other: &TrailedSet)
         requires row { All (λ m. m.place * 32 ≤ length self.old) row.now }
         requires one { length one.now.current ≡ length self.old }

@@ -173,6 +173,7 @@ impl Masks {
 }
 
 /// The kernels that are asked where the variable's bound on this side moves.
+#[inline(always)]
 fn row_of_side(own: &Groups, v: u32, side: Side) -> &[Mask]
     requires { 3 * v + 2 < length own.now }
     ensures { result.now ≡ side_row own.now side v }

@@ -1,0 +1,112 @@
+-- What a difference tells whose literal is sure, in the order of its terms.
+use Rattle.std.proofs.Common.{◌≡◌, ℕ, List, [], ◌∷◌, ◌++◌, Bool, true, false, None, Some, ℤ, pos, negsuc, ◌+ℤ◌, ◌-ℤ◌, ◌≤ℤ◌, inl, inr, refl, subst, ◌∙◌, arith}
+use Rattle.std.proofs.lemmas.Int.{ints}
+use Rattle.std.proofs.lemmas.List.{append-nil}
+use Rattle.std.specs.List.{zip, flat_map}
+use Rattle.tells.specs.declared.tell.Lit.{Lit}
+use Rattle.tells.specs.declared.tell.Tell.{Tell}
+use Rattle.interval.specs.Limits.{ClampOrder}
+use Rattle.interval.specs.Quotients.{QuotientOrder}
+use Rattle.interval.specs.Boxes.{Bounds, low_of, high_of}
+use Rattle.small_sums.specs.declared.pairs.Pair.{Pair}
+use Rattle.small_sums.specs.declared.short.Sums.{Sums}
+use Rattle.small_sums.specs.Short.{sums_of_two, AreSums}
+use Rattle.short_tells.specs.declared.short_terms.Room.{Room}
+use Rattle.short_tells.specs.ShortTells.{rise_tells, room_tells}
+use Rattle.sum_tells.specs.Linear.{Term}
+use Rattle.tell_laws.specs.Narrowing.{narrowing}
+use Rattle.guarded_tell.specs.declared.kernel.Kernel.{Kernel}
+use Rattle.guarded_tell.specs.declared.kernel.Kernel.TheVariants.{Le, Eq}
+use Rattle.guarded_tell.specs.declared.shape.Shape.TheVariants.{AtMost, Same}
+use Rattle.guarded_tell.specs.Words.{is_sure, low_tell, high_tell}
+use Rattle.guarded_tell.specs.Kernels.{tells}
+use Rattle.guarded_tell.specs.Narrowing.{narrowing_tells}
+use Rattle.guarded_tell.specs.Shapes.{IsDifference, IsDifferenceIn, IsShapeOf}
+use Rattle.guarded_tell.specs.Three.{room_of}
+use Rattle.guarded_tell.specs.Held.{signs_of, pair_of, in_order}
+use Rattle.short_tells.proofs.ShortTellLaws.{rise_above, rise_below}
+use Rattle.short_tells.proofs.ShortSumLaws.{sure_not_out, at_most_by_room, equal_by_room}
+use Rattle.guarded_tell.proofs.ShapeQuiet.{difference_sums}
+use Rattle.guarded_tell.proofs.DifferenceLaws.{equation_none, literal_none, both_is, rising_is}
+use Rattle.guarded_tell.proofs.ThreeLaws.{whole}
+
+-- ---- the kernel's terms stand in an order
+
+module _ (k : Kernel) (m : Lit) (cs : List ℤ) (vs : List ℕ) (z : ℤ) (f : Bool) (l : Lit) (x y : ℕ) (limit : ℤ) (order : (ws : List ℕ) (v w : ℕ) → IsDifference cs ws v w → (cs ≡ signs_of f) × (ws ≡ pair_of f v w)) where
+  ordered : (ds : List ℤ) (ws : List ℕ) → ds ≡ cs → IsDifference ds ws x y → (ds ≡ signs_of f) × (ws ≡ pair_of f x y)
+  ordered ds ws e d =
+      let o = order ws x y (subst (λ (c : List ℤ). IsDifference c ws x y) e d) in
+      (e ∙ o.0, o.1)
+
+  pub at_most_ordered : k ≡ Le m cs vs z → IsShapeOf k (AtMost l x y limit) → k ≡ Le l (signs_of f) (pair_of f x y) limit
+  unfolding IsShapeOf
+  at_most_ordered is (ds, ws, e, d) =
+      let same : ds ≡ cs = cc in
+      let o = ordered ds ws same d in
+      e ∙ (λ i. Le l (o.0 i) (o.1 i) limit)
+
+  pub same_ordered : k ≡ Eq m cs vs z → IsShapeOf k (Same l x y limit) → k ≡ Eq l (signs_of f) (pair_of f x y) limit
+  unfolding IsShapeOf
+  same_ordered is (ds, ws, e, d) =
+      let same : ds ≡ cs = cc in
+      let o = ordered ds ws same d in
+      e ∙ (λ i. Eq l (o.0 i) (o.1 i) limit)
+
+-- ---- the tells of the two terms, in that order
+
+two_terms : (g : Term → List Tell) (x y : ℕ) (f : Bool) → flat_map g (zip (signs_of f) (pair_of f x y)) ≡ in_order f (g (pos 1, x)) (g (negsuc 0, y))
+two_terms g x y true = λ i. g (pos 1, x) ++ append-nil (g (negsuc 0, y)) i
+two_terms g x y false = λ i. g (negsuc 0, y) ++ append-nil (g (pos 1, x)) i
+
+is_difference : (x y : ℕ) (f : Bool) → IsDifference (signs_of f) (pair_of f x y) x y
+is_difference x y true = inl (refl, refl)
+is_difference x y false = inr (refl, refl)
+
+module _ (quotients : QuotientOrder) (b : Bounds) (x : ℕ) (proper : low_of b x ≤ℤ high_of b x) (rise : ℤ) where
+  abbrev rising : Room
+  rising = record { rise = Some rise; fall = None }
+
+  plus_rises : narrowing b (room_tells b rising (pos 1, x)) ≡ narrowing b (high_tell x (low_of b x +ℤ rise) ∷ [])
+  plus_rises =
+      (λ i. narrowing b (append-nil (rise_tells b (Some rise) (pos 1, x)) i))
+      ∙ (λ i. narrowing b (rise_above quotients b (pos 1) x proper rise rise (pos 1) refl (omega (arith, ints)) refl i))
+      ∙ (λ i. narrowing b (high_tell x (low_of b x +ℤ whole quotients rise i) ∷ []))
+
+  minus_rises : narrowing b (room_tells b rising (negsuc 0, x)) ≡ narrowing b (low_tell x (high_of b x -ℤ rise) ∷ [])
+  minus_rises =
+      (λ i. narrowing b (append-nil (rise_tells b (Some rise) (negsuc 0, x)) i))
+      ∙ (λ i. narrowing b (rise_below quotients b (negsuc 0) x proper rise rise (pos 1) refl (omega (arith, ints)) refl i))
+      ∙ (λ i. narrowing b (low_tell x (high_of b x -ℤ whole quotients rise i) ∷ []))
+
+module _ (quotients : QuotientOrder) (clamped : ClampOrder) (b : Bounds) (k : Kernel) (l : Lit) (x y : ℕ) (limit : ℤ) (p : Pair) (within : IsDifferenceIn b x y p) (sure : is_sure l b ≡ true) (f : Bool) where
+  abbrev sums : Sums
+  sums = sums_of_two p.first p.second
+
+  sums_of_terms : AreSums b (signs_of f) (pair_of f x y) sums
+  sums_of_terms = difference_sums b x y p within (signs_of f) (pair_of f x y) (is_difference x y f)
+
+  abbrev At_most : ℤ → List Tell
+  At_most rise = in_order f (narrowing b (high_tell x (low_of b x +ℤ rise) ∷ [])) (narrowing b (low_tell y (high_of b y -ℤ rise) ∷ []))
+
+  abbrev In_room : Room → List Tell
+  In_room room = in_order f (narrowing b (room_tells b room (pos 1, x))) (narrowing b (room_tells b room (negsuc 0, y)))
+
+  pub at_most_held : low_of b x ≤ℤ high_of b x → low_of b y ≤ℤ high_of b y → k ≡ Le l (signs_of f) (pair_of f x y) limit → sums.least ≤ℤ limit → narrowing_tells k b ≡ At_most (limit -ℤ sums.least)
+  unfolding tells
+  at_most_held proper_x proper_y is low =
+      let rise = limit -ℤ sums.least in
+      let room : Room = record { rise = Some rise; fall = None } in
+      (λ i. narrowing b (tells (is i) b))
+      ∙ at_most_by_room clamped b l (signs_of f) (pair_of f x y) limit limit sums sums_of_terms refl room (rising_is quotients clamped b k l x y limit limit refl p within sure)
+      ∙ (λ i. literal_none quotients clamped b k l x y limit limit refl p within sure low i ++ flat_map (λ (t : Term). narrowing b (room_tells b room t)) (zip (signs_of f) (pair_of f x y)))
+      ∙ two_terms (λ (t : Term). narrowing b (room_tells b room t)) x y f
+      ∙ (λ i. in_order f (plus_rises quotients b x proper_x rise i) (minus_rises quotients b y proper_y rise i))
+
+  pub same_held : k ≡ Eq l (signs_of f) (pair_of f x y) limit → sums.least ≤ℤ limit → limit ≤ℤ sums.greatest → narrowing_tells k b ≡ In_room (room_of (limit -ℤ sums.least) (sums.greatest -ℤ limit))
+  unfolding tells
+  same_held is low high =
+      let room : Room = room_of (limit -ℤ sums.least) (sums.greatest -ℤ limit) in
+      (λ i. narrowing b (tells (is i) b))
+      ∙ equal_by_room clamped b l (signs_of f) (pair_of f x y) limit limit sums sums_of_terms refl room (sure_not_out clamped b l sure) (both_is quotients clamped b k l x y limit limit refl p within sure)
+      ∙ (λ i. equation_none quotients clamped b k l x y limit limit refl p within sure low high i ++ flat_map (λ (t : Term). narrowing b (room_tells b room t)) (zip (signs_of f) (pair_of f x y)))
+      ∙ two_terms (λ (t : Term). narrowing b (room_tells b room t)) x y f

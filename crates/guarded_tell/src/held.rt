@@ -1,0 +1,180 @@
+//! What the shape of a difference says of a visit where its literal is sure: both variables may be told.
+
+ghost use Rattle.std.specs.Prelude.{◌≡◌, ◌≤ℤ◌, ◌<◌, ◌+ℤ◌, ◌-ℤ◌, ◌∷◌, [], pos, negsuc, ℕ, List, true, length};
+ghost use Rattle.interval.specs.Boxes.{low_of, high_of};
+ghost use Rattle.guarded_tell.specs.Words.{IsProperIn, low_tell, high_tell};
+ghost use Rattle.guarded_tell.specs.Words as words;
+ghost use Rattle.tell_laws.specs.Narrowing.{narrowing};
+ghost use Rattle.short_tells.specs.ShortTells.{room_tells};
+ghost use Rattle.guarded_tell.specs.declared.shape.Shape.{Shape};
+ghost use Rattle.guarded_tell.specs.Few.{AreFew};
+ghost use Rattle.guarded_tell.specs.Held.{signs_of, pair_of, in_order};
+ghost use Rattle.guarded_tell.specs.Kernels.{vars_of, IsKernel};
+ghost use Rattle.guarded_tell.specs.Shapes.{IsDifference, IsShapeOf};
+ghost use Rattle.guarded_tell.specs.Seen.{IsSeen};
+ghost use Rattle.guarded_tell.specs.Three.{room_of};
+
+use crate::few::Few;
+use crate::seen::Seen;
+use crate::shape::{Sign, difference};
+use crate::three::{add_high, add_low, add_term, left};
+use crate::{Kernel, Lit};
+use interval::{BoxOf, law_clamp_order, law_quotient_order};
+use small_sums::sum;
+use sum_tells::Extended;
+
+/// What the shape of an inequality whose literal is sure says of a visit.
+#[inline(never)]
+pub(crate) fn held_at_most(k: &Kernel, lit: Lit, x: u32, y: u32, limit: i64, b: &BoxOf) -> Seen
+    requires kernel { IsKernel (length b.now) k.now }
+    requires shape { IsShapeOf k.now (Shape.AtMost lit x y limit) }
+    requires proper { IsProperIn (vars_of k.now) b.now }
+    requires sure { words.is_sure lit b.now ≡ true }
+    ensures { IsSeen k.now b.now result }
+{
+    match k {
+        Kernel::Le { coeffs, .. } => {
+            let x_first = begins_above(coeffs.as_slice());
+            ordered_at_most(k, x_first, lit, x, y, limit, b)
+        }
+        _ => Seen::Unseen,
+    }
+}
+
+/// What the shape of an equation whose literal is sure says of a visit.
+#[inline(never)]
+pub(crate) fn held_same(k: &Kernel, lit: Lit, x: u32, y: u32, limit: i64, b: &BoxOf) -> Seen
+    requires kernel { IsKernel (length b.now) k.now }
+    requires shape { IsShapeOf k.now (Shape.Same lit x y limit) }
+    requires proper { IsProperIn (vars_of k.now) b.now }
+    requires sure { words.is_sure lit b.now ≡ true }
+    ensures { IsSeen k.now b.now result }
+{
+    match k {
+        Kernel::Eq { coeffs, .. } => {
+            let x_first = ends_below(coeffs);
+            ordered_same(k, x_first, lit, x, y, limit, b)
+        }
+        _ => Seen::Unseen,
+    }
+}
+
+/// Whether the first coefficient is above zero: then the variable that is added comes first.
+#[inline(always)]
+fn begins_above(coeffs: &[i64]) -> bool
+    ensures { (vs : List ℕ) (x y : ℕ) → IsDifference coeffs.now vs x y → (coeffs.now ≡ signs_of result) × (vs ≡ pair_of result x y) }
+{
+    match coeffs.first() {
+        Some(first) => *first > 0,
+        None => true,
+    }
+}
+
+/// Whether the last coefficient is below zero: then the variable that is added comes first.
+#[inline(always)]
+fn ends_below(coeffs: &Extended<i64>) -> bool
+    ensures { (vs : List ℕ) (x y : ℕ) → IsDifference coeffs.now vs x y → (coeffs.now ≡ signs_of result) × (vs ≡ pair_of result x y) }
+{
+    match coeffs.split_last() {
+        Some((_front, last)) => last < 0,
+        None => true,
+    }
+}
+
+/// What the inequality says, where the order of its terms is known.
+#[inline(always)]
+fn ordered_at_most(
+    k: &Kernel,
+    x_first: bool,
+    lit: Lit,
+    x: u32,
+    y: u32,
+    limit: i64,
+    b: &BoxOf,
+) -> Seen
+    requires kernel { IsKernel (length b.now) k.now }
+    requires order { k.now ≡ Kernel.Le lit (signs_of x_first) (pair_of x_first x y) limit }
+    requires shape { IsShapeOf k.now (Shape.AtMost lit x y limit) }
+    requires proper { IsProperIn (vars_of k.now) b.now }
+    requires sure { words.is_sure lit b.now ≡ true }
+    ensures { IsSeen k.now b.now result }
+{
+    law_quotient_order();
+    law_clamp_order();
+    let pair = difference(x, y, b);
+    let least = sum(pair.first.least, pair.second.least);
+    let rise = left(limit, least);
+    if rise >= 0 {
+        told_at_most(x_first, x, y, rise, b).seen()
+    } else {
+        Seen::Unseen
+    }
+}
+
+/// What the equation says, where the order of its terms is known.
+#[inline(always)]
+fn ordered_same(k: &Kernel, x_first: bool, lit: Lit, x: u32, y: u32, limit: i64, b: &BoxOf) -> Seen
+    requires kernel { IsKernel (length b.now) k.now }
+    requires order { k.now ≡ Kernel.Eq lit (signs_of x_first) (pair_of x_first x y) limit }
+    requires shape { IsShapeOf k.now (Shape.Same lit x y limit) }
+    requires proper { IsProperIn (vars_of k.now) b.now }
+    requires sure { words.is_sure lit b.now ≡ true }
+    ensures { IsSeen k.now b.now result }
+{
+    law_quotient_order();
+    law_clamp_order();
+    let pair = difference(x, y, b);
+    let least = sum(pair.first.least, pair.second.least);
+    let greatest = sum(pair.first.greatest, pair.second.greatest);
+    let rise = left(limit, least);
+    let fall = left(greatest, limit);
+    if rise >= 0 && fall >= 0 {
+        told_same(x_first, x, y, rise, fall, b).seen()
+    } else {
+        Seen::Unseen
+    }
+}
+
+/// The tells of `x` and of the opposite of `y` that narrow the box, where each may rise by so much. They stand in the order of
+/// the kernel's terms.
+#[inline(always)]
+fn told_at_most(x_first: bool, x: u32, y: u32, rise: i64, b: &BoxOf) -> Few
+    requires first { x < length b.now }
+    requires second { y < length b.now }
+    requires rise { pos 0 ≤ℤ rise }
+    ensures { AreFew (in_order x_first (narrowing b.now (high_tell x (low_of b.now x +ℤ rise) ∷ [])) (narrowing b.now (low_tell y (high_of b.now y -ℤ rise) ∷ []))) result }
+{
+    let mut few = Few::None;
+    if x_first {
+        add_high(&mut few, x, rise, b);
+        add_low(&mut few, y, rise, b);
+        few
+    } else {
+        add_low(&mut few, y, rise, b);
+        add_high(&mut few, x, rise, b);
+        few
+    }
+}
+
+/// The same where each may rise and fall by so much.
+#[inline(always)]
+fn told_same(x_first: bool, x: u32, y: u32, rise: i64, fall: i64, b: &BoxOf) -> Few
+    requires first { x < length b.now }
+    requires second { y < length b.now }
+    requires proper_first { low_of b.now x ≤ℤ high_of b.now x }
+    requires proper_second { low_of b.now y ≤ℤ high_of b.now y }
+    requires rise { pos 0 ≤ℤ rise }
+    requires fall { pos 0 ≤ℤ fall }
+    ensures { AreFew (in_order x_first (narrowing b.now (room_tells b.now (room_of rise fall) (pos 1, x))) (narrowing b.now (room_tells b.now (room_of rise fall) (negsuc 0, y)))) result }
+{
+    let mut few = Few::None;
+    if x_first {
+        add_term(&mut few, Sign::Plus, x, rise, fall, b);
+        add_term(&mut few, Sign::Minus, y, rise, fall, b);
+        few
+    } else {
+        add_term(&mut few, Sign::Minus, y, rise, fall, b);
+        add_term(&mut few, Sign::Plus, x, rise, fall, b);
+        few
+    }
+}

@@ -1,5 +1,5 @@
 -- The map of the declared names, as the list of its entries.
-use Rattle.std.proofs.Common.{◌≡◌, ℕ, List, [], ◌∷◌, ◌++◌, Bool, true, false, cond, Option, Some, None, Vec, refl, ap, ◌∙◌}
+use Rattle.std.proofs.Common.{◌≡◌, ℕ, List, [], ◌∷◌, ◌++◌, Bool, true, false, cond, Option, Some, None, Vec, refl, sym, ap, ◌∙◌, is_none, is_some, true≢false}
 use Rattle.std.specs.List.{find}
 use Rattle.std.specs.Option.{option_map}
 use Rattle.std.specs.Str.{bytes_eq}
@@ -29,3 +29,11 @@ pub declared_last : {S : Type 0} (m : IndexMap (Vec ℕ Global) Meaning S) (k : 
     → declared_in (insert_entry (λ (a b : Vec ℕ Global). bytes_eq a.items b.items) m.entries k v) ≡ declared_in m.entries ++ (k.items, v) ∷ []
 declared_last m k v none =
     ap declared_in (insert_entry-new (λ (a b : Vec ℕ Global). bytes_eq a.items b.items) m k v (looked_up k.items m.entries ∙ none)) ∙ pushed m.entries k v
+
+pub lacks : {A : Type 0} (o : Option A) → is_some o ≡ false → o ≡ None
+lacks None e = refl
+lacks (Some x) e = absurd (true≢false e)
+
+pub has : {A : Type 0} (o : Option A) → is_some o ≡ true → is_none o ≡ false
+has None e = absurd (true≢false (sym e))
+has (Some x) e = refl

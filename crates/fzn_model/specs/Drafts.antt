@@ -1,5 +1,5 @@
 -- A draft of the model as what stands of the text after some of its items.
-use Rattle.std.specs.Prelude.{◌≡◌, ◌+◌, ℕ, List, [], ◌∷◌, ◌++◌, length, map, fold, flat_map, sum_by, Bool, false, not, ◌&&◌, cond, Option, Some, None, IfSome, option_to_list}
+use Rattle.std.specs.Prelude.{◌≡◌, ◌+◌, ℕ, List, [], ◌∷◌, ◌++◌, length, map, fold, flat_map, sum_by, Bool, true, false, not, ◌&&◌, cond, Option, Some, None, is_none, option_to_list}
 use Rattle.std.specs.List.{list_any}
 use Rattle.std.specs.Option.{option_or}
 use Rattle.fzn_parser.specs.Items.{WhatTree, scalar_item, array_item}
@@ -10,6 +10,7 @@ use Rattle.fzn_model.specs.declared.leaves.Leaf.{Leaf}
 use Rattle.fzn_parser.specs.declared.tree.Elem.{Elem}
 use Rattle.fzn_parser.specs.declared.tree.Expr.{Expr}
 use Rattle.fzn_model.specs.Leaves.{elem_leaves, leaves}
+use Rattle.constraint_model.specs.declared.meanings.Meaning.{Meaning}
 use Rattle.constraint_model.specs.Fits.{add_once, constants_in, kernels_of}
 use Rattle.fzn_model.specs.Scopes.{Scope, meaning_of}
 use Rattle.fzn_model.specs.Effects.{Reading, numbered, arrays_in, solved_constants}
@@ -53,9 +54,10 @@ put before more = record {
   kernels = before.kernels;
 }
 
--- an effect declares no name that was declared
-abbrev pub IsNew : Scope → Effect → Type 0
-IsNew scope more = IfSome more.declared (λ d. meaning_of scope d.0 ≡ None)
+-- what is declared, where something is, has a name that wasn't declared
+abbrev pub is_new : Scope → Option (List ℕ × Meaning) → Bool
+is_new scope None = true
+is_new scope (Some d) = is_none (meaning_of scope d.0)
 
 -- ---- faults by their kinds, for private clauses
 
@@ -96,14 +98,18 @@ abbrev pub first_kind : List (FaultKind × Bool) → Option FaultKind
 first_kind [] = None
 first_kind (t ∷ ts) = cond t.1 (Some t.0) (first_kind ts)
 
--- the kinds of fault that an item may have by itself and against the declarations before it, the least first, with their tests
-abbrev pub own_kinds : List ℕ → Scope → WhatTree → List (FaultKind × Bool)
-own_kinds text scope what =
-    (FaultKind.NameTwice, declares_again text scope what)
-    ∷ (FaultKind.NameUnknown, has_leaf text scope FaultKind.NameUnknown what)
+-- the kinds of fault that an item may have by itself and against the declarations before it, but that it declares a name again, the
+-- least first, with their tests
+abbrev pub later_kinds : List ℕ → Scope → WhatTree → List (FaultKind × Bool)
+later_kinds text scope what =
+    (FaultKind.NameUnknown, has_leaf text scope FaultKind.NameUnknown what)
     ∷ (FaultKind.UnknownConstraint, has_leaf text scope FaultKind.UnknownConstraint what)
     ∷ (FaultKind.WrongArgument, not (is_unsupported what) && has_wrong_argument text scope what)
     ∷ (FaultKind.Unsupported, is_unsupported what)
     ∷ (FaultKind.OutOfRange, has_leaf text scope FaultKind.OutOfRange what)
     ∷ (FaultKind.TooMany, has_leaf text scope FaultKind.TooMany what)
     ∷ []
+
+-- and with it, which is the least
+abbrev pub own_kinds : List ℕ → Scope → WhatTree → List (FaultKind × Bool)
+own_kinds text scope what = (FaultKind.NameTwice, declares_again text scope what) ∷ later_kinds text scope what

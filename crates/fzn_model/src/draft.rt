@@ -1,14 +1,16 @@
 //! What stands of a text after some of its items.
 
-ghost use Rattle.std.specs.Prelude.{◌≡◌, ◌+◌, ◌<◌, ◌≤◌, ◌++◌, not, true, false, nat_lt, length, fold, flat_map, sum_by, option_to_list, MatchOption, IfOk, IfErr, IfSome, None, OnOk, map};
+ghost use Rattle.std.specs.Prelude.{◌≡◌, ◌+◌, ◌<◌, ◌≤◌, ◌++◌, cond, not, true, false, nat_lt, length, fold, flat_map, sum_by, option_to_list, MatchOption, IfOk, IfErr, None, OnOk, map};
+ghost use Rattle.std.specs.Option.{option_or};
 ghost use Rattle.fzn_parser.specs.Items.{what_tree};
 ghost use Rattle.fzn_parser.specs.Parsing.{item_tree};
 ghost use Rattle.constraint_model.specs.Fits.{add_once, constants_in, kernels_of};
 ghost use Rattle.constraint_model.specs.Limits as limits;
 ghost use Rattle.fzn_model.specs.declared.fault_kinds.FaultKind.{FaultKind as Kind};
+ghost use Rattle.fzn_model.specs.declared.stop.Stop.{Stop as Halt};
 ghost use Rattle.constraint_model.specs.Arrays.{HaveNumbers};
-ghost use Rattle.fzn_model.specs.Drafts.{seen, counted, put, IsNew, first_kind};
-ghost use Rattle.fzn_model.specs.Scopes.{AreNumbered, meaning_of};
+ghost use Rattle.fzn_model.specs.Drafts.{seen, counted, put, is_new, declares_again, first_kind};
+ghost use Rattle.fzn_model.specs.Scopes.{AreNumbered};
 ghost use Rattle.fzn_model.specs.Effects as effects;
 ghost use Rattle.fzn_model.specs.Faults as faults;
 
@@ -16,6 +18,7 @@ use crate::effect::Effect;
 use crate::fault_kinds::FaultKind;
 use crate::limits::{MOST_CONSTANTS, MOST_KERNELS, MOST_VARS, has_long_rows};
 use crate::name_hash::NameHash;
+use crate::names::declares_again;
 use crate::reads::{no_effect, read_item};
 use crate::scope::Scope;
 use crate::stop::Stop;
@@ -26,6 +29,7 @@ use constraint_model::{
 use fzn_parser::tree::{Item, What};
 use list_of::ListOf;
 use std::alloc::{AllocError, Global};
+use std::mem::replace;
 
 /// What stands of a text after some of its items.
 #[derive(Drop)]
@@ -124,23 +128,53 @@ fn numbered(
     }
 }
 
-/// Declares a name, where an item declares one.
+/// Declares a name, where an item declares one, and tells whether it is a new one or there is none.
+#[inline(always)]
 fn declare(
     alloc: Global,
     scope: &mut Scope,
     constants: &mut Constants,
-    declared: Option<(ListOf<u8>, Meaning)>,
-) -> Result<(), AllocError>
-    requires new { IfSome declared (λ d. meaning_of scope.old d.0 ≡ None) }
-    ensures names { OnOk result (scope.new ≡ scope.old ++ map (effects.numbered (length constants.old.arrays)) (option_to_list declared)) }
-    ensures kept { OnOk result (constants.new.arrays ≡ constants.old.arrays ++ flat_map effects.arrays_in (option_to_list declared)) }
+    declared: &mut Option<(ListOf<u8>, Meaning)>,
+) -> Result<bool, AllocError>
+    ensures new { IfOk result (λ b. b ≡ is_new scope.old declared.old) }
+    ensures names { IfOk result (λ b. b ≡ true → scope.new ≡ scope.old ++ map (effects.numbered (length constants.old.arrays)) (option_to_list declared.old)) }
+    ensures kept { OnOk result (constants.new.arrays ≡ constants.old.arrays ++ flat_map effects.arrays_in (option_to_list declared.old)) }
     ensures numbers { OnOk result (constants.new.numbers ≡ constants.old.numbers) }
 {
-    if let Some((name, meaning)) = declared {
-        let meaning = numbered(alloc, constants, meaning)?;
-        scope.declare(name.into_vec(), meaning)?;
+    if declared.is_none() {
+        return Ok(true);
+    }
+    match declared.take() {
+        Some((name, meaning)) => {
+            let meaning = numbered(alloc, constants, meaning)?;
+            scope.declare(name.into_vec(), meaning)
+        }
+        None => Ok(true),
+    }
+}
+
+/// Puts a part at the end, where it is there.
+#[inline(always)]
+fn push_part<T: Drop>(list: &mut ListOf<T>, part: &mut Option<T>) -> Result<(), AllocError>
+    ensures { OnOk result (list.new ≡ list.old ++ option_to_list part.old) }
+{
+    if part.is_none() {
+        return Ok(());
+    }
+    if let Some(value) = part.take() {
+        list.push(value)?;
     }
     Ok(())
+}
+
+/// Keeps what is asked for of a search, where none was asked for before.
+#[inline(always)]
+fn keep_solved(solved: &mut Option<(ListOf<Phase>, Goal)>, more: &mut Option<(ListOf<Phase>, Goal)>)
+    ensures { solved.new ≡ option_or solved.old more.old }
+{
+    if solved.is_none() && more.is_some() {
+        *solved = more.take();
+    }
 }
 
 /// Puts constraints behind others.
@@ -152,6 +186,18 @@ fn push_all(list: &mut ListOf<Constraint>, more: ListOf<Constraint>) -> Result<(
         list.push(constraint)?;
     }
     Ok(())
+}
+
+/// Why an item can't be placed: that it declares a name again, or this.
+#[inline(never)]
+fn misplaced(text: &[u8], scope: &Scope, what: &What, stop: Stop) -> Stop
+    ensures { result ≡ cond (declares_again text.now scope.now (what_tree what.now)) (Halt.Fault Kind.NameTwice) stop }
+{
+    if declares_again(text, scope, what) {
+        Stop::Fault(FaultKind::NameTwice)
+    } else {
+        stop
+    }
 }
 
 impl Draft {
@@ -185,6 +231,7 @@ impl Draft {
         ensures counted { OnOk result (seen self.new ≡ counted (seen self.old) effect.now) }
         ensures fits { OnOk result (faults.is_too_large (effects.joined (seen self.old) effect.now) ≡ false) }
         ensures large { IfErr result (faults.OnlyFault Kind.TooMany (faults.is_too_large (effects.joined (seen self.old) effect.now) ≡ true)) }
+        ensures scope { self.new.scope ≡ self.old.scope }
     {
         if !self.has_room(effect) {
             return Err(Stop::Fault(FaultKind::TooMany));
@@ -201,30 +248,28 @@ impl Draft {
         Ok(())
     }
 
-    /// Puts behind what stands what an item adds, which was counted. A declared array gets its number.
+    /// Puts behind what stands what an item adds, which was counted, and tells whether it declares no name that was declared. A
+    /// declared array gets its number. Each part is taken where it is: an item lacks most of them, and these aren't moved.
     #[inline(always)]
-    fn put(&mut self, alloc: Global, effect: Effect) -> Result<(), AllocError>
-        requires new { IsNew self.old.scope effect }
-        ensures { OnOk result (seen self.new ≡ put (seen self.old) effect) }
+    fn put(&mut self, alloc: Global, effect: &mut Effect) -> Result<bool, AllocError>
+        ensures new { IfOk result (λ b. b ≡ is_new self.old.scope effect.old.declared) }
+        ensures put { IfOk result (λ b. b ≡ true → seen self.new ≡ put (seen self.old) effect.old) }
     {
-        let Effect {
-            declared,
-            var,
-            constraints,
-            output,
-            solved,
-        } = effect;
-        declare(alloc, &mut self.scope, &mut self.constants, declared)?;
-        if let Some(var) = var {
-            self.vars.push(var)?;
+        let is_new = declare(
+            alloc,
+            &mut self.scope,
+            &mut self.constants,
+            &mut effect.declared,
+        )?;
+        if !is_new {
+            return Ok(false);
         }
-        if let Some(output) = output {
-            self.output.push(output)?;
-        }
-        if self.solved.is_none() {
-            self.solved = solved;
-        }
-        push_all(&mut self.constraints, constraints)
+        push_part(&mut self.vars, &mut effect.var)?;
+        push_part(&mut self.output, &mut effect.output)?;
+        keep_solved(&mut self.solved, &mut effect.solved);
+        let constraints = replace(&mut effect.constraints, ListOf::new(alloc));
+        push_all(&mut self.constraints, constraints)?;
+        Ok(true)
     }
 
     /// Counts what an item adds. Errors: the least fault of that against all that stands; memory.
@@ -237,6 +282,7 @@ impl Draft {
         ensures lawful { OnOk result (first_kind (faults.place_tests (seen self.old) effect.now) ≡ None) }
         ensures fits { OnOk result (faults.is_too_large (effects.joined (seen self.old) effect.now) ≡ false) }
         ensures fault { IfErr result (λ s. faults.Refuses (first_kind (faults.place_tests (seen self.old) effect.now)) s) }
+        ensures scope { self.new.scope ≡ self.old.scope }
     {
         if has_long_rows(effect.constraints.as_slice()) {
             return Err(Stop::Fault(FaultKind::TooMany));
@@ -251,7 +297,8 @@ impl Draft {
         Ok(())
     }
 
-    /// Puts down what an item adds, and counts it. Errors: its least fault against what stands; memory.
+    /// Puts down what an item adds, and counts it. Errors: its least fault against what stands; memory. Where it has none but that it
+    /// declares a name again, that is left to be seen where the name is put.
     #[tactic(auto, unfolding(crate::specs::Faults::fault_of))]
     #[inline(always)]
     fn judge(
@@ -266,10 +313,10 @@ impl Draft {
         requires kernels { self.old.kernels ≤ limits.most_kernels }
         requires numbers { AreNumbered self.old.constants.arrays self.old.scope }
         ensures effect { OnOk result (effect.new ≡ effects.effect_of text.now self.old.scope (length self.old.vars) (what_tree what.now)) }
-        ensures new { OnOk result (IsNew self.old.scope effect.new) }
+        ensures new { OnOk result (is_new self.old.scope effect.new.declared ≡ not (declares_again text.now self.old.scope (what_tree what.now))) }
         ensures counted { OnOk result (seen self.new ≡ counted (seen self.old) effect.new) }
         ensures fits { OnOk result (faults.is_too_large (effects.joined (seen self.old) effect.new) ≡ false) }
-        ensures lawful { OnOk result (faults.fault_of text.now (seen self.old) (what_tree what.now) ≡ None) }
+        ensures lawful { OnOk result (declares_again text.now self.old.scope (what_tree what.now) ≡ false → faults.fault_of text.now (seen self.old) (what_tree what.now) ≡ None) }
         ensures fault { IfErr result (λ s. faults.Refuses (faults.fault_of text.now (seen self.old) (what_tree what.now)) s) }
     {
         let count = self.vars.len() as u32;
@@ -279,7 +326,7 @@ impl Draft {
         }
         match self.place(effect) {
             Ok(()) => Ok(()),
-            Err(stop) => Err(stop),
+            Err(stop) => Err(misplaced(text, &self.scope, what, stop)),
         }
     }
 
@@ -298,8 +345,9 @@ impl Draft {
             Ok(()) => {}
             Err(stop) => return Err(stop),
         }
-        match self.put(alloc, effect) {
-            Ok(()) => Ok(()),
+        match self.put(alloc, &mut effect) {
+            Ok(true) => Ok(()),
+            Ok(false) => Err(Stop::Fault(FaultKind::NameTwice)),
             Err(_) => Err(Stop::NoMemory),
         }
     }

@@ -154,6 +154,13 @@ impl Hints {
         Ok(())
     }
 
+    /// Drops all hints.
+    pub(crate) fn clear(&mut self)
+        ensures { self.new.hints.items ≡ [] }
+    {
+        self.hints.clear();
+    }
+
     /// What the hint at a place says of a name.
     #[inline(always)]
     fn at(&self, place: usize, name: &[u8]) -> Option<Scalar>

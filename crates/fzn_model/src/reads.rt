@@ -1,11 +1,11 @@
 //! What an item adds, where it has no fault against the declarations before it.
 
-ghost use Rattle.std.specs.Prelude.{◌≡◌, ◌≤◌, cond, true, false, length, IfOk, IfErr, OnOk};
+ghost use Rattle.std.specs.Prelude.{◌≡◌, ◌≤◌, ◌&&◌, not, cond, true, false, length, is_none, None, Some, IfOk, IfErr, OnOk};
 ghost use Rattle.fzn_parser.specs.Items.{what_tree};
 ghost use Rattle.fzn_model.specs.declared.fault_kinds.FaultKind.{FaultKind as Kind};
 ghost use Rattle.fzn_model.specs.Effects as effects;
 ghost use Rattle.fzn_model.specs.Faults as faults;
-ghost use Rattle.fzn_model.specs.Drafts.{has_leaf, declares_again, first_kind, own_kinds, elems_in, AreSure, IsNew};
+ghost use Rattle.fzn_model.specs.Drafts.{has_leaf, declares_again, first_kind, own_kinds, elems_in, is_new, AreSure};
 
 use crate::arrays::{ArrayDeclaration, read_array};
 use crate::constraints::{read_constraint, read_solve};
@@ -126,20 +126,57 @@ fn least_kind(text: &[u8], scope: &Scope, what: &What, kind: FaultKind) -> Fault
 }
 
 /// Why an item isn't taken whose value, arguments or objective don't fit.
+#[inline(never)]
 fn refused(text: &[u8], scope: &Scope, what: &What, stop: Stop) -> Stop
-    requires new { declares_again text.now scope.now (what_tree what.now) ≡ false }
     requires supported { faults.is_unsupported (what_tree what.now) ≡ false }
     requires wrong { faults.OnlyFault Kind.WrongArgument (faults.has_wrong_argument text.now scope.now (what_tree what.now) ≡ true) stop }
     ensures { faults.Refuses (first_kind (own_kinds text.now scope.now (what_tree what.now))) result }
 {
+    if declares_again(text, scope, what) {
+        return Stop::Fault(FaultKind::NameTwice);
+    }
     match stop {
         Stop::Fault(kind) => Stop::Fault(least_kind(text, scope, what, kind)),
         Stop::NoMemory => Stop::NoMemory,
     }
 }
 
+/// Why an item isn't taken whose type isn't supported.
+#[inline(never)]
+fn unsupported(text: &[u8], scope: &Scope, what: &What) -> Stop
+    requires { faults.is_unsupported (what_tree what.now) ≡ true }
+    ensures { faults.Refuses (first_kind (own_kinds text.now scope.now (what_tree what.now))) result }
+{
+    if declares_again(text, scope, what) {
+        return Stop::Fault(FaultKind::NameTwice);
+    }
+    Stop::Fault(least_kind(text, scope, what, FaultKind::Unsupported))
+}
+
+/// Why an item isn't taken that has a fault of this kind, and no lesser one but that it may declare a name again.
+#[inline(never)]
+fn past_limit(text: &[u8], scope: &Scope, what: &What, kind: FaultKind) -> Stop
+    requires { declares_again text.now scope.now (what_tree what.now) ≡ false → first_kind (own_kinds text.now scope.now (what_tree what.now)) ≡ Some kind }
+    ensures { faults.Refuses (first_kind (own_kinds text.now scope.now (what_tree what.now))) result }
+{
+    if declares_again(text, scope, what) {
+        Stop::Fault(FaultKind::NameTwice)
+    } else {
+        Stop::Fault(kind)
+    }
+}
+
+/// Whether an item that adds no name declares one again.
+#[inline(always)]
+fn declares_unseen(text: &[u8], scope: &Scope, what: &What, effect: &Effect) -> bool
+    ensures { result ≡ (is_none effect.now.declared && declares_again text.now scope.now (what_tree what.now)) }
+{
+    effect.declared.is_none() && declares_again(text, scope, what)
+}
+
 /// Puts down what an item adds. Errors: its least fault against the declarations before it; memory. What fits uses nothing
-/// that isn't known, so names are asked for once more only where something doesn't fit.
+/// that isn't known, so names are asked for once more only where something doesn't fit. Whether a name that it adds was declared is
+/// seen where the name is put, so it is looked up once.
 #[tactic(auto, using(crate::proofs::KnownLaws::fitting_names, crate::proofs::KnownLaws::fitting_constraint))]
 pub(crate) fn read_item(
     alloc: Global,
@@ -151,16 +188,12 @@ pub(crate) fn read_item(
 ) -> Result<(), Stop>
     requires { effect.old ≡ effects.no_effect }
     ensures effect { OnOk result (effect.new ≡ effects.effect_of text.now scope.now count (what_tree what.now)) }
-    ensures new { OnOk result (IsNew scope.now effect.new) }
-    ensures lawful { OnOk result (first_kind (own_kinds text.now scope.now (what_tree what.now)) ≡ None) }
+    ensures new { OnOk result (is_new scope.now effect.new.declared ≡ not (declares_again text.now scope.now (what_tree what.now))) }
+    ensures lawful { OnOk result (declares_again text.now scope.now (what_tree what.now) ≡ false → first_kind (own_kinds text.now scope.now (what_tree what.now)) ≡ None) }
     ensures fault { IfErr result (λ s. faults.Refuses (first_kind (own_kinds text.now scope.now (what_tree what.now))) s) }
 {
-    if declares_again(text, scope, what) {
-        return Err(Stop::Fault(FaultKind::NameTwice));
-    }
     if is_unsupported(what) {
-        let kind = least_kind(text, scope, what, FaultKind::Unsupported);
-        return Err(Stop::Fault(kind));
+        return Err(unsupported(text, scope, what));
     }
     let sure = match read_effect(alloc, text, scope, count, what, effect) {
         Ok(sure) => sure,
@@ -169,11 +202,14 @@ pub(crate) fn read_item(
     // Each of these walks is built for its kind, and passes over the leaves that can't have it.
     let kind = FaultKind::OutOfRange;
     if (Sought { text, scope, kind }).is_in(what, sure) {
-        return Err(Stop::Fault(FaultKind::OutOfRange));
+        return Err(past_limit(text, scope, what, FaultKind::OutOfRange));
     }
     let kind = FaultKind::TooMany;
     if (Sought { text, scope, kind }).is_in(what, sure) {
-        return Err(Stop::Fault(FaultKind::TooMany));
+        return Err(past_limit(text, scope, what, FaultKind::TooMany));
+    }
+    if declares_unseen(text, scope, what, effect) {
+        return Err(Stop::Fault(FaultKind::NameTwice));
     }
     Ok(())
 }

@@ -1,6 +1,6 @@
 //! What the declared names stand for.
 
-ghost use Rattle.std.specs.Prelude.{◌≡◌, [], ◌∷◌, ◌++◌, None, Some, is_some, option_and_then, IfSome, OnOk, OnErr};
+ghost use Rattle.std.specs.Prelude.{◌≡◌, [], ◌∷◌, ◌++◌, None, Some, true, is_none, is_some, option_and_then, IfOk, IfSome, OnErr};
 ghost use Rattle.std.specs.Option.{option_copied};
 ghost use Rattle.constraint_model.specs.declared.meanings.Meaning.{Meaning as Stands};
 ghost use Rattle.fzn_model.specs.Scopes.{meaning_of, scalar_of};
@@ -87,16 +87,21 @@ impl Scope {
         self.entries.contains_key(name)
     }
 
-    /// Adds a name that wasn't declared. Where memory is refused, the names are as before.
-    pub(crate) fn declare(&mut self, name: Vec<u8>, meaning: Meaning) -> Result<(), AllocError>
-        requires { meaning_of self.old name.items ≡ None }
-        ensures added { OnOk result (self.new ≡ self.old ++ (name.items, meaning) ∷ []) }
+    /// Adds a name, where it wasn't declared, and tells whether it wasn't. Where memory is refused, the names are as before.
+    pub(crate) fn declare(&mut self, name: Vec<u8>, meaning: Meaning) -> Result<bool, AllocError>
+        ensures new { IfOk result (λ b. b ≡ is_none (meaning_of self.old name.items)) }
+        ensures added { IfOk result (λ b. b ≡ true → self.new ≡ self.old ++ (name.items, meaning) ∷ []) }
         ensures unchanged { OnErr result (self.new ≡ self.old) }
     {
         let hint = Hint::of(name.as_slice(), &meaning);
         self.hints.make()?;
-        self.entries.insert(name, meaning)?;
+        let before = self.entries.insert(name, meaning)?;
+        if before.is_some() {
+            // The hint of the name may say what stood before. The text has a fault, and no hint is asked for any more.
+            self.hints.clear();
+            return Ok(false);
+        }
         self.hints.put(hint);
-        Ok(())
+        Ok(true)
     }
 }

@@ -5,12 +5,13 @@ use Rattle.std.specs.Prelude.{Bool, ◌==◌, cond, option_map}
 use Rattle.std.proofs.lemmas.Bool.Decides.{nat_tests}
 use Rattle.std.proofs.lemmas.List.{length-map}
 use Rattle.std.proofs.lemmas.List.Elements.{All-push}
+use Rattle.fzn_lexer.specs.declared.Kind.{Kind}
 use Rattle.fzn_lexer.specs.declared.Token.{Token}
 use Rattle.fzn_lexer.specs.Lexing.{LexesTo, LacksToken as IsStuck}
 use Rattle.fzn_parser.specs.declared.cursor.Symbol.{Symbol}
 use Rattle.fzn_parser.specs.declared.cursor.Lexeme.{Lexeme}
 use Rattle.fzn_parser.specs.Texts.{is_at, lexeme_of, first_stretch}
-use Rattle.fzn_parser.specs.Parsing.{ItemTree, FaultsAt, BeginsAt, placed, max_depth}
+use Rattle.fzn_parser.specs.Parsing.{ItemTree, FaultsAt, BeginsAt, placed_at, max_depth}
 use Rattle.fzn_parser.specs.Items.{WhatTree, whole_at}
 use Rattle.fzn_parser.specs.Terminals.{begins}
 use Rattle.fzn_parser.specs.declared.stream.Stretch.{Stretch}
@@ -161,68 +162,72 @@ lacks_next text from to ts d s h e = record {
 -- ---- lexemes in place of the tokens
 
 -- these are the lexemes of tokens that stand behind `from`, up to `at`; no semicolon is among them
-pub record HaveLexemes (text : List ℕ) (from at : ℕ) (lexemes : List Lexeme) (first : Token) : Type 0 where
+pub record HaveLexemes (text : List ℕ) (from at : ℕ) (lexemes : List Lexeme) (start : ℕ) : Type 0 where
   pub tokens : List Token
   pub gathered : AreGathered text from at tokens
   pub same : lexemes ≡ map (lexeme_of text) tokens
-  pub leads : LeadsIn first tokens
+  pub leads : LeadsIn start tokens
 
-pub lexemes_none : (text : List ℕ) (from : ℕ) (first : Token) (laws : TurnLaws text) → from ≤ length text → HaveLexemes text from from [] first
-lexemes_none text from first laws h = record { tokens = []; gathered = gathered_none text from laws h; same = refl; leads = tt }
+pub lexemes_none : (text : List ℕ) (from : ℕ) (start : ℕ) (laws : TurnLaws text) → from ≤ length text → HaveLexemes text from from [] start
+lexemes_none text from start laws h = record { tokens = []; gathered = gathered_none text from laws h; same = refl; leads = tt }
 
 more_than_none : (n : ℕ) → (suc n == 0) ≡ false
 more_than_none n = grind (arith, nat_tests)
 
-leads_more : (first t : Token) (ts : List Token) (none : Bool) → none ≡ (length ts == 0) → LeadsIn first ts → LeadsIn (cond none t first) (ts ++ t ∷ [])
-leads_more first t [] none e l = ap (λ (b : Bool). cond b t first) e
-leads_more first t (u ∷ us) none e l = ap (λ (b : Bool). cond b t first) (e ∙ more_than_none (length us)) ∙ l
+leads_more : (start : ℕ) (t : Token) (ts : List Token) (none : Bool) → none ≡ (length ts == 0) → LeadsIn start ts → LeadsIn (cond none t.from start) (ts ++ t ∷ [])
+leads_more start t [] none e l = ap (λ (b : Bool). cond b t.from start) e
+leads_more start t (u ∷ us) none e l = ap (λ (b : Bool). cond b t.from start) (e ∙ more_than_none (length us)) ∙ l
 
-leads_on : (text : List ℕ) (from at : ℕ) (ls : List Lexeme) (first t : Token) (none : Bool) (h : HaveLexemes text from at ls first) → none ≡ (length ls == 0)
-    → LeadsIn (cond none t first) (h.tokens ++ t ∷ [])
-leads_on text from at ls first t none h e =
-    leads_more first t h.tokens none (e ∙ ap (λ (n : ℕ). n == 0) (ap length h.same ∙ length-map h.tokens (lexeme_of text))) h.leads
+leads_on : (text : List ℕ) (from at : ℕ) (ls : List Lexeme) (start : ℕ) (t : Token) (none : Bool) (h : HaveLexemes text from at ls start) → none ≡ (length ls == 0)
+    → LeadsIn (cond none t.from start) (h.tokens ++ t ∷ [])
+leads_on text from at ls start t none h e =
+    leads_more start t h.tokens none (e ∙ ap (λ (n : ℕ). n == 0) (ap length h.same ∙ length-map h.tokens (lexeme_of text))) h.leads
 
 pushed : (text : List ℕ) (ts : List Token) (ls : List Lexeme) (t : Token) → ls ≡ map (lexeme_of text) ts → ls ++ lexeme_of text t ∷ [] ≡ map (lexeme_of text) (ts ++ t ∷ [])
 pushed text ts ls t e = ap (λ ms. ms ++ lexeme_of text t ∷ []) e ∙ sym (map_push (lexeme_of text) ts t)
 
-pub lexemes_more : (text : List ℕ) (from at : ℕ) (ls : List Lexeme) (first t : Token) (none : Bool) → HaveLexemes text from at ls first → none ≡ (length ls == 0)
-    → (at < t.to) × LexesTo text at t.to (t ∷ []) → is_at Symbol.Semicolon text t ≡ false → HaveLexemes text from t.to (ls ++ lexeme_of text t ∷ []) (cond none t first)
-lexemes_more text from at ls first t none h e n s = record {
+pub lexemes_more : (text : List ℕ) (from at : ℕ) (ls : List Lexeme) (start : ℕ) (t : Token) (none : Bool) → HaveLexemes text from at ls start → none ≡ (length ls == 0)
+    → (at < t.to) × LexesTo text at t.to (t ∷ []) → is_at Symbol.Semicolon text t ≡ false → HaveLexemes text from t.to (ls ++ lexeme_of text t ∷ []) (cond none t.from start)
+lexemes_more text from at ls start t none h e n s = record {
   tokens = h.tokens ++ t ∷ [];
   gathered = gathered_more text from at h.tokens t h.gathered n s;
   same = pushed text h.tokens ls t h.same;
-  leads = leads_on text from at ls first t none h e;
+  leads = leads_on text from at ls start t none h e;
 }
 
-pub lexemes_here : (text : List ℕ) (from at : ℕ) (ls : List Lexeme) (first t : Token) (none : Bool) → HaveLexemes text from at ls first → none ≡ (length ls == 0)
-    → (at < t.to) × LexesTo text at t.to (t ∷ []) → is_at Symbol.Semicolon text t ≡ true → IsGathered text from (ls ++ lexeme_of text t ∷ []) (record { first = cond none t first; to = t.to })
-lexemes_here text from at ls first t none h e n s = record {
+pub lexemes_here : (text : List ℕ) (from at : ℕ) (ls : List Lexeme) (start : ℕ) (t : Token) (none : Bool) → HaveLexemes text from at ls start → none ≡ (length ls == 0)
+    → (at < t.to) × LexesTo text at t.to (t ∷ []) → is_at Symbol.Semicolon text t ≡ true → IsGathered text from (ls ++ lexeme_of text t ∷ []) (record { start = cond none t.from start; to = t.to })
+lexemes_here text from at ls start t none h e n s = record {
   tokens = h.tokens ++ t ∷ [];
   is_stretch = stretch_here text from at h.tokens t h.gathered n s;
   same = pushed text h.tokens ls t h.same;
-  leads = leads_on text from at ls first t none h e;
+  leads = leads_on text from at ls start t none h e;
 }
 
-pub lexemes_end : (text : List ℕ) (from at : ℕ) (ls : List Lexeme) (first : Token) → HaveLexemes text from at ls first → LexesTo text at (length text) []
-    → IsGathered text from ls (record { first = first; to = length text })
-lexemes_end text from at ls first h n = record { tokens = h.tokens; is_stretch = stretch_end text from at h.tokens h.gathered n; same = h.same; leads = h.leads }
+pub lexemes_end : (text : List ℕ) (from at : ℕ) (ls : List Lexeme) (start : ℕ) → HaveLexemes text from at ls start → LexesTo text at (length text) []
+    → IsGathered text from ls (record { start = start; to = length text })
+lexemes_end text from at ls start h n = record { tokens = h.tokens; is_stretch = stretch_end text from at h.tokens h.gathered n; same = h.same; leads = h.leads }
 
-pub lexemes_out : (text : List ℕ) (from at : ℕ) (ls : List Lexeme) (first : Token) → HaveLexemes text from at ls first → length text ≤ at
-    → IsGathered text from ls (record { first = first; to = at })
-lexemes_out text from at ls first h n = record { tokens = h.tokens; is_stretch = stretch_out text from at h.tokens h.gathered n; same = h.same; leads = h.leads }
+pub lexemes_out : (text : List ℕ) (from at : ℕ) (ls : List Lexeme) (start : ℕ) → HaveLexemes text from at ls start → length text ≤ at
+    → IsGathered text from ls (record { start = start; to = at })
+lexemes_out text from at ls start h n = record { tokens = h.tokens; is_stretch = stretch_out text from at h.tokens h.gathered n; same = h.same; leads = h.leads }
 
 -- what the lexemes of a stretch are read as
-item_is : (text : List ℕ) (first : Token) (ts : List Token) (ls : List Lexeme) → ls ≡ map (lexeme_of text) ts → LeadsIn first ts → 0 < length ts → begins Symbol.Predicate ls ≡ false
-    → item_at text ts ≡ option_map (λ what. placed first what) (whole_at max_depth ls)
-item_is text first [] ls e l h b = absurd (omega arith)
-item_is text first (t ∷ ts) ls e l h b =
+item_is : (text : List ℕ) (start : ℕ) (ts : List Token) (ls : List Lexeme) → ls ≡ map (lexeme_of text) ts → LeadsIn start ts → 0 < length ts → begins Symbol.Predicate ls ≡ false
+    → item_at text ts ≡ option_map (λ what. placed_at start what) (whole_at max_depth ls)
+item_is text start [] ls e l h b = absurd (omega arith)
+item_is text start (t ∷ ts) ls e l h b =
     let other : is_at Symbol.Predicate text t ≡ false = begins_first Symbol.Predicate text t (t ∷ ts) ts ls refl e ∙ b in
     item_other text t (t ∷ ts) ts ls (whole_at max_depth ls) other refl e refl
-    ∙ ap (λ (u : Token). option_map (λ what. placed u what) (whole_at max_depth ls)) (sym l)
+    ∙ ap (λ (n : ℕ). option_map (λ what. placed_at n what) (whole_at max_depth ls)) (sym l)
 
-first_is : (first d : Token) (ts : List Token) → LeadsIn first ts → 0 < length ts → slice_index_or ts 0 d ≡ first
-first_is first d [] l h = absurd (omega arith)
-first_is first d (t ∷ ts) l h = sym l
+start_is : (start : ℕ) (d : Token) (ts : List Token) → LeadsIn start ts → 0 < length ts → (slice_index_or ts 0 d).from ≡ start
+start_is start d [] l h = absurd (omega arith)
+start_is start d (t ∷ ts) l h = sym l
+
+-- the place of an empty stretch's first token, which no stretch here is
+abbrev no_token : Token
+no_token = record { kind = Kind.Word; from = 0; to = 0 }
 
 some_tokens : (text : List ℕ) (from : ℕ) (ls : List Lexeme) (st : Stretch) (g : IsGathered text from ls st) → (length ls == 0) ≡ false → 0 < length g.tokens
 some_tokens text from ls st g h =
@@ -235,24 +240,24 @@ some_tokens text from ls st g h =
     by (suc n) e = omega arith
 
 pub gathered_item : (text : List ℕ) (from : ℕ) (ls : List Lexeme) (st : Stretch) (item : ItemTree) → IsGathered text from ls st → (length ls == 0) ≡ false → begins Symbol.Predicate ls ≡ false
-    → option_map (λ what. placed st.first what) (whole_at max_depth ls) ≡ Some item → IsItemTo text from st.to item
+    → option_map (λ what. placed_at st.start what) (whole_at max_depth ls) ≡ Some item → IsItemTo text from st.to item
 gathered_item text from ls st item g h b e =
     item_to text from st.to g.tokens item g.is_stretch (some_tokens text from ls st g h)
-    (item_is text st.first g.tokens ls g.same g.leads (some_tokens text from ls st g h) b ∙ e)
+    (item_is text st.start g.tokens ls g.same g.leads (some_tokens text from ls st g h) b ∙ e)
 
 no_item : (text : List ℕ) (from : ℕ) (ls : List Lexeme) (st : Stretch) (g : IsGathered text from ls st) → (length ls == 0) ≡ false → begins Symbol.Predicate ls ≡ false
     → whole_at max_depth ls ≡ None → item_at text g.tokens ≡ None
 no_item text from ls st g h b e =
-    item_is text st.first g.tokens ls g.same g.leads (some_tokens text from ls st g h) b ∙ ap (λ (o : Option WhatTree). option_map (λ what. placed st.first what) o) e
+    item_is text st.start g.tokens ls g.same g.leads (some_tokens text from ls st g h) b ∙ ap (λ (o : Option WhatTree). option_map (λ what. placed_at st.start what) o) e
 
 pub gathered_lacks : (text : List ℕ) (laws : TurnLaws text) (from : ℕ) (ls : List Lexeme) (st : Stretch) → IsGathered text from ls st → (length ls == 0) ≡ false → begins Symbol.Predicate ls ≡ false
-    → whole_at max_depth ls ≡ None → LacksItem text from st.first.from st.to
+    → whole_at max_depth ls ≡ None → LacksItem text from st.start st.to
 gathered_lacks text laws from ls st g h b e =
-    subst (λ (t : Token). LacksItem text from t.from st.to) (first_is st.first st.first g.tokens g.leads (some_tokens text from ls st g h))
-    (lacks_item text laws from st.to g.tokens st.first g.is_stretch (some_tokens text from ls st g h) (no_item text from ls st g h b e))
+    subst (λ (n : ℕ). LacksItem text from n st.to) (start_is st.start no_token g.tokens g.leads (some_tokens text from ls st g h))
+    (lacks_item text laws from st.to g.tokens no_token g.is_stretch (some_tokens text from ls st g h) (no_item text from ls st g h b e))
 
 pub gathered_lacks_next : (text : List ℕ) (from : ℕ) (ls : List Lexeme) (st : Stretch) → IsGathered text from ls st → (length ls == 0) ≡ false → begins Symbol.Predicate ls ≡ false
-    → whole_at max_depth ls ≡ None → LacksNext text from st.first.from st.to
+    → whole_at max_depth ls ≡ None → LacksNext text from st.start st.to
 gathered_lacks_next text from ls st g h b e =
-    subst (λ (t : Token). LacksNext text from t.from st.to) (first_is st.first st.first g.tokens g.leads (some_tokens text from ls st g h))
-    (lacks_next text from st.to g.tokens st.first g.is_stretch (some_tokens text from ls st g h) (no_item text from ls st g h b e))
+    subst (λ (n : ℕ). LacksNext text from n st.to) (start_is st.start no_token g.tokens g.leads (some_tokens text from ls st g h))
+    (lacks_next text from st.to g.tokens no_token g.is_stretch (some_tokens text from ls st g h) (no_item text from ls st g h b e))

@@ -18,6 +18,9 @@ item_tree item = record { from = item.from; what = what_tree item.what }
 abbrev pub placed : Token → WhatTree → ItemTree
 placed first what = record { from = first.from; what = what }
 
+abbrev pub placed_at : ℕ → WhatTree → ItemTree
+placed_at from what = record { from = from; what = what }
+
 -- so many `(` and `[` may be open at once in an item
 abbrev pub max_depth : ℕ
 max_depth = 64

@@ -127,6 +127,7 @@ fn read_name(cursor: &mut Cursor) -> Result<Token, Stop>
 }
 
 #[tactic(auto, unfolding(crate::specs::Items::scalar_at))]
+#[inline(always)]
 fn read_scalar(alloc: Global, cursor: &mut Cursor, depth: usize) -> Result<What, Stop>
     ensures read { IfOk result (λ w. scalar_at depth cursor.old ≡ Some (what_tree w, cursor.new)) }
     ensures refused { result ≡ Err Stop.Refused → scalar_at depth cursor.old ≡ None }
@@ -194,6 +195,7 @@ fn read_array(alloc: Global, cursor: &mut Cursor, depth: usize) -> Result<What, 
 }
 
 #[tactic(auto, unfolding(crate::specs::Items::constraint_at))]
+#[inline(always)]
 fn read_constraint(alloc: Global, cursor: &mut Cursor, depth: usize) -> Result<What, Stop>
     ensures read { IfOk result (λ w. constraint_at depth cursor.old ≡ Some (what_tree w, cursor.new)) }
     ensures refused { result ≡ Err Stop.Refused → constraint_at depth cursor.old ≡ None }
@@ -233,6 +235,7 @@ fn read_solve(alloc: Global, cursor: &mut Cursor, depth: usize) -> Result<What, 
 }
 
 #[tactic(auto, unfolding(crate::specs::Items::what_at))]
+#[inline(always)]
 fn read_what(alloc: Global, cursor: &mut Cursor, depth: usize) -> Result<What, Stop>
     ensures read { IfOk result (λ w. what_at depth cursor.old ≡ Some (what_tree w, cursor.new)) }
     ensures refused { result ≡ Err Stop.Refused → what_at depth cursor.old ≡ None }
@@ -251,6 +254,7 @@ fn read_what(alloc: Global, cursor: &mut Cursor, depth: usize) -> Result<What, S
 
 /// The item that `lexemes` are, in whose annotations at most `depth` brackets are open at once.
 #[tactic(auto, unfolding(crate::specs::Items::whole_at))]
+#[inline(always)]
 pub(crate) fn read_whole(alloc: Global, lexemes: &[Lexeme], depth: usize) -> Result<What, Stop>
     ensures read { IfOk result (λ w. whole_at depth lexemes.now ≡ Some (what_tree w)) }
     ensures refused { result ≡ Err Stop.Refused → whole_at depth lexemes.now ≡ None }

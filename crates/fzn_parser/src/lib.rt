@@ -19,7 +19,7 @@ mod values;
 ghost use Rattle.std.specs.Prelude.{◌≡◌, ◌≤◌, ◌<◌, ◌++◌, ◌∷◌, [], length, map, take, drop, true, false, Some, None, option_map, IfOk, MatchResult};
 ghost use Rattle.fzn_parser.specs.Texts.{is_at, lexeme_of};
 ghost use Rattle.fzn_parser.specs.Items.{whole_at};
-ghost use Rattle.fzn_parser.specs.Parsing.{item_tree, placed, max_depth, ReadsAs, IsCause};
+ghost use Rattle.fzn_parser.specs.Parsing.{item_tree, placed_at, max_depth, ReadsAs, IsCause};
 ghost use Rattle.fzn_parser.specs.Stretches.{item_at};
 
 use cursor::{Lexeme, Stop, Symbol, begins};
@@ -71,16 +71,13 @@ fn read_predicate(alloc: Global, text: &[u8], first: Token, more: &[Token]) -> R
     }
 }
 
-/// The item that these lexemes are, where it is no predicate; `first` is the first of their tokens.
-pub(crate) fn read_other(alloc: Global, first: Token, lexemes: &[Lexeme]) -> Result<Item, Stop>
-    ensures read { IfOk result (λ i. option_map (λ what. placed first what) (whole_at max_depth lexemes.now) ≡ Some (item_tree i)) }
+/// The item that these lexemes are, where it is no predicate; the first of their tokens begins at the byte `from`.
+pub(crate) fn read_other(alloc: Global, from: usize, lexemes: &[Lexeme]) -> Result<Item, Stop>
+    ensures read { IfOk result (λ i. option_map (λ what. placed_at from what) (whole_at max_depth lexemes.now) ≡ Some (item_tree i)) }
     ensures refused { result ≡ Err Stop.Refused → whole_at max_depth lexemes.now ≡ None }
 {
     let what = read_whole(alloc, lexemes, MAX_DEPTH)?;
-    Ok(Item {
-        from: first.from,
-        what,
-    })
+    Ok(Item { from, what })
 }
 
 /// The item that these tokens are, with these lexemes.
@@ -100,7 +97,7 @@ fn read_stretch(
             if begins(Symbol::Predicate, lexemes) {
                 read_predicate(alloc, text, *first, more)
             } else {
-                read_other(alloc, *first, lexemes)
+                read_other(alloc, first.from, lexemes)
             }
         }
     }

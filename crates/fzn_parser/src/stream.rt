@@ -56,10 +56,10 @@ impl Room {
     }
 }
 
-/// A stretch of tokens: the first of them, where there is one, and the place behind them.
+/// A stretch of tokens: where the first of them begins, where there is one, and the place behind them.
 #[derive(Clone, Copy)]
 pub struct Stretch {
-    pub(crate) first: Token,
+    pub(crate) start: usize,
     pub(crate) to: usize,
 }
 
@@ -96,13 +96,20 @@ fn keep_literal(class: Class, token: Token, lexemes: &mut Vec<Lexeme>) -> Result
     Ok(false)
 }
 
-/// Puts any token's lexeme at the end, and tells whether it is a semicolon.
+/// Puts the lexeme of any token, given by its parts, at the end, and tells whether it is a semicolon. The parts need no place in
+/// memory, as a token does that is handed over.
 #[inline(never)]
-fn keep_any(text: &[u8], token: Token, lexemes: &mut Vec<Lexeme>) -> Result<bool, AllocError>
-    ensures ends { IfOk result (λ b. b ≡ is_at Sign.Semicolon text.now token) }
-    ensures lexemes { OnOk result (lexemes.new.items ≡ lexemes.old.items ++ lexeme_of text.now token ∷ []) }
+fn keep_any(
+    text: &[u8],
+    kind: Kind,
+    from: usize,
+    to: usize,
+    lexemes: &mut Vec<Lexeme>,
+) -> Result<bool, AllocError>
+    ensures ends { IfOk result (λ b. b ≡ is_at Sign.Semicolon text.now (record { kind = kind; from = from; to = to })) }
+    ensures lexemes { OnOk result (lexemes.new.items ≡ lexemes.old.items ++ lexeme_of text.now (record { kind = kind; from = from; to = to }) ∷ []) }
 {
-    match lexeme_of(text, token) {
+    match lexeme_of(text, Token { kind, from, to }) {
         Lexeme::Fixed(symbol) => keep_symbol(symbol, lexemes),
         Lexeme::Kept(class, kept) => keep_literal(class, kept, lexemes),
     }
@@ -120,16 +127,16 @@ fn keep(text: &[u8], token: Token, lexemes: &mut Vec<Lexeme>) -> Result<bool, Al
         Kind::Int => keep_literal(Class::Int, token, lexemes),
         Kind::Mark => match plain_mark(text, token) {
             Some(symbol) => keep_symbol(symbol, lexemes),
-            None => keep_any(text, token, lexemes),
+            None => keep_any(text, token.kind, token.from, token.to, lexemes),
         },
         Kind::Word => {
             if is_plain_name(text, token) {
                 keep_literal(Class::Name, token, lexemes)
             } else {
-                keep_any(text, token, lexemes)
+                keep_any(text, token.kind, token.from, token.to, lexemes)
             }
         }
-        Kind::Float | Kind::Text => keep_any(text, token, lexemes),
+        Kind::Float | Kind::Text => keep_any(text, token.kind, token.from, token.to, lexemes),
     }
 }
 
@@ -145,12 +152,12 @@ fn token_at(text: &[u8], from: usize) -> Result<Option<Token>, NoToken>
     }
 }
 
-/// The first of the tokens, where `token` is one more and there was none or this one.
+/// Where the first of the tokens begins, where `token` is one more and there was none, or the first begins at `start`.
 #[inline(always)]
-fn first_with(none: bool, first: Token, token: Token) -> Token
-    ensures { result ≡ cond none token first }
+fn start_with(none: bool, start: usize, token: Token) -> usize
+    ensures { result ≡ cond none token.from start }
 {
-    if none { same_token(token) } else { first }
+    if none { token.from } else { start }
 }
 
 /// The lexemes of the first stretch of tokens behind the byte `from`.
@@ -162,29 +169,25 @@ fn gather(text: &[u8], from: usize, lexemes: &mut Vec<Lexeme>) -> Result<Stretch
 {
     law_tokens_in_turn();
     lexemes.clear();
-    let mut first = Token {
-        kind: Kind::Mark,
-        from,
-        to: from,
-    };
+    let mut start = from;
     let mut at = from;
     while at < text.len() {
         match token_at(text, at) {
             Ok(Some(token)) => {
-                first = first_with(lexemes.is_empty(), first, token);
+                start = start_with(lexemes.is_empty(), start, token);
                 at = token.to;
                 if keep(text, token, lexemes)? {
-                    return Ok(Stretch { first, to: at });
+                    return Ok(Stretch { start, to: at });
                 }
             }
             Ok(None) => {
                 let to = text.len();
-                return Ok(Stretch { first, to });
+                return Ok(Stretch { start, to });
             }
             Err(none) => return Err(ItemError::NoToken { at: none.at }),
         }
     }
-    Ok(Stretch { first, to: at })
+    Ok(Stretch { start, to: at })
 }
 
 /// Puts a token at the end, and tells whether it is a semicolon.
@@ -271,10 +274,10 @@ pub fn next_item(
     if begins(Symbol::Predicate, room.lexemes.as_slice()) {
         return next_predicate(alloc, text, from);
     }
-    match read_other(alloc, stretch.first, room.lexemes.as_slice()) {
+    match read_other(alloc, stretch.start, room.lexemes.as_slice()) {
         Ok(item) => Ok(Some((item, stretch.to))),
         Err(Stop::Refused) => Err(ItemError::NoItem {
-            at: stretch.first.from,
+            at: stretch.start,
             to: stretch.to,
         }),
         Err(Stop::NoMemory) => Err(ItemError::NoMemory),

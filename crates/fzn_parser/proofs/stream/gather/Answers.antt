@@ -17,18 +17,18 @@ returns-then-branch-clause-stretch c =
     let kept = c.in_ok-keep-in-Ok-Some.ensures in
     let none : c.is_empty.result ≡ (length c.loop-at.lexemes.items == 0) = search rules in
     let next : IsNext c.args.text.now c.loop-at.at (Some c.in-Ok-Some.token) = subst (λ o. IsNext c.args.text.now c.loop-at.at o) c.in-Ok-Some.field-0-is c.in-Ok-Some.ensures in
-    rw (kept.lexemes, c.first_with-first.ensures) (lexemes_here c.args.text.now c.args.from c.loop-at.at c.loop-at.lexemes.items c.loop-at.first c.in-Ok-Some.token c.is_empty.result c.loop-at.invariant none next (sym kept.ends ∙ c.if-branch.true))
+    rw (kept.lexemes, c.start_with-start.ensures) (lexemes_here c.args.text.now c.args.from c.loop-at.at c.loop-at.lexemes.items c.loop-at.start c.in-Ok-Some.token c.is_empty.result c.loop-at.invariant none next (sym kept.ends ∙ c.if-branch.true))
 
 pub loop-at-preserved : goal.loop-at-preserved
 loop-at-preserved c =
     let kept = c.in_ok-keep-in-Ok-Some.ensures in
     let none : c.is_empty.result ≡ (length c.loop-at.lexemes.items == 0) = search rules in
     let next : IsNext c.args.text.now c.loop-at.at (Some c.in-Ok-Some.token) = subst (λ o. IsNext c.args.text.now c.loop-at.at o) c.in-Ok-Some.field-0-is c.in-Ok-Some.ensures in
-    rw (kept.lexemes, c.first_with-first.ensures) (lexemes_more c.args.text.now c.args.from c.loop-at.at c.loop-at.lexemes.items c.loop-at.first c.in-Ok-Some.token c.is_empty.result c.loop-at.invariant none next (sym kept.ends ∙ c.if-branch.false))
+    rw (kept.lexemes, c.start_with-start.ensures) (lexemes_more c.args.text.now c.args.from c.loop-at.at c.loop-at.lexemes.items c.loop-at.start c.in-Ok-Some.token c.is_empty.result c.loop-at.invariant none next (sym kept.ends ∙ c.if-branch.false))
 
 pub returns-in-Ok-None-clause-stretch : goal.returns-in-Ok-None-clause-stretch
 returns-in-Ok-None-clause-stretch c =
-    lexemes_end c.args.text.now c.args.from c.loop-at.at c.loop-at.lexemes.items c.loop-at.first c.loop-at.invariant (subst (λ o. IsNext c.args.text.now c.loop-at.at o) c.in-Ok-None.field-0-is c.in-Ok-None.ensures)
+    lexemes_end c.args.text.now c.args.from c.loop-at.at c.loop-at.lexemes.items c.loop-at.start c.loop-at.invariant (subst (λ o. IsNext c.args.text.now c.loop-at.at o) c.in-Ok-None.field-0-is c.in-Ok-None.ensures)
 
 pub returns-in-Err-clause-cause : goal.returns-in-Err-clause-cause
 returns-in-Err-clause-cause c =
@@ -36,7 +36,7 @@ returns-in-Err-clause-cause c =
 
 pub returns-clause-stretch : goal.returns-clause-stretch
 returns-clause-stretch c =
-    lexemes_out c.args.text.now c.args.from c.loop-at.at c.loop-at.lexemes.items c.loop-at.first c.loop-at.invariant (omega (arith, c.loop-at-test.false))
+    lexemes_out c.args.text.now c.args.from c.loop-at.at c.loop-at.lexemes.items c.loop-at.start c.loop-at.invariant (omega (arith, c.loop-at-test.false))
 
 pub returns-in-Err-clause-next : goal.returns-in-Err-clause-next
 returns-in-Err-clause-next c =

@@ -3,7 +3,7 @@ use Rattle.std.specs.Prelude.{◌==◌, option_map}
 use Rattle.fzn_parser.specs.declared.cursor.Lexeme.{Lexeme}
 use Rattle.fzn_parser.specs.declared.cursor.Symbol.{Symbol}
 use Rattle.fzn_parser.specs.Terminals.{begins}
-use Rattle.fzn_parser.specs.Parsing.{item_tree, placed, max_depth}
+use Rattle.fzn_parser.specs.Parsing.{item_tree, placed_at, max_depth}
 use Rattle.fzn_parser.specs.Items.{whole_at}
 use Rattle.fzn_parser.proofs.Gathered.{TurnLaws, gathered_item, gathered_lacks, gathered_lacks_next}
 use Rattle.fzn_parser.proofs.stream.next_item.Goals as goal
@@ -12,10 +12,9 @@ pub returns-in-Ok-clause-item : goal.returns-in-Ok-clause-item
 returns-in-Ok-clause-item c =
     let ls = c.gather.new.lexemes.items in
     let some : (length ls == 0) ≡ false = search rules in
-    let first = c.in_ok-stretch.stretch.first in
     let other : begins Symbol.Predicate ls ≡ false = ap (begins Symbol.Predicate) (sym c.as_slice.ensures.value) ∙ (sym c.begins.ensures ∙ c.if-begins.false) in
     gathered_item c.args.text.now c.args.from ls c.in_ok-stretch.stretch (item_tree c.in-Ok.item) c.in_ok-stretch.ensures.stretch some other
-    (ap (λ (us : List Lexeme). option_map (λ what. placed first what) (whole_at max_depth us)) (sym c.as_slice-2.ensures.value) ∙ c.in-Ok.ensures.read)
+    (ap (λ (us : List Lexeme). option_map (λ what. placed_at c.in_ok-stretch.stretch.start what) (whole_at max_depth us)) (sym c.as_slice-2.ensures.value) ∙ c.in-Ok.ensures.read)
 
 pub returns-in-Err-Refused-clause-cause : goal.returns-in-Err-Refused-clause-cause
 returns-in-Err-Refused-clause-cause c =

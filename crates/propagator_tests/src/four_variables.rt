@@ -7,7 +7,8 @@ ghost use Rattle.guarded_tell.specs.Kernels.{IsKernel};
 ghost use Rattle.guarded_tell.specs.Shapes.{IsShapeOf};
 
 use guarded_tell::{
-    Hear, Hint, Kernel, Seen, Shape, Side, Tell, seen_visit, shape_of, visit_narrowing, visit_tells,
+    Hear, Hint, Kernel, Seen, Shape, Side, Tell, failing_tell, seen_visit, shape_of,
+    visit_narrowing, visit_tells,
 };
 use interval::{BoxOf, NoMemory, is_crossed};
 use std::alloc::Global;
@@ -168,13 +169,17 @@ fn expect_seen(
 {
     let is_so = match seen_visit(kernel, shape, b) {
         Seen::Quiet(_) => are_those_that_narrow(tells, pairs, &[]),
-        Seen::One(t) => are_those_that_narrow(tells, pairs, &[(t.var, t.side, t.bound)]),
+        Seen::One(t) | Seen::Last(t) => {
+            are_those_that_narrow(tells, pairs, &[(t.var, t.side, t.bound)])
+        }
         Seen::Two(t, u) => {
             let both = [(t.var, t.side, t.bound), (u.var, u.side, u.bound)];
             are_those_that_narrow(tells, pairs, &both)
         }
-        Seen::Fails(t) => is_first_and_fails(tells, pairs, (t.var, t.side, t.bound)),
-        Seen::Unseen => true,
+        Seen::Unseen => match failing_tell(kernel, shape, b) {
+            Some(t) => is_first_and_fails(tells, pairs, (t.var, t.side, t.bound)),
+            None => true,
+        },
     };
     assert!(rt; is_so);
 }

@@ -93,7 +93,7 @@ fn is_said(seen: Seen, tells: Option<&[Told]>) -> bool {
         Seen::Quiet(_) => tells == Some(&[]),
         Seen::One(t) => tells == Some(&[row(t)]),
         Seen::Two(t, u) => tells == Some(&[row(t), row(u)]),
-        Seen::Fails(_) => false,
+        Seen::Last(_) => false,
         Seen::Unseen => tells.is_none(),
     }
 }
@@ -159,7 +159,7 @@ fn agrees(seen: Seen, tells: &[Told], pairs: &Pairs) -> bool {
         Seen::Quiet(_) => are_those_that_narrow(tells, pairs, &[]),
         Seen::One(t) => are_those_that_narrow(tells, pairs, &[row(t)]),
         Seen::Two(t, u) => are_those_that_narrow(tells, pairs, &[row(t), row(u)]),
-        Seen::Fails(_) => false,
+        Seen::Last(_) => false,
         Seen::Unseen => !is_natural(pairs) || are_many(tells, pairs),
     }
 }

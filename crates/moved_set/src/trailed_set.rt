@@ -172,9 +172,35 @@ impl TrailedSet {
     }
 }
 
-/// Changes a word, and notes what it was.
+/// Changes a word, and notes what it was. Mostly the trail has room for that.
 #[inline(always)]
 fn write(words: &mut [u32], trail: &mut Vec<Mask>, place: usize, word: u32) -> Result<(), NoMemory>
+    requires inside { place < length words.old }
+    requires small { place < 2 ^ 32 }
+    ensures words { OnOk result (words.new ≡ slice_set words.old place word) }
+    ensures spared { Spares words.old trail.old.items words.new trail.new.items }
+    ensures err { OnErr result ((words.new ≡ words.old) × (trail.new.items ≡ trail.old.items)) }
+{
+    if trail.as_slice().len() < trail.capacity() {
+        let change = Mask {
+            place: place as u32,
+            bits: words[place],
+        };
+        trail.push_reserved(change);
+        words[place] = word;
+        return Ok(());
+    }
+    write_growing(words, trail, place, word)
+}
+
+/// The same where the trail has to grow. It stands apart, so that nothing is kept for it where the trail hasn't to.
+#[inline(never)]
+fn write_growing(
+    words: &mut [u32],
+    trail: &mut Vec<Mask>,
+    place: usize,
+    word: u32,
+) -> Result<(), NoMemory>
     requires inside { place < length words.old }
     requires small { place < 2 ^ 32 }
     ensures words { OnOk result (words.new ≡ slice_set words.old place word) }
@@ -185,35 +211,10 @@ fn write(words: &mut [u32], trail: &mut Vec<Mask>, place: usize, word: u32) -> R
         place: place as u32,
         bits: words[place],
     };
-    if note(trail, change).is_err() {
-        return Err(NoMemory);
-    }
-    words[place] = word;
-    Ok(())
-}
-
-/// Puts a change behind the trail.
-#[inline(always)]
-fn note(trail: &mut Vec<Mask>, change: Mask) -> Result<(), NoMemory>
-    ensures items { OnOk result (trail.new.items ≡ trail.old.items ++ change ∷ []) }
-    ensures err { OnErr result (trail.new.items ≡ trail.old.items) }
-{
-    if trail.as_slice().len() < trail.capacity() {
-        trail.push_reserved(change);
-        return Ok(());
-    }
-    note_growing(trail, change)
-}
-
-/// The same where the trail has to grow. It stands apart, so that nothing is kept for it where the trail hasn't to.
-#[inline(never)]
-fn note_growing(trail: &mut Vec<Mask>, change: Mask) -> Result<(), NoMemory>
-    ensures items { OnOk result (trail.new.items ≡ trail.old.items ++ change ∷ []) }
-    ensures err { OnErr result (trail.new.items ≡ trail.old.items) }
-{
     if trail.push(change).is_err() {
         return Err(NoMemory);
     }
+    words[place] = word;
     Ok(())
 }
 

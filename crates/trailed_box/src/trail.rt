@@ -1,6 +1,6 @@
 //! The trail: the changes of a box, and the marks in it.
 
-ghost use Rattle.std.specs.Prelude.{◌≡◌, ◌<◌, ◌≤◌, ◌↔◌, length, drop, take, All, IsTrue, OnOk, OnErr};
+ghost use Rattle.std.specs.Prelude.{◌≡◌, ◌++◌, ◌∷◌, [], ◌<◌, ◌≤◌, ◌↔◌, length, drop, take, All, IsTrue, OnOk, OnErr};
 ghost use Rattle.interval.specs.Boxes.{low_of, high_of};
 ghost use Rattle.trailed_box.specs.Trailed.{IsPart};
 ghost use Rattle.trailed_box.specs.Trail.{undone, var_at, AreOn, Spares, Appends};
@@ -96,10 +96,33 @@ fn append(
         low: current.low(v),
         high: current.high(v),
     };
+    put_behind(trail, change)?;
+    last[var] = place;
+    Ok(())
+}
+
+/// Puts a change behind the trail.
+#[inline(always)]
+fn put_behind(trail: &mut Vec<Change>, change: Change) -> Result<(), NoMemory>
+    ensures items { OnOk result (trail.new.items ≡ trail.old.items ++ change ∷ []) }
+    ensures err { OnErr result (trail.new.items ≡ trail.old.items) }
+{
+    if trail.as_slice().len() < trail.capacity() {
+        trail.push_reserved(change);
+        return Ok(());
+    }
+    put_growing(trail, change)
+}
+
+/// The same where the trail has to grow. It stands apart, so that nothing is kept for it where the trail hasn't to.
+#[inline(never)]
+fn put_growing(trail: &mut Vec<Change>, change: Change) -> Result<(), NoMemory>
+    ensures items { OnOk result (trail.new.items ≡ trail.old.items ++ change ∷ []) }
+    ensures err { OnErr result (trail.new.items ≡ trail.old.items) }
+{
     if trail.push(change).is_err() {
         return Err(NoMemory);
     }
-    last[var] = place;
     Ok(())
 }
 

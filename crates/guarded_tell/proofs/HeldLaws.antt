@@ -23,7 +23,7 @@ use Rattle.guarded_tell.specs.Kernels.{tells}
 use Rattle.guarded_tell.specs.Narrowing.{narrowing_tells}
 use Rattle.guarded_tell.specs.Shapes.{IsDifference, IsDifferenceIn, IsShapeOf}
 use Rattle.guarded_tell.specs.Three.{room_of}
-use Rattle.guarded_tell.specs.Held.{signs_of, pair_of, in_order}
+use Rattle.guarded_tell.specs.Held.{ordered_signs, ordered_vars, ordered_tells}
 use Rattle.short_tells.proofs.ShortTellLaws.{rise_above, rise_below}
 use Rattle.short_tells.proofs.ShortSumLaws.{sure_not_out, at_most_by_room, equal_by_room}
 use Rattle.guarded_tell.proofs.ShapeQuiet.{difference_sums}
@@ -32,20 +32,20 @@ use Rattle.guarded_tell.proofs.ThreeLaws.{whole}
 
 -- ---- the kernel's terms stand in an order
 
-module _ (k : Kernel) (m : Lit) (cs : List ℤ) (vs : List ℕ) (z : ℤ) (f : Bool) (l : Lit) (x y : ℕ) (limit : ℤ) (order : (ws : List ℕ) (v w : ℕ) → IsDifference cs ws v w → (cs ≡ signs_of f) × (ws ≡ pair_of f v w)) where
-  ordered : (ds : List ℤ) (ws : List ℕ) → ds ≡ cs → IsDifference ds ws x y → (ds ≡ signs_of f) × (ws ≡ pair_of f x y)
+module _ (k : Kernel) (m : Lit) (cs : List ℤ) (vs : List ℕ) (z : ℤ) (f : Bool) (l : Lit) (x y : ℕ) (limit : ℤ) (order : (ws : List ℕ) (v w : ℕ) → IsDifference cs ws v w → (cs ≡ ordered_signs f) × (ws ≡ ordered_vars f v w)) where
+  ordered : (ds : List ℤ) (ws : List ℕ) → ds ≡ cs → IsDifference ds ws x y → (ds ≡ ordered_signs f) × (ws ≡ ordered_vars f x y)
   ordered ds ws e d =
       let o = order ws x y (subst (λ (c : List ℤ). IsDifference c ws x y) e d) in
       (e ∙ o.0, o.1)
 
-  pub at_most_ordered : k ≡ Le m cs vs z → IsShapeOf k (AtMost l x y limit) → k ≡ Le l (signs_of f) (pair_of f x y) limit
+  pub at_most_ordered : k ≡ Le m cs vs z → IsShapeOf k (AtMost l x y limit) → k ≡ Le l (ordered_signs f) (ordered_vars f x y) limit
   unfolding IsShapeOf
   at_most_ordered is (ds, ws, e, d) =
       let same : ds ≡ cs = cc in
       let o = ordered ds ws same d in
       e ∙ (λ i. Le l (o.0 i) (o.1 i) limit)
 
-  pub same_ordered : k ≡ Eq m cs vs z → IsShapeOf k (Same l x y limit) → k ≡ Eq l (signs_of f) (pair_of f x y) limit
+  pub same_ordered : k ≡ Eq m cs vs z → IsShapeOf k (Same l x y limit) → k ≡ Eq l (ordered_signs f) (ordered_vars f x y) limit
   unfolding IsShapeOf
   same_ordered is (ds, ws, e, d) =
       let same : ds ≡ cs = cc in
@@ -54,11 +54,11 @@ module _ (k : Kernel) (m : Lit) (cs : List ℤ) (vs : List ℕ) (z : ℤ) (f : B
 
 -- ---- the tells of the two terms, in that order
 
-two_terms : (g : Term → List Tell) (x y : ℕ) (f : Bool) → flat_map g (zip (signs_of f) (pair_of f x y)) ≡ in_order f (g (pos 1, x)) (g (negsuc 0, y))
+two_terms : (g : Term → List Tell) (x y : ℕ) (f : Bool) → flat_map g (zip (ordered_signs f) (ordered_vars f x y)) ≡ ordered_tells f (g (pos 1, x)) (g (negsuc 0, y))
 two_terms g x y true = λ i. g (pos 1, x) ++ append-nil (g (negsuc 0, y)) i
 two_terms g x y false = λ i. g (negsuc 0, y) ++ append-nil (g (pos 1, x)) i
 
-is_difference : (x y : ℕ) (f : Bool) → IsDifference (signs_of f) (pair_of f x y) x y
+is_difference : (x y : ℕ) (f : Bool) → IsDifference (ordered_signs f) (ordered_vars f x y) x y
 is_difference x y true = inl (refl, refl)
 is_difference x y false = inr (refl, refl)
 
@@ -82,31 +82,31 @@ module _ (quotients : QuotientOrder) (clamped : ClampOrder) (b : Bounds) (k : Ke
   abbrev sums : Sums
   sums = sums_of_two p.first p.second
 
-  sums_of_terms : AreSums b (signs_of f) (pair_of f x y) sums
-  sums_of_terms = difference_sums b x y p within (signs_of f) (pair_of f x y) (is_difference x y f)
+  sums_of_terms : AreSums b (ordered_signs f) (ordered_vars f x y) sums
+  sums_of_terms = difference_sums b x y p within (ordered_signs f) (ordered_vars f x y) (is_difference x y f)
 
   abbrev At_most : ℤ → List Tell
-  At_most rise = in_order f (narrowing b (high_tell x (low_of b x +ℤ rise) ∷ [])) (narrowing b (low_tell y (high_of b y -ℤ rise) ∷ []))
+  At_most rise = ordered_tells f (narrowing b (high_tell x (low_of b x +ℤ rise) ∷ [])) (narrowing b (low_tell y (high_of b y -ℤ rise) ∷ []))
 
   abbrev In_room : Room → List Tell
-  In_room room = in_order f (narrowing b (room_tells b room (pos 1, x))) (narrowing b (room_tells b room (negsuc 0, y)))
+  In_room room = ordered_tells f (narrowing b (room_tells b room (pos 1, x))) (narrowing b (room_tells b room (negsuc 0, y)))
 
-  pub at_most_held : low_of b x ≤ℤ high_of b x → low_of b y ≤ℤ high_of b y → k ≡ Le l (signs_of f) (pair_of f x y) limit → sums.least ≤ℤ limit → narrowing_tells k b ≡ At_most (limit -ℤ sums.least)
+  pub at_most_held : low_of b x ≤ℤ high_of b x → low_of b y ≤ℤ high_of b y → k ≡ Le l (ordered_signs f) (ordered_vars f x y) limit → sums.least ≤ℤ limit → narrowing_tells k b ≡ At_most (limit -ℤ sums.least)
   unfolding tells
   at_most_held proper_x proper_y is low =
       let rise = limit -ℤ sums.least in
       let room : Room = record { rise = Some rise; fall = None } in
       (λ i. narrowing b (tells (is i) b))
-      ∙ at_most_by_room clamped b l (signs_of f) (pair_of f x y) limit limit sums sums_of_terms refl room (rising_is quotients clamped b k l x y limit limit refl p within sure)
-      ∙ (λ i. literal_none quotients clamped b k l x y limit limit refl p within sure low i ++ flat_map (λ (t : Term). narrowing b (room_tells b room t)) (zip (signs_of f) (pair_of f x y)))
+      ∙ at_most_by_room clamped b l (ordered_signs f) (ordered_vars f x y) limit limit sums sums_of_terms refl room (rising_is quotients clamped b k l x y limit limit refl p within sure)
+      ∙ (λ i. literal_none quotients clamped b k l x y limit limit refl p within sure low i ++ flat_map (λ (t : Term). narrowing b (room_tells b room t)) (zip (ordered_signs f) (ordered_vars f x y)))
       ∙ two_terms (λ (t : Term). narrowing b (room_tells b room t)) x y f
-      ∙ (λ i. in_order f (plus_rises quotients b x proper_x rise i) (minus_rises quotients b y proper_y rise i))
+      ∙ (λ i. ordered_tells f (plus_rises quotients b x proper_x rise i) (minus_rises quotients b y proper_y rise i))
 
-  pub same_held : k ≡ Eq l (signs_of f) (pair_of f x y) limit → sums.least ≤ℤ limit → limit ≤ℤ sums.greatest → narrowing_tells k b ≡ In_room (room_of (limit -ℤ sums.least) (sums.greatest -ℤ limit))
+  pub same_held : k ≡ Eq l (ordered_signs f) (ordered_vars f x y) limit → sums.least ≤ℤ limit → limit ≤ℤ sums.greatest → narrowing_tells k b ≡ In_room (room_of (limit -ℤ sums.least) (sums.greatest -ℤ limit))
   unfolding tells
   same_held is low high =
       let room : Room = room_of (limit -ℤ sums.least) (sums.greatest -ℤ limit) in
       (λ i. narrowing b (tells (is i) b))
-      ∙ equal_by_room clamped b l (signs_of f) (pair_of f x y) limit limit sums sums_of_terms refl room (sure_not_out clamped b l sure) (both_is quotients clamped b k l x y limit limit refl p within sure)
-      ∙ (λ i. equation_none quotients clamped b k l x y limit limit refl p within sure low high i ++ flat_map (λ (t : Term). narrowing b (room_tells b room t)) (zip (signs_of f) (pair_of f x y)))
+      ∙ equal_by_room clamped b l (ordered_signs f) (ordered_vars f x y) limit limit sums sums_of_terms refl room (sure_not_out clamped b l sure) (both_is quotients clamped b k l x y limit limit refl p within sure)
+      ∙ (λ i. equation_none quotients clamped b k l x y limit limit refl p within sure low high i ++ flat_map (λ (t : Term). narrowing b (room_tells b room t)) (zip (ordered_signs f) (ordered_vars f x y)))
       ∙ two_terms (λ (t : Term). narrowing b (room_tells b room t)) x y f

@@ -1,7 +1,8 @@
 -- A kernel that has one tell, and rests for good once it is joined.
-use Rattle.std.proofs.Common.{◌≡◌, ℕ, [], ◌∷◌, length, Bool, true, false, not, ◌&&◌, ℤ, pos, negsuc, ◌+ℤ◌, ◌-ℤ◌, ◌*ℤ◌, ◌≤ℤ◌, ◌<ℤ◌, ◌⊎◌, inl, inr, ⊎_elim, to_z, of_z, refl, sym, subst, ◌∙◌, arith}
+use Rattle.std.proofs.Common.{◌≡◌, ℕ, [], ◌∷◌, length, Option, None, Some, Bool, true, false, not, ◌&&◌, ℤ, pos, negsuc, ◌+ℤ◌, ◌-ℤ◌, ◌*ℤ◌, ◌≤ℤ◌, ◌<ℤ◌, ◌⊎◌, inl, inr, ⊎_elim, to_z, of_z, refl, sym, subst, ◌∙◌, arith}
 use Rattle.std.proofs.lemmas.Int.{ints, clamps}
-use Rattle.std.proofs.lemmas.Bool.{and_from}
+use Rattle.std.specs.Prelude.{MatchOption}
+use Rattle.std.proofs.lemmas.Bool.{true≢false, and_from, OnTrue_from}
 use Rattle.std.specs.Int.RustNames.{int_le}
 use mir.Syntax.{w64}
 use Rattle.tells.specs.declared.tell.Lit.{Lit}
@@ -13,8 +14,7 @@ use Rattle.small_sums.specs.declared.pairs.Pair.{Pair}
 use Rattle.guarded_tell.specs.declared.kernel.Kernel.{Kernel}
 use Rattle.guarded_tell.specs.declared.shape.Shape.TheVariants.{AtMost, Same, Either, Triple}
 use Rattle.guarded_tell.specs.declared.resting.Rest.TheVariants.{ForGood}
-use Rattle.guarded_tell.specs.declared.seen.Seen.{Seen}
-use Rattle.guarded_tell.specs.declared.seen.Seen.TheVariants.{Quiet, One, Last, Two, Unseen}
+use Rattle.guarded_tell.specs.declared.seen.Sole.{Sole}
 use Rattle.guarded_tell.specs.Words.{Keeps, IsProperIn, is_sure, is_out, sign_true, sign_tell, tell_true, tell_false}
 use Rattle.sum_tells.specs.Linear.{least_of, greatest_of}
 use Rattle.sum_tells.specs.Equality.{is_same, product_is_not}
@@ -24,7 +24,7 @@ use Rattle.guarded_tell.specs.Kernels.{vars_of, IsKernel, IsClosedUnder}
 use Rattle.guarded_tell.specs.Shapes.{IsDifferenceIn, IsShapeOf}
 use Rattle.guarded_tell.specs.Narrowing.{narrowing_tells}
 use Rattle.guarded_tell.specs.Rests.{IsEntailed}
-use Rattle.guarded_tell.specs.Seen.{IsEntailedBy, IsSeen, UnseenOrLast, MovesOff}
+use Rattle.guarded_tell.specs.Seen.{IsEntailedBy, IsSole, MovesOff}
 use Rattle.sum_tells.proofs.EqualityLaws.{is_same_of}
 use Rattle.small_sums.proofs.PairLaws.{plain_term, opposite_term}
 use Rattle.guarded_tell.proofs.ShapeQuiet.{HasPlaces, at_most_places, same_places, either_places, triple_places, difference_sums}
@@ -33,17 +33,39 @@ use Rattle.guarded_tell.proofs.SettledLaws.{equation_rests}
 use Rattle.guarded_tell.proofs.ApartLaws.{apart_first, apart_second}
 use Rattle.guarded_tell.proofs.OneLaws.{sign_not, one_same, none_same, true_told, low_left, high_left, either_first, either_second, triple_first_one, triple_second_one, triple_third_one}
 
+-- one tell of the kernel narrows the box, and the kernel may rest for good once it is joined
+abbrev pub IsLast : Kernel → Bounds → Tell → Type 0
+IsLast k b t = (narrowing_tells k b ≡ t ∷ []) × IsEntailedBy t k b
+
+-- that is its sole tell
+last_sole : (k : Kernel) (b : Bounds) (s : Sole) → IsLast k b s.tell → IsSole k b s
+last_sole k b s h = record { one = h.0; last = OnTrue_from s.is_last (IsEntailedBy s.tell k b) (λ e. h.1) }
+
 -- what a function that sees at most a last tell says of the kernel
-pub seen_by : (k : Kernel) (b : Bounds) (P : Tell → Type 0) (s : Seen) → ((t : Tell) → P t → IsSeen k b (Last t)) → UnseenOrLast s P → IsSeen k b s
-seen_by k b P (Quiet r) f h = absurd h
-seen_by k b P (One t) f h = absurd h
-seen_by k b P (Last t) f h = f t h
-seen_by k b P (Two t u) f h = absurd h
-seen_by k b P Unseen f h = tt
+pub seen_by : (k : Kernel) (b : Bounds) (P : Tell → Type 0) (o : Option Sole) → ((t : Tell) → P t → IsLast k b t) → MatchOption o (Unit {0}) (λ (s : Sole). (s.is_last ≡ true) × P s.tell)
+    → MatchOption o (Unit {0}) (IsSole k b)
+seen_by k b P None f h = tt
+seen_by k b P (Some s) f h = last_sole k b s (f s.tell h.1)
 
 -- the tell as the code forms it
-pub last_as : (k : Kernel) (b : Bounds) (t u : Tell) → t ≡ u → narrowing_tells k b ≡ t ∷ [] → IsEntailedBy u k b → IsSeen k b (Last t)
+last_as : (k : Kernel) (b : Bounds) (t u : Tell) → t ≡ u → narrowing_tells k b ≡ t ∷ [] → IsEntailedBy u k b → IsLast k b t
 last_as k b t u e told entailed = (told, subst (λ (v : Tell). IsEntailedBy v k b) (sym e) entailed)
+
+pub sole_last : (k : Kernel) (b : Bounds) (s : Sole) (t u : Tell) → s.tell ≡ t → t ≡ u → narrowing_tells k b ≡ t ∷ [] → IsEntailedBy u k b → IsSole k b s
+sole_last k b s t u is e told entailed = last_sole k b s (subst (λ (v : Tell). IsLast k b v) (sym is) (last_as k b t u e told entailed))
+
+-- a tell after which the kernel may need visits
+pub sole_one : (k : Kernel) (b : Bounds) (s : Sole) → s.is_last ≡ false → narrowing_tells k b ≡ s.tell ∷ [] → IsSole k b s
+sole_one k b s not_last told = record { one = told; last = OnTrue_from s.is_last (IsEntailedBy s.tell k b) (λ e. absurd (true≢false (sym e ∙ not_last))) }
+
+-- a literal that is neither sure nor out is told true
+abbrev pub ToldTrue : Bounds → Lit → Tell → Type 0
+ToldTrue b l t = (is_sure l b ≡ false) × (is_out l b ≡ false) × (t ≡ tell_true l)
+
+pub told_by : (k : Kernel) (b : Bounds) (l : Lit) (o : Option Sole) → ((t : Tell) → ToldTrue b l t → IsLast k b t)
+    → MatchOption o (Unit {0}) (λ (s : Sole). (s.is_last ≡ true) × (is_sure l b ≡ false) × (is_out l b ≡ false) × (s.tell ≡ tell_true l)) → MatchOption o (Unit {0}) (IsSole k b)
+told_by k b l None f h = tt
+told_by k b l (Some s) f h = last_sole k b s (f s.tell (h.1, h.2, h.3))
 
 -- numbers that differ aren't the same
 differs : (y z : ℤ) → y <ℤ z → is_same y z ≡ false
@@ -193,14 +215,14 @@ module _ (quotients : QuotientOrder) (clamped : ClampOrder) (b : Bounds) (k : Ke
         apart_closed c inside proper (inl (omega (arith, ints)))
 
     -- where the other is fixed, it is told so
-    pub first_left_out : low_of b y ≡ high_of b y → low_of b x <ℤ high_of b x → (z : ℤ) → z ≡ limit +ℤ low_of b y → (t : Tell) → MovesOff b x z t → IsSeen k b (Last t)
+    pub first_left_out : low_of b y ≡ high_of b y → low_of b x <ℤ high_of b x → (z : ℤ) → z ≡ limit +ℤ low_of b y → (t : Tell) → MovesOff b x z t → IsLast k b t
     first_left_out fixed wide z value t moves = (apart_first clamped b k l x y limit out shape fixed wide z value ∙ told moves, first_entailed fixed z value t moves)
       where
         told : MovesOff b x z t → narrowing b (product_is_not x (pos 1) z b) ≡ t ∷ []
         told (inl (low, is)) = low_left clamped b x first_low first_high wide (pos 1) z refl (is_same_of (pos 1 *ℤ low_of b x) z (omega (arith, ints))) t is
         told (inr (high, is)) = high_left clamped b x first_low first_high wide (pos 1) z refl (differs (pos 1 *ℤ low_of b x) z (omega (arith, ints))) (is_same_of (pos 1 *ℤ high_of b x) z (omega (arith, ints))) t is
 
-    pub second_left_out : low_of b x ≡ high_of b x → low_of b y <ℤ high_of b y → (z : ℤ) → z ≡ low_of b x -ℤ limit → (t : Tell) → MovesOff b y z t → IsSeen k b (Last t)
+    pub second_left_out : low_of b x ≡ high_of b x → low_of b y <ℤ high_of b y → (z : ℤ) → z ≡ low_of b x -ℤ limit → (t : Tell) → MovesOff b y z t → IsLast k b t
     second_left_out fixed wide z value t moves = (apart_second clamped b k l x y limit out shape fixed wide (limit -ℤ low_of b x) refl ∙ told moves, second_entailed fixed z value t moves)
       where
         told : MovesOff b y z t → narrowing b (product_is_not y (negsuc 0) (limit -ℤ low_of b x) b) ≡ t ∷ []
@@ -211,10 +233,7 @@ module _ (quotients : QuotientOrder) (clamped : ClampOrder) (b : Bounds) (k : Ke
 
   -- ---- clauses
 
-  abbrev ToldTrue : Lit → Tell → Type 0
-  ToldTrue l t = (is_sure l b ≡ false) × (is_out l b ≡ false) × (t ≡ tell_true l)
-
-  told_true : (l : Lit) (t : Tell) → low_of b l.var ≤ℤ high_of b l.var → ToldTrue l t → (is_out l b ≡ false) × (narrowing b (tell_true l ∷ []) ≡ t ∷ [])
+  told_true : (l : Lit) (t : Tell) → low_of b l.var ≤ℤ high_of b l.var → ToldTrue b l t → (is_out l b ≡ false) × (narrowing b (tell_true l ∷ []) ≡ t ∷ [])
   told_true l t proper (unsure, possible, is) = (possible, true_told clamped b l unsure proper ∙ (λ i. sym is i ∷ []))
 
   -- a clause rests for good in a box that keeps a literal's tell
@@ -235,32 +254,32 @@ module _ (quotients : QuotientOrder) (clamped : ClampOrder) (b : Bounds) (k : Ke
       (⊎_elim (λ h. inr (inl (sure_kept clamped c m places.second_proper h))) (λ h. inr (inr (sure_kept clamped c n places.third_proper h)))) keeps))
 
   module _ (l m : Lit) (shape : IsShapeOf k (Either l m)) (proper : IsProperIn (vars_of k) b) (t : Tell) where
-    pub either_first_last : is_out m b ≡ true → ToldTrue l t → IsSeen k b (Last t)
+    pub either_first_last : is_out m b ≡ true → ToldTrue b l t → IsLast k b t
     either_first_last second told =
         let places = either_places k b l m kernel proper shape in
         last_as k b t (tell_true l) told.2 (either_first b k l m shape t second (told_true l t places.first_proper told))
         (λ c inside left keeps. either_kept l m shape c inside left (inl keeps))
 
-    pub either_second_last : is_out l b ≡ true → ToldTrue m t → IsSeen k b (Last t)
+    pub either_second_last : is_out l b ≡ true → ToldTrue b m t → IsLast k b t
     either_second_last first told =
         let places = either_places k b l m kernel proper shape in
         last_as k b t (tell_true m) told.2 (either_second b k l m shape t first (told_true m t places.second_proper told))
         (λ c inside left keeps. either_kept l m shape c inside left (inr keeps))
 
   module _ (l m n : Lit) (shape : IsShapeOf k (Triple l m n)) (proper : IsProperIn (vars_of k) b) (t : Tell) where
-    pub triple_first_last : is_out m b ≡ true → is_out n b ≡ true → ToldTrue l t → IsSeen k b (Last t)
+    pub triple_first_last : is_out m b ≡ true → is_out n b ≡ true → ToldTrue b l t → IsLast k b t
     triple_first_last second third told =
         let places = triple_places k b l m n kernel proper shape in
         last_as k b t (tell_true l) told.2 (triple_first_one b k l m n shape t second third (told_true l t places.first_proper told))
         (λ c inside left keeps. triple_kept l m n shape c inside left (inl keeps))
 
-    pub triple_second_last : is_out l b ≡ true → is_out n b ≡ true → ToldTrue m t → IsSeen k b (Last t)
+    pub triple_second_last : is_out l b ≡ true → is_out n b ≡ true → ToldTrue b m t → IsLast k b t
     triple_second_last first third told =
         let places = triple_places k b l m n kernel proper shape in
         last_as k b t (tell_true m) told.2 (triple_second_one b k l m n shape t first third (told_true m t places.second_proper told))
         (λ c inside left keeps. triple_kept l m n shape c inside left (inr (inl keeps)))
 
-    pub triple_third_last : is_out l b ≡ true → is_out m b ≡ true → ToldTrue n t → IsSeen k b (Last t)
+    pub triple_third_last : is_out l b ≡ true → is_out m b ≡ true → ToldTrue b n t → IsLast k b t
     triple_third_last first second told =
         let places = triple_places k b l m n kernel proper shape in
         last_as k b t (tell_true n) told.2 (triple_third_one b k l m n shape t first second (told_true n t places.third_proper told))

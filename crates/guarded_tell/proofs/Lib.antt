@@ -16,5 +16,6 @@ pub mod LastLaws
 pub mod FailLaws
 mod FewLaws
 mod NaturalLaws
+mod GreatestLaws
 mod ThreeLaws
 mod HeldLaws

@@ -12,8 +12,8 @@ use Rattle.guarded_tell.specs.declared.shape.Shape.{Shape}
 use Rattle.guarded_tell.specs.declared.shape.Sign.{Sign}
 use Rattle.guarded_tell.specs.declared.shape.Sign.TheVariants.{Plus, Minus}
 use Rattle.guarded_tell.specs.declared.shape.Terms.{Terms}
-use Rattle.guarded_tell.specs.declared.shape.Shape.TheVariants.{AtMost, Same, Three, Either, Triple, Product, Slight, Other}
-use Rattle.guarded_tell.specs.Kernels.{HasNumbers}
+use Rattle.guarded_tell.specs.declared.shape.Shape.TheVariants.{AtMost, Same, Three, Either, Triple, Product, Greatest, Slight, Other}
+use Rattle.guarded_tell.specs.Kernels.{vars_of, HasNumbers}
 use Rattle.guarded_tell.specs.Shapes.{IsDifference, IsSlightSum, IsShapeOf, unit_of, units_of, places_of}
 use Rattle.small_sums.specs.Short.{slight_limit}
 use Rattle.small_sums.specs.Slight.{AreSlight}
@@ -25,6 +25,13 @@ two_items [] x y h e f = absurd (omega arith)
 two_items (a ∷ []) x y h e f = absurd (omega arith)
 two_items (a ∷ c ∷ d ∷ xs) x y h e f = absurd (omega arith)
 two_items (a ∷ c ∷ []) x y h e f = λ i. sym e i ∷ sym f i ∷ []
+
+-- a list of two variables
+pub two_places : (xs : List ℕ) → length xs ≡ 2 → xs ≡ get_or xs 0 0 ∷ get_or xs 1 0 ∷ []
+two_places [] h = absurd (omega arith)
+two_places (a ∷ []) h = absurd (omega arith)
+two_places (a ∷ c ∷ d ∷ xs) h = absurd (omega arith)
+two_places (a ∷ c ∷ []) h = refl
 
 -- a list of three items
 pub three_items : {A : Type 0} (xs : List A) (x y z : A) → length xs ≡ 3 → x ≡ get_or xs 0 x → y ≡ get_or xs 1 y → z ≡ get_or xs 2 z → xs ≡ x ∷ y ∷ z ∷ []
@@ -152,6 +159,7 @@ module _ (l : Lit) (coeffs : List ℤ) (vars : List ℕ) (limit : ℤ) (none : (
   other_inequality k e (Either m n) f = absurd (cc)
   other_inequality k e (Triple m n o) f = absurd (cc)
   other_inequality k e (Product x y z) f = absurd (cc)
+  other_inequality k e (Greatest m x y) f = absurd (cc)
   other_inequality k e Slight (m, cs, vs, bound, inl f, s) = absurd (rough (subst AreSlight (ap coeffs_of (sym f ∙ e)) s))
   other_inequality k e Slight (m, cs, vs, bound, inr f, s) = absurd (cc)
   other_inequality k e Other f = refl
@@ -164,6 +172,7 @@ module _ (l : Lit) (coeffs : List ℤ) (vars : List ℕ) (limit : ℤ) (none : (
   other_equation k e (Either m n) f = absurd (cc)
   other_equation k e (Triple m n o) f = absurd (cc)
   other_equation k e (Product x y z) f = absurd (cc)
+  other_equation k e (Greatest m x y) f = absurd (cc)
   other_equation k e Slight (m, cs, vs, bound, inl f, s) = absurd (cc)
   other_equation k e Slight (m, cs, vs, bound, inr f, s) = absurd (rough (subst AreSlight (ap coeffs_of (sym f ∙ e)) s))
   other_equation k e Other f = refl
@@ -176,26 +185,42 @@ other_clause lits n t (Three ts bound) (m, f) = absurd (cc)
 other_clause lits n t (Either l m) f = absurd (n (ap (λ (k : Kernel). length (literals_of k)) f))
 other_clause lits n t (Triple l m o) f = absurd (t (ap (λ (k : Kernel). length (literals_of k)) f))
 other_clause lits n t (Product x y z) f = absurd (cc)
+other_clause lits n t (Greatest m x y) f = absurd (cc)
 other_clause lits n t Slight (m, cs, vs, bound, inl f, s) = absurd (cc)
 other_clause lits n t Slight (m, cs, vs, bound, inr f, s) = absurd (cc)
 other_clause lits n t Other f = refl
+
+pub other_greatest : (m : ℕ) (xs : List ℕ) → (length xs ≡ 2 → ⊥) → (s : Shape) → IsShapeOf (Max m xs) s → s ≡ Other
+unfolding IsShapeOf vars_of
+other_greatest m xs n (AtMost l x y bound) (cs, vs, f, d) = absurd (cc)
+other_greatest m xs n (Same l x y bound) (cs, vs, f, d) = absurd (cc)
+other_greatest m xs n (Three ts bound) (l, f) = absurd (cc)
+other_greatest m xs n (Either k l) f = absurd (cc)
+other_greatest m xs n (Triple k l o) f = absurd (cc)
+other_greatest m xs n (Product x y z) f = absurd (cc)
+other_greatest m xs n (Greatest o x y) f = let e = ap (λ (k : Kernel). length (vars_of k)) f in absurd (n (omega arith))
+other_greatest m xs n Slight (l, cs, vs, bound, inl f, s) = absurd (cc)
+other_greatest m xs n Slight (l, cs, vs, bound, inr f, s) = absurd (cc)
+other_greatest m xs n Other f = refl
 
 pub any_is_other : (k : Kernel) → IsShapeOf k Other
 unfolding IsShapeOf
 any_is_other k = tt
 
 pub other_kernel : (k : Kernel) → ((l : Lit) (coeffs : List ℤ) (vars : List ℕ) (limit : ℤ) → k ≡ Le l coeffs vars limit → ⊥) → ((l : Lit) (coeffs : List ℤ) (vars : List ℕ) (limit : ℤ) → k ≡ Eq l coeffs vars limit → ⊥)
-    → ((lits : List Lit) → k ≡ Clause lits → ⊥) → ((x y z : ℕ) → k ≡ Times x y z → ⊥) → (s : Shape) → IsShapeOf k s → s ≡ Other
+    → ((lits : List Lit) → k ≡ Clause lits → ⊥) → ((x y z : ℕ) → k ≡ Times x y z → ⊥)
+    → ((m : ℕ) (xs : List ℕ) → k ≡ Max m xs → ⊥) → (s : Shape) → IsShapeOf k s → s ≡ Other
 unfolding IsShapeOf
-other_kernel k p q r t (AtMost m x y bound) (cs, vs, f, d) = absurd (p m cs vs bound f)
-other_kernel k p q r t (Same m x y bound) (cs, vs, f, d) = absurd (q m cs vs bound f)
-other_kernel k p q r t (Three ts bound) (m, f) = absurd (q m (units_of ts) (places_of ts) bound f)
-other_kernel k p q r t (Either l m) f = absurd (r (l ∷ m ∷ []) f)
-other_kernel k p q r t (Triple l m n) f = absurd (r (l ∷ m ∷ n ∷ []) f)
-other_kernel k p q r t (Product x y z) f = absurd (t x y z f)
-other_kernel k p q r t Slight (m, cs, vs, bound, inl f, s) = absurd (p m cs vs bound f)
-other_kernel k p q r t Slight (m, cs, vs, bound, inr f, s) = absurd (q m cs vs bound f)
-other_kernel k p q r t Other f = refl
+other_kernel k p q r t u (AtMost m x y bound) (cs, vs, f, d) = absurd (p m cs vs bound f)
+other_kernel k p q r t u (Same m x y bound) (cs, vs, f, d) = absurd (q m cs vs bound f)
+other_kernel k p q r t u (Three ts bound) (m, f) = absurd (q m (units_of ts) (places_of ts) bound f)
+other_kernel k p q r t u (Either l m) f = absurd (r (l ∷ m ∷ []) f)
+other_kernel k p q r t u (Triple l m n) f = absurd (r (l ∷ m ∷ n ∷ []) f)
+other_kernel k p q r t u (Product x y z) f = absurd (t x y z f)
+other_kernel k p q r t u (Greatest m x y) f = absurd (u m (x ∷ y ∷ []) f)
+other_kernel k p q r t u Slight (m, cs, vs, bound, inl f, s) = absurd (p m cs vs bound f)
+other_kernel k p q r t u Slight (m, cs, vs, bound, inr f, s) = absurd (q m cs vs bound f)
+other_kernel k p q r t u Other f = refl
 
 -- ---- the shape of a sum that is no difference
 

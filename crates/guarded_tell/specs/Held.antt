@@ -3,16 +3,16 @@ use Rattle.std.specs.Prelude.{Bool, true, false, ℕ, ℤ, pos, negsuc, List, []
 use Rattle.tells.specs.declared.tell.Tell.{Tell}
 
 -- the coefficients of x - y, where x is the first of its variables, or y is
-abbrev pub signs_of : Bool → List ℤ
-signs_of true = pos 1 ∷ negsuc 0 ∷ []
-signs_of false = negsuc 0 ∷ pos 1 ∷ []
+abbrev pub ordered_signs : Bool → List ℤ
+ordered_signs true = pos 1 ∷ negsuc 0 ∷ []
+ordered_signs false = negsuc 0 ∷ pos 1 ∷ []
 
 -- its variables
-abbrev pub pair_of : Bool → ℕ → ℕ → List ℕ
-pair_of true x y = x ∷ y ∷ []
-pair_of false x y = y ∷ x ∷ []
+abbrev pub ordered_vars : Bool → ℕ → ℕ → List ℕ
+ordered_vars true x y = x ∷ y ∷ []
+ordered_vars false x y = y ∷ x ∷ []
 
 -- the tells of x and those of y, in that order
-abbrev pub in_order : Bool → List Tell → List Tell → List Tell
-in_order true ts us = ts ++ us
-in_order false ts us = us ++ ts
+abbrev pub ordered_tells : Bool → List Tell → List Tell → List Tell
+ordered_tells true ts us = ts ++ us
+ordered_tells false ts us = us ++ ts

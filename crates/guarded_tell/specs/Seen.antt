@@ -1,12 +1,14 @@
 -- What a kernel's shape says of a visit.
 use Rattle.std.specs.Prelude.{◌≡◌, ◌⊎◌, ℕ, ℤ, pos, ◌+ℤ◌, ◌-ℤ◌, ◌<ℤ◌, List, [], ◌∷◌}
+use Rattle.std.specs.Bool.{OnTrue}
 use Rattle.interval.specs.Limits.{IsBound}
 use Rattle.interval.specs.Boxes.{Bounds, low_of, high_of, IsInside}
 use Rattle.guarded_tell.specs.Words.{Tell, Side, Low, High, Keeps, IsProperIn}
 use Rattle.guarded_tell.specs.Kernels.{vars_of, IsClosedUnder}
 use Rattle.guarded_tell.specs.declared.kernel.Kernel.{Kernel}
 use Rattle.guarded_tell.specs.declared.seen.Seen.{Seen}
-use Rattle.guarded_tell.specs.declared.seen.Seen.TheVariants.{Quiet, One, Last, Two, Unseen}
+use Rattle.guarded_tell.specs.declared.seen.Sole.{Sole}
+use Rattle.guarded_tell.specs.declared.seen.Seen.TheVariants.{Quiet, One, Two, Unseen}
 use Rattle.guarded_tell.specs.Narrowing.{narrowing_tells}
 use Rattle.guarded_tell.specs.Rests.{IsQuietFor}
 
@@ -29,22 +31,18 @@ pub record IsFailedBy (k : Kernel) (b : Bounds) (t : Tell) : Type 0 where
 abbrev pub IsEntailedBy : Tell → Kernel → Bounds → Type 0
 IsEntailedBy t k b = (c : Bounds) → IsInside c b → IsProperIn (vars_of k) c → Keeps c t → IsClosedUnder k c
 
--- the kernel narrows nothing of the box and rests so long, or one tell of it does, and the kernel may rest for good once that is
--- joined, or two tells do, and no other; or nothing is said
+-- one tell of the kernel narrows the box, and where it is the last the kernel may rest for good once that is joined
+pub record IsSole (k : Kernel) (b : Bounds) (s : Sole) : Type 0 where
+  pub one : narrowing_tells k b ≡ s.tell ∷ []
+  pub last : OnTrue s.is_last (IsEntailedBy s.tell k b)
+
+-- the kernel narrows nothing of the box and rests so long, or one tell of it does, or two tells do, and no other; or nothing is
+-- said
 abbrev pub IsSeen : Kernel → Bounds → Seen → Type 0
 IsSeen k b (Quiet r) = IsQuietFor k b r
 IsSeen k b (One t) = narrowing_tells k b ≡ t ∷ []
-IsSeen k b (Last t) = (narrowing_tells k b ≡ t ∷ []) × IsEntailedBy t k b
 IsSeen k b (Two t u) = narrowing_tells k b ≡ t ∷ u ∷ []
 IsSeen k b Unseen = Unit {0}
-
--- nothing is seen, or a last tell with this property
-abbrev pub UnseenOrLast : Seen → (Tell → Type 0) → Type 0
-UnseenOrLast (Quiet r) P = ⊥
-UnseenOrLast (One t) P = ⊥
-UnseenOrLast (Last t) P = P t
-UnseenOrLast (Two t u) P = ⊥
-UnseenOrLast Unseen P = Unit {0}
 
 -- the number is the low or the high of variable v, and the tell moves that bound by one
 abbrev pub MovesOff : Bounds → ℕ → ℤ → Tell → Type 0

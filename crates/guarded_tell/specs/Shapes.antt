@@ -1,4 +1,4 @@
--- Shapes: a kernel of two variables or three, of two literals or three, or of a product, as one record, without its lists.
+-- Shapes: a kernel of two variables or three, of two literals or three, of a product, or of the greater of two, as one record, without its lists.
 use Rattle.std.specs.Prelude.{◌≡◌, ◌⊎◌, ℕ, ℤ, pos, negsuc, List, [], ◌∷◌, length, slice_index_or, ◌<◌}
 use Rattle.interval.specs.Boxes.{Bounds}
 use Rattle.guarded_tell.specs.Words.{Lit}
@@ -6,12 +6,12 @@ use Rattle.small_sums.specs.Short.{IsTermOf}
 use Rattle.small_sums.specs.Slight.{AreSlight}
 use Rattle.small_sums.specs.declared.pairs.Pair.{Pair}
 use Rattle.guarded_tell.specs.declared.kernel.Kernel.{Kernel}
-use Rattle.guarded_tell.specs.declared.kernel.Kernel.TheVariants.{Le, Eq, Times, Clause}
+use Rattle.guarded_tell.specs.declared.kernel.Kernel.TheVariants.{Le, Eq, Times, Max, Clause}
 use Rattle.guarded_tell.specs.declared.shape.Sign.{Sign}
 use Rattle.guarded_tell.specs.declared.shape.Sign.TheVariants.{Plus, Minus}
 use Rattle.guarded_tell.specs.declared.shape.Terms.{Terms}
 use Rattle.guarded_tell.specs.declared.shape.Shape.{Shape}
-use Rattle.guarded_tell.specs.declared.shape.Shape.TheVariants.{AtMost, Same, Three, Either, Triple, Product, Slight, Other}
+use Rattle.guarded_tell.specs.declared.shape.Shape.TheVariants.{AtMost, Same, Three, Either, Triple, Product, Greatest, Slight, Other}
 
 -- the sum of these terms is x - y
 abbrev pub IsDifference : List ℤ → List ℕ → ℕ → ℕ → Type 0
@@ -54,6 +54,7 @@ IsShapeOf k (Three t limit) = IsThreeOf k t limit
 IsShapeOf k (Either l m) = k ≡ Clause (l ∷ m ∷ [])
 IsShapeOf k (Triple l m n) = k ≡ Clause (l ∷ m ∷ n ∷ [])
 IsShapeOf k (Product x y z) = k ≡ Times x y z
+IsShapeOf k (Greatest m x y) = k ≡ Max m (x ∷ y ∷ [])
 IsShapeOf k Slight = IsSlightSum k
 IsShapeOf k Other = Unit {0}
 

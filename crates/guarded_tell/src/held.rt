@@ -1,6 +1,6 @@
 //! What the shape of a difference says of a visit where its literal is sure: both variables may be told.
 
-ghost use Rattle.std.specs.Prelude.{◌≡◌, ◌≤ℤ◌, ◌<◌, ◌+ℤ◌, ◌-ℤ◌, ◌∷◌, [], pos, negsuc, ℕ, List, true, length};
+ghost use Rattle.std.specs.Prelude.{◌≡◌, ◌≤ℤ◌, ◌<◌, ◌+ℤ◌, ◌-ℤ◌, ◌∷◌, [], pos, negsuc, ℕ, List, true, length, MatchOption};
 ghost use Rattle.interval.specs.Boxes.{low_of, high_of};
 ghost use Rattle.guarded_tell.specs.Words.{IsProperIn, low_tell, high_tell};
 ghost use Rattle.guarded_tell.specs.Words as words;
@@ -8,14 +8,15 @@ ghost use Rattle.tell_laws.specs.Narrowing.{narrowing};
 ghost use Rattle.short_tells.specs.ShortTells.{room_tells};
 ghost use Rattle.guarded_tell.specs.declared.shape.Shape.{Shape};
 ghost use Rattle.guarded_tell.specs.Few.{AreFew};
-ghost use Rattle.guarded_tell.specs.Held.{signs_of, pair_of, in_order};
+ghost use Rattle.guarded_tell.specs.Held.{ordered_signs, ordered_vars, ordered_tells};
 ghost use Rattle.guarded_tell.specs.Kernels.{vars_of, IsKernel};
+ghost use Rattle.guarded_tell.specs.Narrowing.{narrowing_tells};
 ghost use Rattle.guarded_tell.specs.Shapes.{IsDifference, IsShapeOf};
-ghost use Rattle.guarded_tell.specs.Seen.{IsSeen};
+ghost use Rattle.guarded_tell.specs.Seen.{IsSeen, IsSole};
 ghost use Rattle.guarded_tell.specs.Three.{room_of};
 
 use crate::few::Few;
-use crate::seen::Seen;
+use crate::seen::{Seen, Sole};
 use crate::shape::{Sign, difference};
 use crate::three::{add_high, add_low, add_term, left};
 use crate::{Kernel, Lit};
@@ -50,19 +51,46 @@ pub(crate) fn held_same(k: &Kernel, lit: Lit, x: u32, y: u32, limit: i64, b: &Bo
     requires sure { words.is_sure lit b.now ≡ true }
     ensures { IsSeen k.now b.now result }
 {
+    match same_tells(k, lit, x, y, limit, b) {
+        Some(few) => few.seen(),
+        None => Seen::Unseen,
+    }
+}
+
+/// The one tell of such an equation.
+#[inline(never)]
+pub(crate) fn held_sole(k: &Kernel, lit: Lit, x: u32, y: u32, limit: i64, b: &BoxOf) -> Option<Sole>
+    requires kernel { IsKernel (length b.now) k.now }
+    requires shape { IsShapeOf k.now (Shape.Same lit x y limit) }
+    requires proper { IsProperIn (vars_of k.now) b.now }
+    requires sure { words.is_sure lit b.now ≡ true }
+    ensures { MatchOption result (Unit {0}) (IsSole k.now b.now) }
+{
+    same_tells(k, lit, x, y, limit, b)?.sole()
+}
+
+/// The tells of such an equation that narrow the box, unless its sums leave no number.
+#[inline(always)]
+fn same_tells(k: &Kernel, lit: Lit, x: u32, y: u32, limit: i64, b: &BoxOf) -> Option<Few>
+    requires kernel { IsKernel (length b.now) k.now }
+    requires shape { IsShapeOf k.now (Shape.Same lit x y limit) }
+    requires proper { IsProperIn (vars_of k.now) b.now }
+    requires sure { words.is_sure lit b.now ≡ true }
+    ensures { MatchOption result (Unit {0}) (AreFew (narrowing_tells k.now b.now)) }
+{
     match k {
         Kernel::Eq { coeffs, .. } => {
             let x_first = ends_below(coeffs);
             ordered_same(k, x_first, lit, x, y, limit, b)
         }
-        _ => Seen::Unseen,
+        _ => None,
     }
 }
 
 /// Whether the first coefficient is above zero: then the variable that is added comes first.
 #[inline(always)]
 fn begins_above(coeffs: &[i64]) -> bool
-    ensures { (vs : List ℕ) (x y : ℕ) → IsDifference coeffs.now vs x y → (coeffs.now ≡ signs_of result) × (vs ≡ pair_of result x y) }
+    ensures { (vs : List ℕ) (x y : ℕ) → IsDifference coeffs.now vs x y → (coeffs.now ≡ ordered_signs result) × (vs ≡ ordered_vars result x y) }
 {
     match coeffs.first() {
         Some(first) => *first > 0,
@@ -73,7 +101,7 @@ fn begins_above(coeffs: &[i64]) -> bool
 /// Whether the last coefficient is below zero: then the variable that is added comes first.
 #[inline(always)]
 fn ends_below(coeffs: &Extended<i64>) -> bool
-    ensures { (vs : List ℕ) (x y : ℕ) → IsDifference coeffs.now vs x y → (coeffs.now ≡ signs_of result) × (vs ≡ pair_of result x y) }
+    ensures { (vs : List ℕ) (x y : ℕ) → IsDifference coeffs.now vs x y → (coeffs.now ≡ ordered_signs result) × (vs ≡ ordered_vars result x y) }
 {
     match coeffs.split_last() {
         Some((_front, last)) => last < 0,
@@ -93,7 +121,7 @@ fn ordered_at_most(
     b: &BoxOf,
 ) -> Seen
     requires kernel { IsKernel (length b.now) k.now }
-    requires order { k.now ≡ Kernel.Le lit (signs_of x_first) (pair_of x_first x y) limit }
+    requires order { k.now ≡ Kernel.Le lit (ordered_signs x_first) (ordered_vars x_first x y) limit }
     requires shape { IsShapeOf k.now (Shape.AtMost lit x y limit) }
     requires proper { IsProperIn (vars_of k.now) b.now }
     requires sure { words.is_sure lit b.now ≡ true }
@@ -113,13 +141,21 @@ fn ordered_at_most(
 
 /// What the equation says, where the order of its terms is known.
 #[inline(always)]
-fn ordered_same(k: &Kernel, x_first: bool, lit: Lit, x: u32, y: u32, limit: i64, b: &BoxOf) -> Seen
+fn ordered_same(
+    k: &Kernel,
+    x_first: bool,
+    lit: Lit,
+    x: u32,
+    y: u32,
+    limit: i64,
+    b: &BoxOf,
+) -> Option<Few>
     requires kernel { IsKernel (length b.now) k.now }
-    requires order { k.now ≡ Kernel.Eq lit (signs_of x_first) (pair_of x_first x y) limit }
+    requires order { k.now ≡ Kernel.Eq lit (ordered_signs x_first) (ordered_vars x_first x y) limit }
     requires shape { IsShapeOf k.now (Shape.Same lit x y limit) }
     requires proper { IsProperIn (vars_of k.now) b.now }
     requires sure { words.is_sure lit b.now ≡ true }
-    ensures { IsSeen k.now b.now result }
+    ensures { MatchOption result (Unit {0}) (AreFew (narrowing_tells k.now b.now)) }
 {
     law_quotient_order();
     law_clamp_order();
@@ -129,9 +165,9 @@ fn ordered_same(k: &Kernel, x_first: bool, lit: Lit, x: u32, y: u32, limit: i64,
     let rise = left(limit, least);
     let fall = left(greatest, limit);
     if rise >= 0 && fall >= 0 {
-        told_same(x_first, x, y, rise, fall, b).seen()
+        Some(told_same(x_first, x, y, rise, fall, b))
     } else {
-        Seen::Unseen
+        None
     }
 }
 
@@ -142,7 +178,7 @@ fn told_at_most(x_first: bool, x: u32, y: u32, rise: i64, b: &BoxOf) -> Few
     requires first { x < length b.now }
     requires second { y < length b.now }
     requires rise { pos 0 ≤ℤ rise }
-    ensures { AreFew (in_order x_first (narrowing b.now (high_tell x (low_of b.now x +ℤ rise) ∷ [])) (narrowing b.now (low_tell y (high_of b.now y -ℤ rise) ∷ []))) result }
+    ensures { AreFew (ordered_tells x_first (narrowing b.now (high_tell x (low_of b.now x +ℤ rise) ∷ [])) (narrowing b.now (low_tell y (high_of b.now y -ℤ rise) ∷ []))) result }
 {
     let mut few = Few::None;
     if x_first {
@@ -165,7 +201,7 @@ fn told_same(x_first: bool, x: u32, y: u32, rise: i64, fall: i64, b: &BoxOf) -> 
     requires proper_second { low_of b.now y ≤ℤ high_of b.now y }
     requires rise { pos 0 ≤ℤ rise }
     requires fall { pos 0 ≤ℤ fall }
-    ensures { AreFew (in_order x_first (narrowing b.now (room_tells b.now (room_of rise fall) (pos 1, x))) (narrowing b.now (room_tells b.now (room_of rise fall) (negsuc 0, y)))) result }
+    ensures { AreFew (ordered_tells x_first (narrowing b.now (room_tells b.now (room_of rise fall) (pos 1, x))) (narrowing b.now (room_tells b.now (room_of rise fall) (negsuc 0, y)))) result }
 {
     let mut few = Few::None;
     if x_first {

@@ -15,6 +15,7 @@
 mod differences;
 mod failing;
 mod few;
+mod greatest;
 mod held;
 mod kernel;
 mod laws;
@@ -39,7 +40,7 @@ pub use laws::{law_local, law_monotone, law_point, law_tell_place};
 pub use narrowing::{visit_narrowing, visit_unseen};
 pub use quiet::Hint;
 pub use resting::{Rest, rest_of, seen_rest};
-pub use seen::{Seen, seen_visit};
+pub use seen::{Seen, Sole, seen_visit, sole_tell};
 pub use shape::{Shape, Sign, Terms, shape_of};
 pub use sides::{is_sided, law_sided, side_at};
 pub use sum_tells::Extended;

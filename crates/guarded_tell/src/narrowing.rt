@@ -49,6 +49,7 @@ pub fn visit_narrowing<H: Hear>(
 }
 
 /// The same without a look at what `seen_rest` sees: for a kernel of which it says nothing.
+#[inline(always)]
 pub fn visit_unseen<H: Hear>(
     k: &Kernel,
     shape: &Shape,
@@ -64,9 +65,11 @@ pub fn visit_unseen<H: Hear>(
     ensures rest { IsRest k.now b.now result }
 {
     match shape {
-        Shape::Three { .. } | Shape::Product { .. } | Shape::Slight | Shape::Other => {
-            visit_listed(k, shape, b, hint, h)
-        }
+        Shape::Three { .. }
+        | Shape::Product { .. }
+        | Shape::Greatest { .. }
+        | Shape::Slight
+        | Shape::Other => { visit_listed(k, shape, b, hint, h) }
         _ => {
             give_short(k, shape, b, h);
             Rest::Awake
@@ -75,6 +78,7 @@ pub fn visit_unseen<H: Hear>(
 }
 
 /// Gives the tells of a difference, or of a clause of two literals or three.
+#[inline(never)]
 fn give_short<H: Hear>(k: &Kernel, shape: &Shape, b: &BoxOf, h: &mut H)
     requires kernel { IsKernel (length b.now) k.now }
     requires shape { IsShapeOf k.now shape.now }
@@ -111,6 +115,7 @@ fn give_difference<H: Hear>(k: &Kernel, shape: &Shape, b: &BoxOf, h: &mut H)
 
 /// The same of a kernel that is no difference and no clause of two literals or three.
 #[tactic(auto, unfolding(crate::specs::Shapes::IsShapeOf))]
+#[inline(always)]
 fn visit_listed<H: Hear>(k: &Kernel, shape: &Shape, b: &BoxOf, hint: &mut Hint, h: &mut H) -> Rest
     requires kernel { IsKernel (length b.now) k.now }
     requires shape { IsShapeOf k.now shape.now }
@@ -127,6 +132,7 @@ fn visit_listed<H: Hear>(k: &Kernel, shape: &Shape, b: &BoxOf, hint: &mut Hint, 
 }
 
 /// The same of any kernel.
+#[inline(never)]
 fn visit_other<H: Hear>(k: &Kernel, b: &BoxOf, hint: &mut Hint, h: &mut H) -> Rest
     requires kernel { IsKernel (length b.now) k.now }
     requires proper { IsProperIn (vars_of k.now) b.now }
@@ -144,6 +150,7 @@ fn visit_other<H: Hear>(k: &Kernel, b: &BoxOf, hint: &mut Hint, h: &mut H) -> Re
 }
 
 /// The same of a sum with slight coefficients.
+#[inline(never)]
 fn visit_slight<H: Hear>(k: &Kernel, b: &BoxOf, hint: &mut Hint, h: &mut H) -> Rest
     requires kernel { IsKernel (length b.now) k.now }
     requires slight { IsSlightSum k.now }

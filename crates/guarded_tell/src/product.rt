@@ -8,7 +8,6 @@ ghost use Rattle.interval.specs.Limits.{IsBound};
 ghost use Rattle.interval.specs.Quotients.{floor_of, ceiling_of};
 ghost use Rattle.arithmetic_tells.specs.Times.{product_tells, factor_tells, times_tells};
 ghost use Rattle.tell_laws.specs.Narrowing.{narrowing};
-ghost use Rattle.tell_laws.specs.Narrowing as words;
 ghost use Rattle.tells.specs.Words as tell_words;
 ghost use Rattle.tells.specs.declared.tell.Tell.{Tell};
 ghost use Rattle.guarded_tell.specs.Words.{Keeps, IsProperIn};
@@ -18,11 +17,11 @@ ghost use Rattle.guarded_tell.specs.Seen.{IsSeen};
 ghost use Rattle.guarded_tell.specs.Natural.{IsFactor, HasFactors, IsNaturalProduct};
 ghost use Rattle.guarded_tell.specs.Few.{AreFew};
 
-use crate::few::Few;
+use crate::Kernel;
+use crate::few::{Few, with_tell};
 use crate::resting::Rest;
 use crate::seen::Seen;
 use crate::shape::Shape;
-use crate::{Kernel, Side, Tell};
 use interval::{BoxOf, law_clamp_order, law_quotient_order};
 use tells::{high_tell, low_tell};
 
@@ -210,27 +209,6 @@ fn with_most(few: Few, x: u32, y: u32, z: u32, b: &BoxOf) -> Few
         with_tell(few, high_tell(x, floor(b.high(z), b.low(y)) as i128), b)
     } else {
         few
-    }
-}
-
-/// The same with this tell, where it narrows the box.
-#[inline(always)]
-fn with_tell(few: Few, t: Tell, b: &BoxOf) -> Few
-    requires { t.var < length b.now }
-    ensures { (ts : List Tell) → AreFew ts few → AreFew (ts ++ narrowing b.now (t ∷ [])) result }
-{
-    if narrows(t, b) { few.with(t) } else { few }
-}
-
-/// Whether the tell's bound is tighter than the box's.
-#[inline(always)]
-fn narrows(t: Tell, b: &BoxOf) -> bool
-    requires { t.var < length b.now }
-    ensures { result ≡ words.narrows b.now t }
-{
-    match t.side {
-        Side::Low => b.low(t.var) < t.bound,
-        Side::High => t.bound < b.high(t.var),
     }
 }
 

@@ -67,7 +67,11 @@ pub fn seen_rest(k: &Kernel, shape: &Shape, b: &BoxOf) -> Option<Rest>
             second,
             third,
         } => triple_rest(*first, *second, *third, b),
-        Shape::Three { .. } | Shape::Product { .. } | Shape::Slight | Shape::Other => None,
+        Shape::Three { .. }
+        | Shape::Product { .. }
+        | Shape::Greatest { .. }
+        | Shape::Slight
+        | Shape::Other => None,
     }
 }
 

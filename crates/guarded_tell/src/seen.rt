@@ -1,16 +1,17 @@
 //! What a kernel's shape alone says of a visit: that it narrows nothing, or its one tell or two.
 
-ghost use Rattle.std.specs.Prelude.{◌≡◌, ◌<◌, ◌≤ℤ◌, ◌+ℤ◌, ◌-ℤ◌, true, false, length};
+ghost use Rattle.std.specs.Prelude.{◌≡◌, ◌<◌, ◌≤ℤ◌, ◌+ℤ◌, ◌-ℤ◌, true, false, length, MatchOption};
 ghost use Rattle.interval.specs.Limits.{IsBound};
 ghost use Rattle.interval.specs.Boxes.{low_of, high_of};
 ghost use Rattle.guarded_tell.specs.Words.{IsProperIn};
 ghost use Rattle.guarded_tell.specs.Words as words;
 ghost use Rattle.guarded_tell.specs.Kernels.{vars_of, IsKernel};
 ghost use Rattle.guarded_tell.specs.Shapes.{IsShapeOf};
-ghost use Rattle.guarded_tell.specs.Seen.{IsSeen, UnseenOrLast, LeavesOut};
+ghost use Rattle.guarded_tell.specs.Seen.{IsSeen, IsSole, LeavesOut};
 
 use crate::differences::is_fixed;
-use crate::held::{held_at_most, held_same};
+use crate::greatest::seen_greatest;
+use crate::held::{held_at_most, held_same, held_sole};
 use crate::product::seen_product;
 use crate::resting::Rest;
 use crate::shape::{Shape, difference};
@@ -20,6 +21,15 @@ use interval::{BoxOf, law_clamp_order, law_quotient_order};
 use small_sums::sum;
 use tells::{stands_false, stands_true, tell_false, tell_true};
 
+/// The one tell of a kernel that narrows the box.
+#[derive(Clone, Copy, PartialEq, Eq, Debug)]
+pub struct Sole {
+    /// The tell.
+    pub tell: Tell,
+    /// Whether the kernel rests for good once the tell is joined.
+    pub is_last: bool,
+}
+
 /// What is seen of a visit by the kernel's shape alone.
 #[derive(Clone, Copy, PartialEq, Eq, Debug)]
 pub enum Seen {
@@ -27,15 +37,61 @@ pub enum Seen {
     Quiet(Rest),
     /// It has this one tell that narrows the box, and no other.
     One(Tell),
-    /// The same, and the kernel rests for good once the tell is joined.
-    Last(Tell),
     /// It has these two tells that narrow the box, in this order, and no other.
     Two(Tell, Tell),
     /// Its shape doesn't say.
     Unseen,
 }
 
-/// What the kernel's shape says of a visit. That a difference or a short clause narrows nothing is left to `seen_rest`.
+impl Sole {
+    /// This tell, after which the kernel may need visits.
+    #[inline(always)]
+    pub(crate) fn one(tell: Tell) -> Sole
+        ensures tell { result.tell ≡ tell }
+        ensures last { result.is_last ≡ false }
+    {
+        let is_last = false;
+        Sole { tell, is_last }
+    }
+
+    /// This tell, after which the kernel rests for good.
+    #[inline(always)]
+    pub(crate) fn last(tell: Tell) -> Sole
+        ensures tell { result.tell ≡ tell }
+        ensures last { result.is_last ≡ true }
+    {
+        let is_last = true;
+        Sole { tell, is_last }
+    }
+}
+
+/// The kernel's one tell that narrows the box, where the shape of a difference or of a short clause says what it is.
+#[inline(always)]
+pub fn sole_tell(k: &Kernel, shape: &Shape, b: &BoxOf) -> Option<Sole>
+    requires kernel { IsKernel (length b.now) k.now }
+    requires shape { IsShapeOf k.now shape.now }
+    requires proper { IsProperIn (vars_of k.now) b.now }
+    ensures { MatchOption result (Unit {0}) (IsSole k.now b.now) }
+{
+    match shape {
+        Shape::AtMost { lit, x, y, limit } => seen_at_most(k, *lit, *x, *y, *limit, b),
+        Shape::Same { lit, x, y, limit } => seen_same(k, *lit, *x, *y, *limit, b),
+        Shape::Either { first, second } => seen_either(k, *first, *second, b),
+        Shape::Triple {
+            first,
+            second,
+            third,
+        } => seen_triple(k, *first, *second, *third, b),
+        Shape::Three { .. }
+        | Shape::Product { .. }
+        | Shape::Greatest { .. }
+        | Shape::Slight
+        | Shape::Other => None,
+    }
+}
+
+/// What the kernel's shape says of a visit where it may have two tells: a difference whose literal is sure, an equation of three
+/// terms, a product, or the greater of two. That a difference narrows nothing is left to `seen_rest`.
 #[inline(always)]
 pub fn seen_visit(k: &Kernel, shape: &Shape, b: &BoxOf) -> Seen
     requires kernel { IsKernel (length b.now) k.now }
@@ -44,32 +100,39 @@ pub fn seen_visit(k: &Kernel, shape: &Shape, b: &BoxOf) -> Seen
     ensures { IsSeen k.now b.now result }
 {
     match shape {
-        Shape::AtMost { lit, x, y, limit } => seen_at_most(k, *lit, *x, *y, *limit, b),
-        Shape::Same { lit, x, y, limit } => seen_same(k, *lit, *x, *y, *limit, b),
         Shape::Three { terms, limit } => seen_three(k, *terms, *limit, b),
-        Shape::Either { first, second } => seen_either(k, *first, *second, b),
-        Shape::Triple {
-            first,
-            second,
-            third,
-        } => seen_triple(k, *first, *second, *third, b),
         Shape::Product { x, y, z } => seen_product(k, *x, *y, *z, b),
-        Shape::Slight | Shape::Other => Seen::Unseen,
+        Shape::Greatest { m, x, y } => seen_greatest(k, *m, *x, *y, b),
+        Shape::AtMost { lit, x, y, limit } => {
+            if stands_true(*lit, b) {
+                held_at_most(k, *lit, *x, *y, *limit, b)
+            } else {
+                Seen::Unseen
+            }
+        }
+        Shape::Same { lit, x, y, limit } => {
+            if stands_true(*lit, b) {
+                held_same(k, *lit, *x, *y, *limit, b)
+            } else {
+                Seen::Unseen
+            }
+        }
+        _ => Seen::Unseen,
     }
 }
 
-/// The same of an inequality.
+/// The one tell of an inequality.
 #[inline(always)]
-fn seen_at_most(k: &Kernel, lit: Lit, x: u32, y: u32, limit: i64, b: &BoxOf) -> Seen
+fn seen_at_most(k: &Kernel, lit: Lit, x: u32, y: u32, limit: i64, b: &BoxOf) -> Option<Sole>
     requires kernel { IsKernel (length b.now) k.now }
     requires shape { IsShapeOf k.now (Shape.AtMost lit x y limit) }
     requires proper { IsProperIn (vars_of k.now) b.now }
-    ensures { IsSeen k.now b.now result }
+    ensures { MatchOption result (Unit {0}) (IsSole k.now b.now) }
 {
     if stands_true(lit, b) {
         at_most_sure(k, lit, x, y, limit, b)
     } else if stands_false(lit, b) {
-        Seen::Unseen
+        None
     } else {
         at_most_open(k, lit, x, y, limit, b)
     }
@@ -77,72 +140,72 @@ fn seen_at_most(k: &Kernel, lit: Lit, x: u32, y: u32, limit: i64, b: &BoxOf) -> 
 
 /// The same of an inequality that has to hold.
 #[inline(always)]
-fn at_most_sure(k: &Kernel, lit: Lit, x: u32, y: u32, limit: i64, b: &BoxOf) -> Seen
+fn at_most_sure(k: &Kernel, lit: Lit, x: u32, y: u32, limit: i64, b: &BoxOf) -> Option<Sole>
     requires kernel { IsKernel (length b.now) k.now }
     requires shape { IsShapeOf k.now (Shape.AtMost lit x y limit) }
     requires proper { IsProperIn (vars_of k.now) b.now }
     requires sure { words.is_sure lit b.now ≡ true }
-    ensures { IsSeen k.now b.now result }
+    ensures { MatchOption result (Unit {0}) (IsSole k.now b.now) }
 {
     law_quotient_order();
     law_clamp_order();
     let pair = difference(x, y, b);
     if limit < sum(pair.first.greatest, pair.second.least) {
         if limit < sum(pair.first.least, pair.second.greatest) {
-            return held_at_most(k, lit, x, y, limit, b);
+            return None;
         }
         let bound = added(limit, b.high(y));
-        Seen::One(Tell {
+        Some(Sole::one(Tell {
             var: x,
             side: Side::High,
             bound,
-        })
+        }))
     } else if limit < sum(pair.first.least, pair.second.greatest) {
         let bound = less(b.low(x), limit);
-        Seen::One(Tell {
+        Some(Sole::one(Tell {
             var: y,
             side: Side::Low,
             bound,
-        })
+        }))
     } else {
-        Seen::Unseen
+        None
     }
 }
 
 /// The same of an inequality whose literal is told.
 #[inline(always)]
-fn at_most_open(k: &Kernel, lit: Lit, x: u32, y: u32, limit: i64, b: &BoxOf) -> Seen
+fn at_most_open(k: &Kernel, lit: Lit, x: u32, y: u32, limit: i64, b: &BoxOf) -> Option<Sole>
     requires kernel { IsKernel (length b.now) k.now }
     requires shape { IsShapeOf k.now (Shape.AtMost lit x y limit) }
     requires proper { IsProperIn (vars_of k.now) b.now }
     requires unsure { words.is_sure lit b.now ≡ false }
     requires possible { words.is_out lit b.now ≡ false }
-    ensures { IsSeen k.now b.now result }
+    ensures { MatchOption result (Unit {0}) (IsSole k.now b.now) }
 {
     law_quotient_order();
     law_clamp_order();
     let pair = difference(x, y, b);
     if sum(pair.first.greatest, pair.second.greatest) <= limit {
-        Seen::Last(tell_true(lit))
+        Some(Sole::last(tell_true(lit)))
     } else if limit < sum(pair.first.least, pair.second.least) {
-        Seen::Last(tell_false(lit))
+        Some(Sole::last(tell_false(lit)))
     } else {
-        Seen::Unseen
+        None
     }
 }
 
 /// The same of an equation. Most that are visited must not hold.
 #[inline(always)]
-fn seen_same(k: &Kernel, lit: Lit, x: u32, y: u32, limit: i64, b: &BoxOf) -> Seen
+fn seen_same(k: &Kernel, lit: Lit, x: u32, y: u32, limit: i64, b: &BoxOf) -> Option<Sole>
     requires kernel { IsKernel (length b.now) k.now }
     requires shape { IsShapeOf k.now (Shape.Same lit x y limit) }
     requires proper { IsProperIn (vars_of k.now) b.now }
-    ensures { IsSeen k.now b.now result }
+    ensures { MatchOption result (Unit {0}) (IsSole k.now b.now) }
 {
     if stands_false(lit, b) {
         same_out(k, lit, x, y, limit, b)
     } else if stands_true(lit, b) {
-        held_same(k, lit, x, y, limit, b)
+        held_sole(k, lit, x, y, limit, b)
     } else {
         same_open(k, lit, x, y, limit, b)
     }
@@ -150,62 +213,62 @@ fn seen_same(k: &Kernel, lit: Lit, x: u32, y: u32, limit: i64, b: &BoxOf) -> See
 
 /// The same of an equation that must not hold: the variable that isn't fixed is told, where the other is.
 #[inline(always)]
-fn same_out(k: &Kernel, lit: Lit, x: u32, y: u32, limit: i64, b: &BoxOf) -> Seen
+fn same_out(k: &Kernel, lit: Lit, x: u32, y: u32, limit: i64, b: &BoxOf) -> Option<Sole>
     requires kernel { IsKernel (length b.now) k.now }
     requires shape { IsShapeOf k.now (Shape.Same lit x y limit) }
     requires proper { IsProperIn (vars_of k.now) b.now }
     requires out { words.is_out lit b.now ≡ true }
-    ensures { IsSeen k.now b.now result }
+    ensures { MatchOption result (Unit {0}) (IsSole k.now b.now) }
 {
     law_quotient_order();
     law_clamp_order();
     if is_fixed(y, b) {
         if is_fixed(x, b) {
-            Seen::Unseen
+            None
         } else {
             apart_seen(x, added(limit, b.low(y)), b)
         }
     } else if is_fixed(x, b) {
         apart_seen(y, less(b.low(x), limit), b)
     } else {
-        Seen::Unseen
+        None
     }
 }
 
 /// The tell that leaves a value out of a variable, where it is a bound of it.
 #[inline(always)]
-fn apart_seen(var: u32, value: i64, b: &BoxOf) -> Seen
+fn apart_seen(var: u32, value: i64, b: &BoxOf) -> Option<Sole>
     requires { var < length b.now }
-    ensures { UnseenOrLast result (LeavesOut b.now var value) }
+    ensures { MatchOption result (Unit {0}) (λ s. (s.is_last ≡ true) × LeavesOut b.now var value s.tell) }
 {
     let low = b.low(var);
     let high = b.high(var);
     if low == value {
-        Seen::Last(Tell {
+        Some(Sole::last(Tell {
             var,
             side: Side::Low,
             bound: added(low, 1),
-        })
+        }))
     } else if high == value {
-        Seen::Last(Tell {
+        Some(Sole::last(Tell {
             var,
             side: Side::High,
             bound: less(high, 1),
-        })
+        }))
     } else {
-        Seen::Unseen
+        None
     }
 }
 
 /// The same of an equation whose literal is told.
 #[inline(always)]
-fn same_open(k: &Kernel, lit: Lit, x: u32, y: u32, limit: i64, b: &BoxOf) -> Seen
+fn same_open(k: &Kernel, lit: Lit, x: u32, y: u32, limit: i64, b: &BoxOf) -> Option<Sole>
     requires kernel { IsKernel (length b.now) k.now }
     requires shape { IsShapeOf k.now (Shape.Same lit x y limit) }
     requires proper { IsProperIn (vars_of k.now) b.now }
     requires unsure { words.is_sure lit b.now ≡ false }
     requires possible { words.is_out lit b.now ≡ false }
-    ensures { IsSeen k.now b.now result }
+    ensures { MatchOption result (Unit {0}) (IsSole k.now b.now) }
 {
     law_quotient_order();
     law_clamp_order();
@@ -213,23 +276,23 @@ fn same_open(k: &Kernel, lit: Lit, x: u32, y: u32, limit: i64, b: &BoxOf) -> See
     let least = sum(pair.first.least, pair.second.least);
     let greatest = sum(pair.first.greatest, pair.second.greatest);
     if limit < least {
-        Seen::Last(tell_false(lit))
+        Some(Sole::last(tell_false(lit)))
     } else if greatest < limit {
-        Seen::Last(tell_false(lit))
+        Some(Sole::last(tell_false(lit)))
     } else if greatest <= least {
-        Seen::Last(tell_true(lit))
+        Some(Sole::last(tell_true(lit)))
     } else {
-        Seen::Unseen
+        None
     }
 }
 
 /// The same of a clause of two literals: one is out, and the other is told.
 #[inline(always)]
-fn seen_either(k: &Kernel, first: Lit, second: Lit, b: &BoxOf) -> Seen
+fn seen_either(k: &Kernel, first: Lit, second: Lit, b: &BoxOf) -> Option<Sole>
     requires kernel { IsKernel (length b.now) k.now }
     requires shape { IsShapeOf k.now (Shape.Either first second) }
     requires proper { IsProperIn (vars_of k.now) b.now }
-    ensures { IsSeen k.now b.now result }
+    ensures { MatchOption result (Unit {0}) (IsSole k.now b.now) }
 {
     law_quotient_order();
     law_clamp_order();
@@ -238,17 +301,17 @@ fn seen_either(k: &Kernel, first: Lit, second: Lit, b: &BoxOf) -> Seen
     } else if stands_false(second, b) {
         sole_true(first, b)
     } else {
-        Seen::Unseen
+        None
     }
 }
 
 /// The same of a clause of three literals: two are out, and the third is told.
 #[inline(always)]
-fn seen_triple(k: &Kernel, first: Lit, second: Lit, third: Lit, b: &BoxOf) -> Seen
+fn seen_triple(k: &Kernel, first: Lit, second: Lit, third: Lit, b: &BoxOf) -> Option<Sole>
     requires kernel { IsKernel (length b.now) k.now }
     requires shape { IsShapeOf k.now (Shape.Triple first second third) }
     requires proper { IsProperIn (vars_of k.now) b.now }
-    ensures { IsSeen k.now b.now result }
+    ensures { MatchOption result (Unit {0}) (IsSole k.now b.now) }
 {
     law_quotient_order();
     law_clamp_order();
@@ -258,28 +321,28 @@ fn seen_triple(k: &Kernel, first: Lit, second: Lit, third: Lit, b: &BoxOf) -> Se
         } else if stands_false(third, b) {
             sole_true(second, b)
         } else {
-            Seen::Unseen
+            None
         }
     } else if stands_false(second, b) && stands_false(third, b) {
         sole_true(first, b)
     } else {
-        Seen::Unseen
+        None
     }
 }
 
 /// The tell that makes a literal true that is neither sure nor out.
 #[inline(always)]
-fn sole_true(lit: Lit, b: &BoxOf) -> Seen
+fn sole_true(lit: Lit, b: &BoxOf) -> Option<Sole>
     requires variable { lit.var < length b.now }
     requires proper { low_of b.now lit.var ≤ℤ high_of b.now lit.var }
-    ensures { UnseenOrLast result (λ t. (words.is_sure lit b.now ≡ false) × (words.is_out lit b.now ≡ false) × (t ≡ words.tell_true lit)) }
+    ensures { MatchOption result (Unit {0}) (λ s. (s.is_last ≡ true) × (words.is_sure lit b.now ≡ false) × (words.is_out lit b.now ≡ false) × (s.tell ≡ words.tell_true lit)) }
 {
     if stands_true(lit, b) {
-        Seen::Unseen
+        None
     } else if stands_false(lit, b) {
-        Seen::Unseen
+        None
     } else {
-        Seen::Last(tell_true(lit))
+        Some(Sole::last(tell_true(lit)))
     }
 }
 

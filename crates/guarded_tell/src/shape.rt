@@ -97,6 +97,15 @@ pub enum Shape {
         /// The product.
         z: u32,
     },
+    /// `m` is the greater of `x` and `y`.
+    Greatest {
+        /// The greater one.
+        m: u32,
+        /// The first of the two.
+        x: u32,
+        /// The second of the two.
+        y: u32,
+    },
     /// A sum of three terms or more with slight coefficients.
     Slight,
     /// Any kernel.
@@ -145,7 +154,24 @@ pub fn shape_of(k: &Kernel) -> Shape
             y: *y,
             z: *z,
         },
+        Kernel::Max { m, xs } => greatest_shape(*m, xs.as_slice()),
         _ => Shape::Other,
+    }
+}
+
+/// The shape of the greatest of a list.
+fn greatest_shape(m: u32, xs: &[u32]) -> Shape
+    ensures shape { IsShapeOf (Kernel.Max m xs.now) result }
+    ensures shortest { (s : Shape) → IsShapeOf (Kernel.Max m xs.now) s → result ≡ Shape.Other → s ≡ Shape.Other }
+{
+    if xs.len() == 2 {
+        Shape::Greatest {
+            m,
+            x: xs[0],
+            y: xs[1],
+        }
+    } else {
+        Shape::Other
     }
 }
 

@@ -386,9 +386,9 @@ quiet_any kernels i k b now r h is same quiet d =
     subst (λ (x : Kernel). IsQuietFor x b r) (is ∙ get_or_default kernels i k d h) (subst (λ (x : Bounds). IsQuietFor k x r) same quiet)
 
 -- nor is whether its one tell is its last
-pub last_any : (kernels : List Kernel) (i : ℕ) (k : Kernel) (b now : Bounds) (t : Tell) → i < length kernels → k ≡ get_or kernels i k → now ≡ b → IsEntailedBy t k now → (d : Kernel) → IsEntailedBy t (get_or kernels i d) b
-last_any kernels i k b now t h is same by d =
-    subst (λ (x : Kernel). IsEntailedBy t x b) (is ∙ get_or_default kernels i k d h) (subst (λ (x : Bounds). IsEntailedBy t k x) same by)
+pub last_any : (kernels : List Kernel) (i : ℕ) (k : Kernel) (b now : Bounds) (t : Tell) (last : Bool) → i < length kernels → k ≡ get_or kernels i k → now ≡ b → OnTrue last (IsEntailedBy t k now) → (d : Kernel) → OnTrue last (IsEntailedBy t (get_or kernels i d) b)
+last_any kernels i k b now t last h is same by d =
+    subst (λ (x : Kernel). OnTrue last (IsEntailedBy t x b)) (is ∙ get_or_default kernels i k d h) (subst (λ (x : Bounds). OnTrue last (IsEntailedBy t k x)) same by)
 
 pub last_here : (kernels : List Kernel) (i : ℕ) (k : Kernel) (b : Bounds) (t : Tell) (last : Bool) → k ≡ get_or kernels i k → ((d : Kernel) → OnTrue last (IsEntailedBy t (get_or kernels i d) b)) →
     OnTrue last (IsEntailedBy t k b)

@@ -67,6 +67,7 @@ pub(crate) fn join_two(told: (Tell, Tell), b: &mut TrailedBox, progress: Progres
 }
 
 /// Joins a tell into a box, unless the round is over.
+#[inline(always)]
 pub(crate) fn join(t: Tell, b: &mut TrailedBox, progress: Progress) -> Progress
     requires variable { t.var < length b.old.current }
     requires bound { IsBound t.bound }
@@ -94,6 +95,7 @@ pub(crate) fn join(t: Tell, b: &mut TrailedBox, progress: Progress) -> Progress
 }
 
 /// Puts bounds of a variable. Nothing is put where memory is refused.
+#[inline(always)]
 fn put_bounds(b: &mut TrailedBox, v: u32, low: i64, high: i64) -> Progress
     requires variable { v < length b.old.current }
     requires low_in_range { IsBound low }

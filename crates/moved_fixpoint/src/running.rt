@@ -22,8 +22,8 @@ use crate::rests::Rests;
 use crate::sets::AskedSets;
 use fixpoint_laws::law_tightens_one;
 use guarded_tell::{
-    Kernel, Rest, Seen, Shape, Tell, failing_tell, law_local, law_monotone, law_narrowing,
-    law_sided, law_tell_place, seen_rest, seen_visit,
+    Kernel, Rest, Seen, Shape, Sole, Tell, failing_tell, law_local, law_monotone, law_narrowing,
+    law_sided, law_tell_place, seen_rest, seen_visit, sole_tell,
 };
 use interval::{BoxOf, law_inside_order};
 use moved_set::{AskedSet, Masks};
@@ -85,19 +85,13 @@ pub(crate) fn run_kernel(
                 Progress::Refused
             }
         }
-        None if is_short(masks.shape(place)) => {
-            run_told(kernels, masks, place, b, sets, progress)
-        }
-        None => run_unseen(kernels, masks, place, b, sets, progress),
-    }
-}
-
-/// Whether the shape may say what a kernel's one tell is.
-#[inline(always)]
-fn is_short(shape: &Shape) -> bool {
-    match shape {
-        Shape::Slight | Shape::Other => false,
-        _ => true,
+        None => match masks.shape(place) {
+            Shape::Slight | Shape::Other => run_unseen(kernels, masks, place, b, sets, progress),
+            Shape::Three { .. } | Shape::Product { .. } | Shape::Greatest { .. } => {
+                run_seen(kernels, masks, place, b, sets, progress)
+            }
+            _ => run_told(kernels, masks, place, b, sets, progress),
+        },
     }
 }
 
@@ -126,20 +120,45 @@ fn run_told(
     // its contract says that the bounds are in range
     let _length = b.len();
     let kernel = &kernels[place];
+    match sole_tell(kernel, masks.shape(place), b.current()) {
+        Some(sole) => run_one(kernels, masks, place, sole, b, sets, progress),
+        None => run_failing(kernels, masks, place, b, sets, progress),
+    }
+}
+
+/// The same of a kernel whose shape may say more than one tell.
+#[inline(never)]
+fn run_seen(
+    kernels: &[Kernel],
+    masks: &Masks,
+    place: usize,
+    b: &mut TrailedBox,
+    sets: &mut AskedSets,
+    progress: Progress,
+) -> Progress
+    requires place { place < length kernels.now }
+    requires kernels { All (IsKernel (length b.old.current)) kernels.now }
+    requires masks { AreMasksOf kernels.now (length b.old.current) masks.now }
+    requires set { count_of sets.old.asked ≡ length kernels.now }
+    requires rests { FitRests (length kernels.now) sets.old.rests }
+    requires proper { IsProper b.old.current }
+    ensures stack { b.new.stack ≡ b.old.stack }
+    ensures rests { FitRests (length kernels.now) sets.new.rests }
+    ensures stacks { KeepStacks sets.old.rests sets.new.rests }
+    ensures run { KernelRuns kernels.now place b.old.current sets.old.asked sets.old.rests progress b.new.current sets.new.asked sets.new.rests result }
+{
+    // its contract says that the bounds are in range
+    let _length = b.len();
+    let kernel = &kernels[place];
     match seen_visit(kernel, masks.shape(place), b.current()) {
         Seen::One(tell) => {
             let is_last = false;
             let sole = Sole { tell, is_last };
             run_one(kernels, masks, place, sole, b, sets, progress)
         }
-        Seen::Last(tell) => {
-            let is_last = true;
-            let sole = Sole { tell, is_last };
-            run_one(kernels, masks, place, sole, b, sets, progress)
-        }
         Seen::Two(t, u) => run_two(kernels, masks, place, (t, u), b, sets, progress),
         Seen::Quiet(rest) => run_quiet(kernels, masks, place, rest, b, sets, progress),
-        Seen::Unseen => run_failing(kernels, masks, place, b, sets, progress),
+        Seen::Unseen => run_unseen(kernels, masks, place, b, sets, progress),
     }
 }
 
@@ -181,15 +200,6 @@ fn run_quiet(
     } else {
         Progress::Refused
     }
-}
-
-/// A kernel's one tell, or its first where that leaves its variable no number.
-#[derive(Clone, Copy)]
-struct Sole {
-    /// The tell.
-    tell: Tell,
-    /// Whether the kernel rests for good once it is joined.
-    is_last: bool,
 }
 
 /// The same of a kernel that has one tell on the box, or whose first leaves its variable no number. That is joined, and the
@@ -264,7 +274,7 @@ fn rest_after(kernel: &Kernel, shape: &Shape, is_last: bool, b: &BoxOf) -> Rest
     }
 }
 
-/// The same of a kernel of which its shape says no tells: it may say that the first of them leaves its variable no number.
+/// The same of a kernel of which its shape says no one tell: it may say that the first leaves its variable no number.
 #[inline(never)]
 fn run_failing(
     kernels: &[Kernel],
@@ -293,7 +303,7 @@ fn run_failing(
             let sole = Sole { tell, is_last };
             run_one(kernels, masks, place, sole, b, sets, progress)
         }
-        None => run_unseen(kernels, masks, place, b, sets, progress),
+        None => run_seen(kernels, masks, place, b, sets, progress),
     }
 }
 

@@ -7,7 +7,7 @@ ghost use Rattle.guarded_tell.specs.Kernels.{IsKernel};
 ghost use Rattle.guarded_tell.specs.Shapes.{IsShapeOf};
 
 use guarded_tell::{
-    Hear, Hint, Kernel, Seen, Shape, Side, Tell, failing_tell, seen_visit, shape_of,
+    Hear, Hint, Kernel, Seen, Shape, Side, Tell, failing_tell, seen_visit, shape_of, sole_tell,
     visit_narrowing, visit_tells,
 };
 use interval::{BoxOf, NoMemory, is_crossed};
@@ -167,21 +167,28 @@ fn expect_seen(
     requires four { length b.now ≡ 4 }
     requires proper { IsProper b.now }
 {
-    let is_so = match seen_visit(kernel, shape, b) {
+    if let Some(sole) = sole_tell(kernel, shape, b) {
+        assert!(rt; are_those_that_narrow(tells, pairs, &[row(sole.tell)]));
+    }
+    if let Some(t) = failing_tell(kernel, shape, b) {
+        assert!(rt; is_first_and_fails(tells, pairs, row(t)));
+    }
+    assert!(rt; is_seen_so(seen_visit(kernel, shape, b), pairs, tells));
+}
+
+/// Whether what is seen are those of these tells that narrow the bounds, if it is anything.
+fn is_seen_so(seen: Seen, pairs: &Pairs, tells: &[Told]) -> bool {
+    match seen {
         Seen::Quiet(_) => are_those_that_narrow(tells, pairs, &[]),
-        Seen::One(t) | Seen::Last(t) => {
-            are_those_that_narrow(tells, pairs, &[(t.var, t.side, t.bound)])
-        }
-        Seen::Two(t, u) => {
-            let both = [(t.var, t.side, t.bound), (u.var, u.side, u.bound)];
-            are_those_that_narrow(tells, pairs, &both)
-        }
-        Seen::Unseen => match failing_tell(kernel, shape, b) {
-            Some(t) => is_first_and_fails(tells, pairs, (t.var, t.side, t.bound)),
-            None => true,
-        },
-    };
-    assert!(rt; is_so);
+        Seen::One(t) => are_those_that_narrow(tells, pairs, &[row(t)]),
+        Seen::Two(t, u) => are_those_that_narrow(tells, pairs, &[row(t), row(u)]),
+        Seen::Unseen => true,
+    }
+}
+
+/// A tell as a row.
+pub fn row(t: Tell) -> Told {
+    (t.var, t.side, t.bound)
 }
 
 /// The tells of the kernel on the box of these bounds, in order. Those that narrow it are given alone too, by its shape and

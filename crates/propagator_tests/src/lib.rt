@@ -20,3 +20,5 @@ mod lists;
 mod products;
 #[cfg(test)]
 mod quotients;
+#[cfg(test)]
+mod said;

@@ -21,7 +21,7 @@ use std::test::Fail;
 
 /// How a sum is compared with its limit.
 #[derive(Clone, Copy)]
-enum Relation {
+pub(crate) enum Relation {
     AtMost,
     Equal,
 }
@@ -30,7 +30,7 @@ use Relation::{AtMost, Equal};
 
 /// The literal of variable 0, positive or not, is true exactly where the sum of the coefficients times variables 1, 2
 /// and so on has this relation to the limit.
-type Sum = (Relation, bool, &'static [i64], i64);
+pub(crate) type Sum = (Relation, bool, &'static [i64], i64);
 
 /// Whether these are numbers of a model.
 #[tactic(auto, unfolding(interval::specs::Limits::largest_number))]
@@ -42,13 +42,13 @@ fn are_numbers(numbers: &[i64]) -> bool
 
 /// Which lists of an equation have their last item apart.
 #[derive(Clone, Copy)]
-struct Apart {
+pub(crate) struct Apart {
     coeffs: bool,
     vars: bool,
 }
 
 /// Each way in which the lists of an equation may stand. In the first they are in one piece.
-static WAYS: [Apart; 4] = [
+pub(crate) static WAYS: [Apart; 4] = [
     Apart {
         coeffs: false,
         vars: false,
@@ -112,7 +112,12 @@ fn parted<T: Copy + Drop>(
 
 /// The kernel of the sum, where the lists of an equation stand in this way.
 #[tactic(auto, unfolding(guarded_tell::specs::Kernels::vars_of, guarded_tell::specs::Kernels::HasNumbers))]
-fn linear(rt: &impl Abort, alloc: Global, sum: &Sum, apart: Apart) -> Result<Kernel, AllocError>
+pub(crate) fn linear(
+    rt: &impl Abort,
+    alloc: Global,
+    sum: &Sum,
+    apart: Apart,
+) -> Result<Kernel, AllocError>
     ensures { IfOk result (IsKernel 4) }
 {
     let lit = Lit {

@@ -13,7 +13,7 @@ use std::process::Abort;
 use std::test::Fail;
 
 /// Variable 0 is the greatest of variables 1 and 2.
-fn greatest(alloc: Global) -> Result<Kernel, AllocError>
+pub(crate) fn greatest(alloc: Global) -> Result<Kernel, AllocError>
     ensures { IfOk result (IsKernel 4) }
 {
     let xs = SharedList::from_vec(vec![in alloc; 1u32, 2]?)?;
@@ -119,7 +119,7 @@ fn the_least_tells_what_is_worked_out_by_hand(rt: HostRuntime) -> Result<(), Fai
 }
 
 /// Variable 0 is true or variable 1 is false.
-fn clause(alloc: Global) -> Result<Kernel, AllocError>
+pub(crate) fn clause(alloc: Global) -> Result<Kernel, AllocError>
     ensures { IfOk result (IsKernel 4) }
 {
     let first = Lit {
@@ -174,7 +174,7 @@ fn the_clause_by_sign_gives_the_same_tells(rt: HostRuntime) -> Result<(), Fail> 
 }
 
 /// Variable 0 is true, variable 1 is false or variable 2 is true.
-fn clause_of_three(alloc: Global) -> Result<Kernel, AllocError>
+pub(crate) fn clause_of_three(alloc: Global) -> Result<Kernel, AllocError>
     ensures { IfOk result (IsKernel 4) }
 {
     let first = Lit {

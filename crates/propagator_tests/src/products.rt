@@ -4,9 +4,11 @@ ghost use Rattle.std.specs.Prelude.{◌≡◌, ◌<◌, length};
 ghost use Rattle.interval.specs.Boxes.{IsProper};
 ghost use Rattle.guarded_tell.specs.Kernels.{IsKernel};
 
-use crate::four_variables::{PAST, Pairs, Told, are_those_that_narrow, box_of, narrows, tells_on};
+use crate::four_variables::{
+    PAST, Pairs, Told, are_those_that_narrow, box_of, narrows, row, tells_on,
+};
 use guarded_tell::Side::{High, Low};
-use guarded_tell::{Kernel, Seen, Tell, seen_visit, shape_of};
+use guarded_tell::{Kernel, Seen, seen_visit, shape_of};
 use interval::{BoxOf, NoMemory};
 use std::alloc::Global;
 use std::process::Abort;
@@ -93,7 +95,6 @@ fn is_said(seen: Seen, tells: Option<&[Told]>) -> bool {
         Seen::Quiet(_) => tells == Some(&[]),
         Seen::One(t) => tells == Some(&[row(t)]),
         Seen::Two(t, u) => tells == Some(&[row(t), row(u)]),
-        Seen::Last(_) => false,
         Seen::Unseen => tells.is_none(),
     }
 }
@@ -159,14 +160,8 @@ fn agrees(seen: Seen, tells: &[Told], pairs: &Pairs) -> bool {
         Seen::Quiet(_) => are_those_that_narrow(tells, pairs, &[]),
         Seen::One(t) => are_those_that_narrow(tells, pairs, &[row(t)]),
         Seen::Two(t, u) => are_those_that_narrow(tells, pairs, &[row(t), row(u)]),
-        Seen::Last(_) => false,
         Seen::Unseen => !is_natural(pairs) || are_many(tells, pairs),
     }
-}
-
-/// A tell as a row.
-fn row(t: Tell) -> Told {
-    (t.var, t.side, t.bound)
 }
 
 /// Whether the factors are natural and the product isn't below 0.

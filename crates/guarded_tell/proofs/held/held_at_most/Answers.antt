@@ -3,7 +3,7 @@ use Rattle.std.proofs.Common.{◌≡◌, ◌∙◌, ℤ, sym, subst}
 use Rattle.std.proofs.lemmas.Int.{to_z-of_z}
 use mir.Syntax.{w64}
 use Rattle.guarded_tell.specs.declared.kernel.Kernel.TheVariants.{Le}
-use Rattle.guarded_tell.specs.Held.{signs_of, pair_of}
+use Rattle.guarded_tell.specs.Held.{ordered_signs, ordered_vars}
 use Rattle.guarded_tell.proofs.HeldLaws.{at_most_ordered}
 use Rattle.guarded_tell.proofs.held.held_at_most.Goals as goal
 
@@ -11,5 +11,5 @@ pub ordered_at_most-requires-clause-order : goal.ordered_at_most-requires-clause
 ordered_at_most-requires-clause-order c =
     let same : c.as_slice.result.now ≡ c.in-Le.coeffs = cc in
     let is : c.args.k.now ≡ Le c.in-Le.lit c.as_slice.result.now c.in-Le.vars c.in-Le.limit = c.in-Le.is ∙ (λ i. Le c.in-Le.lit (sym same i) c.in-Le.vars c.in-Le.limit) in
-    subst (λ (z : ℤ). c.args.k.now ≡ Le c.args.lit (signs_of c.begins_above-x_first.result) (pair_of c.begins_above-x_first.result c.args.x c.args.y) z) (sym (to_z-of_z w64 c.args.limit c.ranges.limit))
+    subst (λ (z : ℤ). c.args.k.now ≡ Le c.args.lit (ordered_signs c.begins_above-x_first.result) (ordered_vars c.begins_above-x_first.result c.args.x c.args.y) z) (sym (to_z-of_z w64 c.args.limit c.ranges.limit))
     (at_most_ordered c.args.k.now c.in-Le.lit c.as_slice.result.now c.in-Le.vars c.in-Le.limit c.begins_above-x_first.result c.args.lit c.args.x c.args.y c.args.limit c.begins_above-x_first.ensures is c.requires.shape)

@@ -7,7 +7,7 @@ use Rattle.interval.specs.Limits.{largest_number}
 use Rattle.tell_laws.specs.Narrowing.{narrowing}
 use Rattle.small_sums.specs.Short.{short_sum_limit}
 use Rattle.guarded_tell.specs.Few.{AreFew}
-use Rattle.guarded_tell.specs.Held.{in_order}
+use Rattle.guarded_tell.specs.Held.{ordered_tells}
 use Rattle.interval.specs.Boxes.{low_of, high_of}
 use Rattle.guarded_tell.specs.Words.{low_tell, high_tell}
 use Rattle.guarded_tell.proofs.ShapeQuiet.{at_most_places}
@@ -60,6 +60,6 @@ returns-then-rise-ge0 c =
     let low : pos 0 ≤ℤ to_z w64 (of_z w64 c.left-rise.result) = search rules in
     let told = at_most_held c.law_quotient_order.ensures c.law_clamp_order.ensures b k c.args.lit x y c.args.limit p terms c.requires.sure c.args.x_first
     places.first_proper places.second_proper c.requires.order (no_less _ _ _ low rise) in
-    let F : ℤ → List Tell = λ r. in_order c.args.x_first (narrowing b (high_tell x (low_of b x +ℤ r) ∷ [])) (narrowing b (low_tell y (high_of b y -ℤ r) ∷ [])) in
+    let F : ℤ → List Tell = λ r. ordered_tells c.args.x_first (narrowing b (high_tell x (low_of b x +ℤ r) ∷ [])) (narrowing b (low_tell y (high_of b y -ℤ r) ∷ [])) in
     let read = subst (λ (r : ℤ). AreFew (F r) c.told_at_most.result) rise c.told_at_most.ensures in
     c.seen.ensures k b (subst (λ (ts : List Tell). AreFew ts c.told_at_most.result) (sym told) read)

@@ -7,7 +7,7 @@ use Rattle.interval.specs.Limits.{largest_number}
 use Rattle.tell_laws.specs.Narrowing.{narrowing}
 use Rattle.small_sums.specs.Short.{short_sum_limit}
 use Rattle.guarded_tell.specs.Few.{AreFew}
-use Rattle.guarded_tell.specs.Held.{in_order}
+use Rattle.guarded_tell.specs.Held.{ordered_tells}
 use Rattle.short_tells.specs.ShortTells.{room_tells}
 use Rattle.guarded_tell.specs.Three.{room_of}
 use Rattle.guarded_tell.proofs.ShapeQuiet.{same_places}
@@ -80,6 +80,6 @@ returns-then-fall-ge0 c =
     let high : pos 0 ≤ℤ to_z w64 (of_z w64 c.left-fall.result) = search rules in
     let told = same_held c.law_quotient_order.ensures c.law_clamp_order.ensures b k c.args.lit x y c.args.limit p terms c.requires.sure c.args.x_first
     c.requires.order (no_less _ _ _ low rise) (no_less _ _ _ high fall) in
-    let F : ℤ → ℤ → List Tell = λ r q. in_order c.args.x_first (narrowing b (room_tells b (room_of r q) (pos 1, x))) (narrowing b (room_tells b (room_of r q) (negsuc 0, y))) in
+    let F : ℤ → ℤ → List Tell = λ r q. ordered_tells c.args.x_first (narrowing b (room_tells b (room_of r q) (pos 1, x))) (narrowing b (room_tells b (room_of r q) (negsuc 0, y))) in
     let read = subst (λ (q : ℤ). AreFew (F (c.args.limit -ℤ (p.first.least +ℤ p.second.least)) q) c.told_same.result) fall (subst (λ (r : ℤ). AreFew (F r (to_z w64 (of_z w64 c.left-fall.result))) c.told_same.result) rise c.told_same.ensures) in
-    c.seen.ensures k b (subst (λ (ts : List Tell). AreFew ts c.told_same.result) (sym told) read)
+    subst (λ (ts : List Tell). AreFew ts c.told_same.result) (sym told) read

@@ -7,7 +7,7 @@ use Rattle.interval.specs.Boxes.{low_of, high_of}
 use Rattle.tell_laws.specs.Narrowing.{narrowing}
 use Rattle.guarded_tell.specs.Words.{low_tell, high_tell}
 use Rattle.guarded_tell.specs.Few.{AreFew}
-use Rattle.guarded_tell.specs.Held.{in_order}
+use Rattle.guarded_tell.specs.Held.{ordered_tells}
 use Rattle.guarded_tell.proofs.held.told_at_most.Goals as goal
 
 pub returns-then-x_first : goal.returns-then-x_first
@@ -16,7 +16,7 @@ returns-then-x_first c =
     let X : ℤ → List Tell = λ r. narrowing b (high_tell c.args.x (low_of b c.args.x +ℤ r) ∷ []) in
     let Y : ℤ → List Tell = λ r. narrowing b (low_tell c.args.y (high_of b c.args.y -ℤ r) ∷ []) in
     let read = subst (λ (r : ℤ). AreFew (X r ++ Y r) c.add_low.new.few) (to_z-of_z w64 c.args.rise c.ranges.rise) (c.add_low.ensures _ (c.add_high.ensures [] refl)) in
-    subst (λ (f : Bool). AreFew (in_order f (X c.args.rise) (Y c.args.rise)) c.add_low.new.few) (sym c.if-x_first.true) read
+    subst (λ (f : Bool). AreFew (ordered_tells f (X c.args.rise) (Y c.args.rise)) c.add_low.new.few) (sym c.if-x_first.true) read
 
 pub returns-else-x_first : goal.returns-else-x_first
 returns-else-x_first c =
@@ -24,4 +24,4 @@ returns-else-x_first c =
     let X : ℤ → List Tell = λ r. narrowing b (high_tell c.args.x (low_of b c.args.x +ℤ r) ∷ []) in
     let Y : ℤ → List Tell = λ r. narrowing b (low_tell c.args.y (high_of b c.args.y -ℤ r) ∷ []) in
     let read = subst (λ (r : ℤ). AreFew (Y r ++ X r) c.add_high-else-x_first.new.few) (to_z-of_z w64 c.args.rise c.ranges.rise) (c.add_high-else-x_first.ensures _ (c.add_low-else-x_first.ensures [] refl)) in
-    subst (λ (f : Bool). AreFew (in_order f (X c.args.rise) (Y c.args.rise)) c.add_high-else-x_first.new.few) (sym c.if-x_first.false) read
+    subst (λ (f : Bool). AreFew (ordered_tells f (X c.args.rise) (Y c.args.rise)) c.add_high-else-x_first.new.few) (sym c.if-x_first.false) read

@@ -6,7 +6,7 @@ use Rattle.tells.specs.declared.tell.Tell.{Tell}
 use Rattle.tell_laws.specs.Narrowing.{narrowing}
 use Rattle.short_tells.specs.ShortTells.{room_tells}
 use Rattle.guarded_tell.specs.Few.{AreFew}
-use Rattle.guarded_tell.specs.Held.{in_order}
+use Rattle.guarded_tell.specs.Held.{ordered_tells}
 use Rattle.guarded_tell.specs.Three.{room_of}
 use Rattle.guarded_tell.proofs.held.told_same.Goals as goal
 
@@ -18,7 +18,7 @@ returns-then-x_first c =
     let Told : ℤ → ℤ → Type 0 = λ r q. AreFew (X r q ++ Y r q) c.add_term-then-x_first.new.few in
     let all : Told (to_z w64 (of_z w64 c.args.rise)) (to_z w64 (of_z w64 c.args.fall)) = c.add_term-then-x_first.ensures _ (c.add_term.ensures [] refl) in
     let read = subst (λ (q : ℤ). Told c.args.rise q) (to_z-of_z w64 c.args.fall c.ranges.fall) (subst (λ (r : ℤ). Told r (to_z w64 (of_z w64 c.args.fall))) (to_z-of_z w64 c.args.rise c.ranges.rise) all) in
-    subst (λ (f : Bool). AreFew (in_order f (X c.args.rise c.args.fall) (Y c.args.rise c.args.fall)) c.add_term-then-x_first.new.few) (sym c.if-x_first.true) read
+    subst (λ (f : Bool). AreFew (ordered_tells f (X c.args.rise c.args.fall) (Y c.args.rise c.args.fall)) c.add_term-then-x_first.new.few) (sym c.if-x_first.true) read
 
 pub returns-else-x_first : goal.returns-else-x_first
 returns-else-x_first c =
@@ -28,4 +28,4 @@ returns-else-x_first c =
     let Told : ℤ → ℤ → Type 0 = λ r q. AreFew (Y r q ++ X r q) c.add_term-else-x_first-2.new.few in
     let all : Told (to_z w64 (of_z w64 c.args.rise)) (to_z w64 (of_z w64 c.args.fall)) = c.add_term-else-x_first-2.ensures _ (c.add_term-else-x_first.ensures [] refl) in
     let read = subst (λ (q : ℤ). Told c.args.rise q) (to_z-of_z w64 c.args.fall c.ranges.fall) (subst (λ (r : ℤ). Told r (to_z w64 (of_z w64 c.args.fall))) (to_z-of_z w64 c.args.rise c.ranges.rise) all) in
-    subst (λ (f : Bool). AreFew (in_order f (X c.args.rise c.args.fall) (Y c.args.rise c.args.fall)) c.add_term-else-x_first-2.new.few) (sym c.if-x_first.false) read
+    subst (λ (f : Bool). AreFew (ordered_tells f (X c.args.rise c.args.fall) (Y c.args.rise c.args.fall)) c.add_term-else-x_first-2.new.few) (sym c.if-x_first.false) read

@@ -6,7 +6,7 @@ use Rattle.small_sums.proofs.ShortLaws.{short_number}
 use Rattle.guarded_tell.proofs.ShapeQuiet.{at_most_places}
 use Rattle.guarded_tell.proofs.DifferenceLaws.{at_most_number, coded_of}
 use Rattle.guarded_tell.proofs.OneLaws.{at_most_true, at_most_false}
-use Rattle.guarded_tell.proofs.LastLaws.{last_as, at_most_true_last, at_most_false_last}
+use Rattle.guarded_tell.proofs.LastLaws.{sole_last, at_most_true_last, at_most_false_last}
 use Rattle.guarded_tell.proofs.seen.at_most_open.Goals as goal
 
 pub difference-pair-requires-clause-first : goal.difference-pair-requires-clause-first
@@ -31,7 +31,7 @@ returns-then-sum-limit c =
     let terms = c.difference-pair.ensures in
     let greatest = coded_of p.first.greatest p.second.greatest c.sum.result c.sum.ensures terms.first.small.greatest terms.second.small.greatest in
     let test0 = c.if-sum-limit.true in
-    last_as c.args.k.now b c.tell_true.result _ c.tell_true.ensures
+    sole_last c.args.k.now b c.last.result c.tell_true.result _ c.last.ensures.tell c.tell_true.ensures
     (at_most_true c.law_quotient_order.ensures c.law_clamp_order.ensures b c.args.k.now c.args.lit c.args.x c.args.y c.args.limit coded (short_number c.args.limit number) p terms
     c.requires.unsure c.requires.possible places.literal_proper c.requires.shape (omega (arith, ints)) c.tell_true.result c.tell_true.ensures)
     (at_most_true_last c.law_quotient_order.ensures c.law_clamp_order.ensures b c.args.k.now c.requires.kernel c.args.lit c.args.x c.args.y c.args.limit p terms c.requires.shape (omega (arith, ints)))
@@ -46,7 +46,7 @@ returns-then-limit-sum c =
     let terms = c.difference-pair.ensures in
     let least = coded_of p.first.least p.second.least c.sum-else-sum-limit.result c.sum-else-sum-limit.ensures terms.first.small.least terms.second.small.least in
     let test0 = c.if-limit-sum.true in
-    last_as c.args.k.now b c.tell_false.result _ c.tell_false.ensures
+    sole_last c.args.k.now b c.last-then-limit-sum.result c.tell_false.result _ c.last-then-limit-sum.ensures.tell c.tell_false.ensures
     (at_most_false c.law_quotient_order.ensures c.law_clamp_order.ensures b c.args.k.now c.args.lit c.args.x c.args.y c.args.limit coded (short_number c.args.limit number) p terms
     c.requires.unsure c.requires.possible places.literal_proper c.requires.shape (omega (arith, ints)) c.tell_false.result c.tell_false.ensures)
     (at_most_false_last c.law_quotient_order.ensures c.law_clamp_order.ensures b c.args.k.now c.requires.kernel c.args.lit c.args.x c.args.y c.args.limit p terms c.requires.shape (omega (arith, ints)))

@@ -7,6 +7,7 @@ use Rattle.small_sums.proofs.ShortLaws.{short_number}
 use Rattle.guarded_tell.proofs.ShapeQuiet.{at_most_places}
 use Rattle.guarded_tell.proofs.DifferenceLaws.{at_most_number, coded_of}
 use Rattle.guarded_tell.proofs.OneLaws.{limit_bound, first_one, second_one}
+use Rattle.guarded_tell.proofs.LastLaws.{sole_one}
 use Rattle.guarded_tell.proofs.seen.at_most_sure.Goals as goal
 
 pub difference-pair-requires-clause-first : goal.difference-pair-requires-clause-first
@@ -49,9 +50,10 @@ returns-else-limit-sum-2 c =
     let high = to_z-of_z w64 c.high.result high_fits ∙ c.high.ensures.value in
     let fits : FitsSigned w64 c.added-bound.result = search rules in
     let bound = to_z-of_z w64 c.added-bound.result fits ∙ c.added-bound.ensures ∙ (λ i. (short_number c.args.limit number i +ℤ high i)) in
-    first_one c.law_quotient_order.ensures c.law_clamp_order.ensures b c.args.k.now c.args.lit c.args.x c.args.y c.args.limit coded (short_number c.args.limit number) p terms
+    sole_one c.args.k.now b c.one.result c.one.ensures.last
+    (first_one c.law_quotient_order.ensures c.law_clamp_order.ensures b c.args.k.now c.args.lit c.args.x c.args.y c.args.limit coded (short_number c.args.limit number) p terms
     c.requires.sure c.requires.shape places.first_proper places.second_proper (omega (arith, ints)) (omega (arith, ints))
-    _ (λ i. record { var = c.args.x; side = High; bound = bound i })
+    c.one.result.tell (c.one.ensures.tell ∙ (λ i. record { var = c.args.x; side = High; bound = bound i })))
 
 pub returns-then-limit-sum-3 : goal.returns-then-limit-sum-3
 returns-then-limit-sum-3 c =
@@ -69,6 +71,7 @@ returns-then-limit-sum-3 c =
     let low = to_z-of_z w64 c.low.result low_fits ∙ c.low.ensures.value in
     let fits : FitsSigned w64 c.less-bound.result = search rules in
     let bound = to_z-of_z w64 c.less-bound.result fits ∙ c.less-bound.ensures ∙ (λ i. (low i -ℤ short_number c.args.limit number i)) in
-    second_one c.law_quotient_order.ensures c.law_clamp_order.ensures b c.args.k.now c.args.lit c.args.x c.args.y c.args.limit coded (short_number c.args.limit number) p terms
+    sole_one c.args.k.now b c.one-then-limit-sum-3.result c.one-then-limit-sum-3.ensures.last
+    (second_one c.law_quotient_order.ensures c.law_clamp_order.ensures b c.args.k.now c.args.lit c.args.x c.args.y c.args.limit coded (short_number c.args.limit number) p terms
     c.requires.sure c.requires.shape places.first_proper places.second_proper (omega (arith, ints)) (omega (arith, ints))
-    _ (λ i. record { var = c.args.y; side = Low; bound = bound i })
+    c.one-then-limit-sum-3.result.tell (c.one-then-limit-sum-3.ensures.tell ∙ (λ i. record { var = c.args.y; side = Low; bound = bound i })))

@@ -7,7 +7,7 @@ use Rattle.guarded_tell.proofs.ShapeQuiet.{same_places}
 use Rattle.guarded_tell.proofs.ApartLaws.{limit_number}
 use Rattle.guarded_tell.proofs.DifferenceLaws.{coded_of}
 use Rattle.guarded_tell.proofs.OneLaws.{same_false_low, same_false_high, same_true}
-use Rattle.guarded_tell.proofs.LastLaws.{last_as, same_below_last, same_above_last, same_true_last}
+use Rattle.guarded_tell.proofs.LastLaws.{sole_last, same_below_last, same_above_last, same_true_last}
 use Rattle.guarded_tell.proofs.seen.same_open.Goals as goal
 
 pub difference-pair-requires-clause-first : goal.difference-pair-requires-clause-first
@@ -32,7 +32,7 @@ returns-then-limit-least c =
     let terms = c.difference-pair.ensures in
     let least = coded_of p.first.least p.second.least c.sum-least.result c.sum-least.ensures terms.first.small.least terms.second.small.least in
     let test0 = c.if-limit-least.true in
-    last_as c.args.k.now b c.tell_false.result _ c.tell_false.ensures
+    sole_last c.args.k.now b c.last.result c.tell_false.result _ c.last.ensures.tell c.tell_false.ensures
     (same_false_low c.law_quotient_order.ensures c.law_clamp_order.ensures b c.args.k.now c.args.lit c.args.x c.args.y c.args.limit coded (short_number c.args.limit number) p terms
     c.requires.unsure c.requires.possible places.literal_proper c.requires.shape (omega (arith, ints)) c.tell_false.result c.tell_false.ensures)
     (same_below_last c.law_quotient_order.ensures c.law_clamp_order.ensures b c.args.k.now c.requires.kernel c.args.lit c.args.x c.args.y c.args.limit p terms c.requires.shape (omega (arith, ints)))
@@ -47,7 +47,7 @@ returns-then-greatest-limit c =
     let terms = c.difference-pair.ensures in
     let greatest = coded_of p.first.greatest p.second.greatest c.sum-greatest.result c.sum-greatest.ensures terms.first.small.greatest terms.second.small.greatest in
     let test0 = c.if-greatest-limit.true in
-    last_as c.args.k.now b c.tell_false-then-greatest-limit.result _ c.tell_false-then-greatest-limit.ensures
+    sole_last c.args.k.now b c.last-then-greatest-limit.result c.tell_false-then-greatest-limit.result _ c.last-then-greatest-limit.ensures.tell c.tell_false-then-greatest-limit.ensures
     (same_false_high c.law_quotient_order.ensures c.law_clamp_order.ensures b c.args.k.now c.args.lit c.args.x c.args.y c.args.limit coded (short_number c.args.limit number) p terms
     c.requires.unsure c.requires.possible places.literal_proper c.requires.shape (omega (arith, ints)) c.tell_false-then-greatest-limit.result c.tell_false-then-greatest-limit.ensures)
     (same_above_last c.law_quotient_order.ensures c.law_clamp_order.ensures b c.args.k.now c.requires.kernel c.args.lit c.args.x c.args.y c.args.limit p terms c.requires.shape (omega (arith, ints)))
@@ -65,7 +65,7 @@ returns-then-greatest-least c =
     let test0 = c.if-limit-least.false in
     let test1 = c.if-greatest-limit.false in
     let test2 = c.if-greatest-least.true in
-    last_as c.args.k.now b c.tell_true.result _ c.tell_true.ensures
+    sole_last c.args.k.now b c.last-then-greatest-least.result c.tell_true.result _ c.last-then-greatest-least.ensures.tell c.tell_true.ensures
     (same_true c.law_quotient_order.ensures c.law_clamp_order.ensures b c.args.k.now c.args.lit c.args.x c.args.y c.args.limit coded (short_number c.args.limit number) p terms
     c.requires.unsure c.requires.possible places.literal_proper c.requires.shape (omega (arith, ints)) (omega (arith, ints)) (omega (arith, ints)) c.tell_true.result c.tell_true.ensures)
     (same_true_last c.law_quotient_order.ensures c.law_clamp_order.ensures b c.args.k.now c.requires.kernel c.args.lit c.args.x c.args.y c.args.limit p terms c.requires.shape (short_number c.args.limit number) (omega (arith, ints)) (omega (arith, ints)))

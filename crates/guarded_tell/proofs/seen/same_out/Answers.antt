@@ -2,10 +2,12 @@
 use Rattle.std.proofs.Common.{◌∙◌, ℤ, ◌+ℤ◌, ◌-ℤ◌, FitsSigned, to_z, of_z, sym, subst, rules}
 use Rattle.std.proofs.lemmas.Int.{to_z-of_z}
 use mir.Syntax.{w64}
+use Rattle.tells.specs.declared.tell.Tell.{Tell}
 use Rattle.interval.specs.Limits.{IsBound}
 use Rattle.interval.specs.Boxes.{low_of, high_of}
 use Rattle.sum_tells.proofs.EqualityLaws.{same_is}
 use Rattle.small_sums.proofs.ShortLaws.{short_number}
+use Rattle.guarded_tell.specs.Seen.{LeavesOut}
 use Rattle.guarded_tell.proofs.ShapeQuiet.{same_places}
 use Rattle.guarded_tell.proofs.ApartLaws.{limit_number, open_of}
 use Rattle.guarded_tell.proofs.OneLaws.{limit_bound}
@@ -51,7 +53,7 @@ returns-else-is_fixed-2 c =
     let low_bound = subst (λ (z : ℤ). IsBound z) c.low.ensures.value c.low.ensures.in_range in
     let fits : FitsSigned w64 c.added.result = search rules in
     let value = to_z-of_z w64 c.added.result fits ∙ c.added.ensures ∙ (λ i. short_number c.args.limit number i +ℤ low i) in
-    seen_by c.args.k.now b _ c.apart_seen.result
+    seen_by c.args.k.now b (λ (t : Tell). LeavesOut b c.args.x (to_z w64 (of_z w64 c.added.result)) t) c.apart_seen.result
     (λ t left. first_left_out c.law_quotient_order.ensures c.law_clamp_order.ensures b c.args.k.now c.requires.kernel c.args.lit c.args.x c.args.y c.args.limit (short_number c.args.limit number) c.requires.out c.requires.shape places
     left.low_in_range left.high_in_range low_bound (subst (λ (z : ℤ). IsBound z) fixed low_bound) fixed wide (to_z w64 (of_z w64 c.added.result)) value t left.moves)
     c.apart_seen.ensures
@@ -68,7 +70,7 @@ returns-then-is_fixed-3 c =
     let low_bound = subst (λ (z : ℤ). IsBound z) c.low-then-is_fixed-3.ensures.value c.low-then-is_fixed-3.ensures.in_range in
     let fits : FitsSigned w64 c.less.result = search rules in
     let value = to_z-of_z w64 c.less.result fits ∙ c.less.ensures ∙ (λ i. low i -ℤ short_number c.args.limit number i) in
-    seen_by c.args.k.now b _ c.apart_seen-then-is_fixed-3.result
+    seen_by c.args.k.now b (λ (t : Tell). LeavesOut b c.args.y (to_z w64 (of_z w64 c.less.result)) t) c.apart_seen-then-is_fixed-3.result
     (λ t left. second_left_out c.law_quotient_order.ensures c.law_clamp_order.ensures b c.args.k.now c.requires.kernel c.args.lit c.args.x c.args.y c.args.limit (short_number c.args.limit number) c.requires.out c.requires.shape places
     low_bound (subst (λ (z : ℤ). IsBound z) fixed low_bound) left.low_in_range left.high_in_range fixed wide (to_z w64 (of_z w64 c.less.result)) value t left.moves)
     c.apart_seen-then-is_fixed-3.ensures

@@ -1,7 +1,7 @@
 -- One literal is out, and the other is told.
 use Rattle.std.proofs.Common.{sym}
 use Rattle.guarded_tell.proofs.ShapeQuiet.{either_places}
-use Rattle.guarded_tell.proofs.LastLaws.{seen_by, either_first_last, either_second_last}
+use Rattle.guarded_tell.proofs.LastLaws.{told_by, either_first_last, either_second_last}
 use Rattle.guarded_tell.proofs.seen.seen_either.Goals as goal
 
 pub stands_false-requires-clause-variable : goal.stands_false-requires-clause-variable
@@ -30,12 +30,12 @@ sole_true-requires-then-stands_false-2-clause-proper c = (either_places c.args.k
 
 pub returns-then-stands_false : goal.returns-then-stands_false
 returns-then-stands_false c =
-    seen_by c.args.k.now c.args.b.now _ c.sole_true.result
+    told_by c.args.k.now c.args.b.now c.args.second c.sole_true.result
     (λ t told. either_second_last c.law_quotient_order.ensures c.law_clamp_order.ensures c.args.b.now c.args.k.now c.requires.kernel c.args.first c.args.second c.requires.shape c.requires.proper t (sym c.if-stands_false.ensures) told)
     c.sole_true.ensures
 
 pub returns-then-stands_false-2 : goal.returns-then-stands_false-2
 returns-then-stands_false-2 c =
-    seen_by c.args.k.now c.args.b.now _ c.sole_true-then-stands_false-2.result
+    told_by c.args.k.now c.args.b.now c.args.first c.sole_true-then-stands_false-2.result
     (λ t told. either_first_last c.law_quotient_order.ensures c.law_clamp_order.ensures c.args.b.now c.args.k.now c.requires.kernel c.args.first c.args.second c.requires.shape c.requires.proper t (sym c.if-stands_false-2.ensures) told)
     c.sole_true-then-stands_false-2.ensures

@@ -1,7 +1,7 @@
 -- Two literals are out, and the third is told.
 use Rattle.std.proofs.Common.{sym}
 use Rattle.guarded_tell.proofs.ShapeQuiet.{triple_places}
-use Rattle.guarded_tell.proofs.LastLaws.{seen_by, triple_first_last, triple_second_last, triple_third_last}
+use Rattle.guarded_tell.proofs.LastLaws.{told_by, triple_first_last, triple_second_last, triple_third_last}
 use Rattle.guarded_tell.proofs.seen.seen_triple.Goals as goal
 
 pub stands_false-requires-clause-variable : goal.stands_false-requires-clause-variable
@@ -54,18 +54,18 @@ sole_true-requires-then-stands_false-5-clause-proper c = (triple_places c.args.k
 
 pub returns-then-stands_false-2 : goal.returns-then-stands_false-2
 returns-then-stands_false-2 c =
-    seen_by c.args.k.now c.args.b.now _ c.sole_true.result
+    told_by c.args.k.now c.args.b.now c.args.third c.sole_true.result
     (λ t told. triple_third_last c.law_quotient_order.ensures c.law_clamp_order.ensures c.args.b.now c.args.k.now c.requires.kernel c.args.first c.args.second c.args.third c.requires.shape c.requires.proper t (sym c.if-stands_false.ensures) (sym c.if-stands_false-2.ensures) told)
     c.sole_true.ensures
 
 pub returns-then-stands_false-3 : goal.returns-then-stands_false-3
 returns-then-stands_false-3 c =
-    seen_by c.args.k.now c.args.b.now _ c.sole_true-then-stands_false-3.result
+    told_by c.args.k.now c.args.b.now c.args.second c.sole_true-then-stands_false-3.result
     (λ t told. triple_second_last c.law_quotient_order.ensures c.law_clamp_order.ensures c.args.b.now c.args.k.now c.requires.kernel c.args.first c.args.second c.args.third c.requires.shape c.requires.proper t (sym c.if-stands_false.ensures) (sym c.if-stands_false-3.ensures) told)
     c.sole_true-then-stands_false-3.ensures
 
 pub returns-then-stands_false-5 : goal.returns-then-stands_false-5
 returns-then-stands_false-5 c =
-    seen_by c.args.k.now c.args.b.now _ c.sole_true-then-stands_false-5.result
+    told_by c.args.k.now c.args.b.now c.args.first c.sole_true-then-stands_false-5.result
     (λ t told. triple_first_last c.law_quotient_order.ensures c.law_clamp_order.ensures c.args.b.now c.args.k.now c.requires.kernel c.args.first c.args.second c.args.third c.requires.shape c.requires.proper t (sym c.if-stands_false-4.ensures) (sym c.if-stands_false-5.ensures) told)
     c.sole_true-then-stands_false-5.ensures

@@ -45,7 +45,7 @@ returns-in-None-extended_difference_of-clause-shortest c s is same =
 pub returns-in_default : goal.returns-in_default
 returns-in_default c = record {
   shape = any_is_other c.args.k.now;
-  shortest = λ s is same. other_kernel c.args.k.now c.in_default.not-Le c.in_default.not-Eq c.in_default.not-Clause c.in_default.not-Times s is;
+  shortest = λ s is same. other_kernel c.args.k.now c.in_default.not-Le c.in_default.not-Eq c.in_default.not-Clause c.in_default.not-Times c.in_default.not-Max s is;
 }
 
 pub returns-in-Times-clause-shape : goal.returns-in-Times-clause-shape

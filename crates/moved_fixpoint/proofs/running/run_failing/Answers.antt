@@ -1,4 +1,3 @@
-use Rattle.std.proofs.Common.{[], ◌∷◌}
 use Rattle.moved_fixpoint.proofs.RunLemmas.{gathered_any, first_gathered}
 use Rattle.moved_fixpoint.proofs.running.run_failing.Goals as goal
 

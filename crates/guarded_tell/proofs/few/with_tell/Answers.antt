@@ -1,7 +1,7 @@
 -- A tell that narrows the box is gathered, one that doesn't isn't.
 use Rattle.std.proofs.Common.{[], ◌∷◌, ◌++◌, Bool, cond, subst}
 use Rattle.guarded_tell.specs.Few.{AreFew}
-use Rattle.guarded_tell.proofs.product.with_tell.Goals as goal
+use Rattle.guarded_tell.proofs.few.with_tell.Goals as goal
 
 pub returns-then-narrows : goal.returns-then-narrows
 returns-then-narrows c ts few =

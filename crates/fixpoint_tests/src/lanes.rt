@@ -10,12 +10,12 @@ use gate::{Gate, NoGate};
 use guarded_tell::Kernel;
 use interval::{BoxOf, NoMemory};
 use lattice_store::Store;
+use meeting::Meet;
 use rounds::{Cache, Engine, Limited, Propagated, Work, even_cut, propagate, run_share};
 use std::alloc::{AllocError, Global};
 use std::process::Abort;
-use std::sync::atomic::{AtomicBool, Ordering};
 use std::test::Fail;
-use std::thread::{Threads, yield_now};
+use std::thread::Threads;
 
 /// What propagation gives: the bounds of all variables or none, and the rounds.
 fn outcome<R: Threads + Sync, G: Gate + Sync>(
@@ -239,62 +239,6 @@ fn a_limit_stops_rounds_that_creep(rt: HostRuntime) -> Result<(), Fail> {
         assert_eq!(rt; found, end);
     }
     Ok(())
-}
-
-/// Lets lane 1's turn 0 end only after lane 0's turn 0 was called, and that one only after lane 1's turn 1 was called.
-#[derive(Drop)]
-pub(crate) struct Meet {
-    first: AtomicBool,
-    second: AtomicBool,
-    third: AtomicBool,
-    gave_up: AtomicBool,
-}
-
-impl Meet {
-    pub(crate) fn new() -> Meet {
-        Meet {
-            first: AtomicBool::new(false),
-            second: AtomicBool::new(false),
-            third: AtomicBool::new(false),
-            gave_up: AtomicBool::new(false),
-        }
-    }
-
-    /// Whether all three passes were called, and no wait gave up.
-    pub(crate) fn was_passed(&self) -> bool {
-        let first = self.first.load(Ordering::SeqCst);
-        let second = self.second.load(Ordering::SeqCst);
-        let third = self.third.load(Ordering::SeqCst);
-        first && second && third && !self.gave_up.load(Ordering::SeqCst)
-    }
-}
-
-/// Waits for the other lane, for so many turns in which others may run.
-fn wait_for(flag: &AtomicBool, gave_up: &AtomicBool) {
-    for _ in 0..20_000_000u32 {
-        if flag.load(Ordering::SeqCst) {
-            return;
-        }
-        yield_now();
-    }
-    gave_up.store(true, Ordering::SeqCst);
-}
-
-impl Gate for Meet {
-    fn pass(&self, lane: u32, turn: u64) {
-        match (lane, turn) {
-            (0, 0) => {
-                self.first.store(true, Ordering::SeqCst);
-                wait_for(&self.third, &self.gave_up);
-            }
-            (1, 0) => {
-                self.second.store(true, Ordering::SeqCst);
-                wait_for(&self.first, &self.gave_up);
-            }
-            (1, 1) => self.third.store(true, Ordering::SeqCst),
-            _ => {}
-        }
-    }
 }
 
 /// The kernels of x <= 3 and of y <= 3, each twice: in an even cut each of two lanes has two.

@@ -7,11 +7,12 @@ ghost use Rattle.guarded_tell.specs.Kernels.{IsKernel};
 ghost use Rattle.shared_lanes.specs.Cuts.{IsCut};
 
 use crate::boxes::{at_most, equal, four, opposed, unequal};
-use crate::lanes::{Meet, twice_at_most_three};
+use crate::lanes::twice_at_most_three;
 use bit_domain::{Dom, MixOf};
 use gate::{Gate, NoGate};
 use guarded_tell::Kernel;
 use interval::{BoxOf, NoMemory};
+use meeting::Meet;
 use mix_rounds::{PropagatedMix, propagate_mix};
 use rounds::even_cut;
 use std::alloc::{AllocError, Global};

@@ -5,10 +5,11 @@ ghost use Rattle.std.specs.Prelude.{◌≡◌, ◌<◌, ◌≤◌, ◌+◌, ◌*
 use crew::{Gate, Job, NoGate, Work, Workers, run_numbers};
 use interval::NoMemory;
 use list_of::ListOf;
+use meeting::Meet;
 use std::alloc::Global;
 use std::sync::atomic::{AtomicBool, AtomicU64, Ordering};
 use std::test::Fail;
-use std::thread::{Threads, yield_now};
+use std::thread::Threads;
 
 /// Doubles numbers, and is refused memory at one of them.
 #[derive(Drop)]
@@ -218,63 +219,6 @@ fn each_worker_passes_before_each_number_and_once_more(rt: HostRuntime) -> Resul
         assert_eq!(rt; gate.count.load(Ordering::SeqCst), 10);
     }
     Ok(())
-}
-
-/// Lets worker 1's turn 0 end only after worker 0's turn 0 was called, and that one only after worker 1's turn 1 was
-/// called.
-#[derive(Drop)]
-struct Meet {
-    first: AtomicBool,
-    second: AtomicBool,
-    third: AtomicBool,
-    gave_up: AtomicBool,
-}
-
-impl Meet {
-    fn new() -> Meet {
-        Meet {
-            first: AtomicBool::new(false),
-            second: AtomicBool::new(false),
-            third: AtomicBool::new(false),
-            gave_up: AtomicBool::new(false),
-        }
-    }
-
-    /// Whether all three passes were called, and no wait gave up.
-    fn was_passed(&self) -> bool {
-        let first = self.first.load(Ordering::SeqCst);
-        let second = self.second.load(Ordering::SeqCst);
-        let third = self.third.load(Ordering::SeqCst);
-        first && second && third && !self.gave_up.load(Ordering::SeqCst)
-    }
-}
-
-/// Waits for the other worker, for so many turns in which others may run.
-fn wait_for(flag: &AtomicBool, gave_up: &AtomicBool) {
-    for _ in 0..20_000_000u32 {
-        if flag.load(Ordering::SeqCst) {
-            return;
-        }
-        yield_now();
-    }
-    gave_up.store(true, Ordering::SeqCst);
-}
-
-impl Gate for Meet {
-    fn pass(&self, worker: u32, turn: u64) {
-        match (worker, turn) {
-            (0, 0) => {
-                self.first.store(true, Ordering::SeqCst);
-                wait_for(&self.third, &self.gave_up);
-            }
-            (1, 0) => {
-                self.second.store(true, Ordering::SeqCst);
-                wait_for(&self.first, &self.gave_up);
-            }
-            (1, 1) => self.third.store(true, Ordering::SeqCst),
-            _ => {}
-        }
-    }
 }
 
 #[test]

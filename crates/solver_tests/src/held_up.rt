@@ -2,67 +2,11 @@
 //! until all eight have begun.
 
 use crate::calls::{SOUND, assert_ended, run_gated};
+use meeting::Meet;
 use solver_top::{Gate, Gates, NoGate, Status};
 use std::sync::atomic::{AtomicBool, AtomicU64, Ordering};
 use std::test::Fail;
 use std::thread::yield_now;
-
-/// Lets the turn 0 of number 1 end only after the turn 0 of number 0 was called, and that one only after the turn 1 of
-/// number 1 was called.
-#[derive(Drop)]
-struct Meet {
-    first: AtomicBool,
-    second: AtomicBool,
-    third: AtomicBool,
-    gave_up: AtomicBool,
-}
-
-impl Meet {
-    fn new() -> Meet {
-        Meet {
-            first: AtomicBool::new(false),
-            second: AtomicBool::new(false),
-            third: AtomicBool::new(false),
-            gave_up: AtomicBool::new(false),
-        }
-    }
-
-    /// Whether all three passes were called, and no wait gave up.
-    fn was_passed(&self) -> bool {
-        let first = self.first.load(Ordering::SeqCst);
-        let second = self.second.load(Ordering::SeqCst);
-        let third = self.third.load(Ordering::SeqCst);
-        first && second && third && !self.gave_up.load(Ordering::SeqCst)
-    }
-}
-
-/// Waits for the other, for so many turns in which others may run.
-fn wait_for(flag: &AtomicBool, gave_up: &AtomicBool) {
-    for _ in 0..20_000_000u32 {
-        if flag.load(Ordering::SeqCst) {
-            return;
-        }
-        yield_now();
-    }
-    gave_up.store(true, Ordering::SeqCst);
-}
-
-impl Gate for Meet {
-    fn pass(&self, number: u32, turn: u64) {
-        match (number, turn) {
-            (0, 0) => {
-                self.first.store(true, Ordering::SeqCst);
-                wait_for(&self.third, &self.gave_up);
-            }
-            (1, 0) => {
-                self.second.store(true, Ordering::SeqCst);
-                wait_for(&self.first, &self.gave_up);
-            }
-            (1, 1) => self.third.store(true, Ordering::SeqCst),
-            _ => {}
-        }
-    }
-}
 
 #[test]
 fn two_lanes_meet(rt: HostRuntime) -> Result<(), Fail> {

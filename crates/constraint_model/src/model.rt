@@ -4,6 +4,7 @@ ghost use Rattle.std.specs.Prelude.{◌≡◌};
 
 use crate::table::ConstraintName;
 use list_of::ListOf;
+use names::Name;
 use shared_list::SharedList;
 
 /// What stands where a variable may stand.
@@ -53,8 +54,8 @@ pub enum Operand {
 /// A declared variable.
 #[derive(Drop)]
 pub struct VarDecl {
-    /// The bytes of its name.
-    pub name: ListOf<u8>,
+    /// Its name.
+    pub name: Name,
     /// Whether it is a boolean, 0 for false and 1 for true.
     pub is_bool: bool,
     /// The least value that it starts with.

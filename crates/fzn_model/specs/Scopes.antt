@@ -1,7 +1,6 @@
 -- What names and expressions stand for, against the declarations before them.
 -- (MiniZinc Handbook, FlatZinc: parameter and variable declarations, basic expressions.)
-use Rattle.std.specs.Prelude.{ℕ, ℤ, pos, List, [], ◌∷◌, map, true, false, bytes_eq, find, Option, Some, None, option_map, option_and_then, unwrap_or, Vec, All}
-use Rattle.std.specs.declared.alloc.Global.{Global}
+use Rattle.std.specs.Prelude.{ℕ, ℤ, pos, List, [], ◌∷◌, map, true, false, bytes_eq, find, Option, Some, None, option_map, option_and_then, unwrap_or, All}
 use Rattle.fzn_lexer.specs.declared.Token.{Token}
 use Rattle.fzn_parser.specs.declared.tree.SetLit.{SetLit}
 use Rattle.fzn_parser.specs.declared.tree.Elem.{Elem}
@@ -18,10 +17,6 @@ use Rattle.constraint_model.specs.Arrays.{HasNumber}
 -- the declared names in order, each with what it stands for
 abbrev pub Scope : Type 0
 Scope = List (List ℕ × Meaning)
-
--- the entries of a map from names, as such a list
-abbrev pub declared_in : List (Vec ℕ Global × Meaning) → Scope
-declared_in entries = map (λ entry. (entry.0.items, entry.1)) entries
 
 -- what names stand for: an array with a number has the terms of the declared array at that place
 abbrev pub AreNumbered : List (List Term) → Scope → Type 0

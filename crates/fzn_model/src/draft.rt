@@ -14,11 +14,11 @@ ghost use Rattle.fzn_model.specs.Scopes.{AreNumbered};
 ghost use Rattle.fzn_model.specs.Effects as effects;
 ghost use Rattle.fzn_model.specs.Faults as faults;
 
+use crate::declaring::declares_again;
 use crate::effect::Effect;
 use crate::fault_kinds::FaultKind;
 use crate::limits::{MOST_CONSTANTS, MOST_KERNELS, MOST_VARS, has_long_rows};
 use crate::name_hash::NameHash;
-use crate::names::declares_again;
 use crate::reads::{no_effect, read_item};
 use crate::scope::Scope;
 use crate::stop::Stop;
@@ -28,6 +28,7 @@ use constraint_model::{
 };
 use fzn_parser::tree::{Item, What};
 use list_of::ListOf;
+use names::Name;
 use std::alloc::{AllocError, Global};
 use std::mem::replace;
 
@@ -134,7 +135,7 @@ fn declare(
     alloc: Global,
     scope: &mut Scope,
     constants: &mut Constants,
-    declared: &mut Option<(ListOf<u8>, Meaning)>,
+    declared: &mut Option<(Name, Meaning)>,
 ) -> Result<bool, AllocError>
     ensures new { IfOk result (λ b. b ≡ is_new scope.old declared.old) }
     ensures names { IfOk result (λ b. b ≡ true → scope.new ≡ scope.old ++ map (effects.numbered (length constants.old.arrays)) (option_to_list declared.old)) }
@@ -147,7 +148,7 @@ fn declare(
     match declared.take() {
         Some((name, meaning)) => {
             let meaning = numbered(alloc, constants, meaning)?;
-            scope.declare(name.into_vec(), meaning)
+            scope.declare(name, meaning)
         }
         None => Ok(true),
     }

@@ -2,12 +2,13 @@
 
 use constraint_model::{Constraint, Goal, Meaning, Output, Phase, VarDecl};
 use list_of::ListOf;
+use names::Name;
 
 /// What an item adds to the model.
 #[derive(Drop)]
 pub struct Effect {
     /// The name that it declares, with what it stands for.
-    pub declared: Option<(ListOf<u8>, Meaning)>,
+    pub declared: Option<(Name, Meaning)>,
     /// The variable that it declares.
     pub var: Option<VarDecl>,
     /// Its constraint, or those that its declaration adds.

@@ -7,10 +7,10 @@ ghost use Rattle.fzn_model.specs.declared.leaves.Leaf.{Leaf as Part};
 ghost use Rattle.fzn_model.specs.Leaves.{set_leaves, elem_leaves, expr_leaves, type_leaves, aim_leaves, leaves};
 ghost use Rattle.fzn_model.specs.Drafts.{has_kind, elems_of, elems_in, HaveNone};
 
+use crate::declaring::is_declared;
 use crate::exprs::spelling;
 use crate::fault_kinds::FaultKind;
 use crate::limits::MOST_ENTRIES;
-use crate::names::is_declared;
 use crate::numbers::number_of;
 use crate::scope::Scope;
 use constraint_model::ConstraintName;

@@ -9,6 +9,7 @@
 
 mod arrays;
 mod constraints;
+mod declaring;
 mod domains;
 mod draft;
 mod effect;
@@ -18,7 +19,6 @@ mod hints;
 mod leaves;
 mod limits;
 mod name_hash;
-mod names;
 mod numbers;
 mod outputs;
 mod reads;

@@ -9,11 +9,11 @@ ghost use Rattle.fzn_model.specs.Drafts.{has_leaf, declares_again, first_kind, o
 
 use crate::arrays::{ArrayDeclaration, read_array};
 use crate::constraints::{read_constraint, read_solve};
+use crate::declaring::declares_again;
 use crate::effect::Effect;
 use crate::exprs::spelling;
 use crate::fault_kinds::FaultKind;
 use crate::leaves::Sought;
-use crate::names::declares_again;
 use crate::scalars::{ScalarDeclaration, read_scalar};
 use crate::scope::Scope;
 use crate::stop::Stop;

@@ -17,6 +17,7 @@ use crate::types::{declares_variable, fits_scalar_type, is_bool_shape};
 use constraint_model::{Constraint, Meaning, Output, Scalar, Term, VarDecl};
 use fzn_parser::tree::{Ann, Expr, Shape};
 use list_of::ListOf;
+use names::Name;
 use std::alloc::Global;
 
 /// The declaration of a scalar, without its value.
@@ -119,7 +120,7 @@ fn variable(alloc: Global, text: &[u8], shape: &Shape, name: &[u8]) -> Result<Va
     ensures { IfOk result (λ d. d ≡ effects.variable text.now shape.now name.now) }
 {
     let (low, high) = bounds_of(alloc, text, shape)?;
-    let name = copy_name(alloc, name)?;
+    let name = Name::new(alloc, name)?;
     Ok(VarDecl {
         name,
         is_bool: is_bool_shape(shape),
@@ -148,7 +149,7 @@ fn variable_effect(
         is_bool: is_bool_shape(declaration.shape),
         term: x,
     };
-    effect.declared = Some((copy_name(alloc, declaration.name)?, Meaning::One(scalar)));
+    effect.declared = Some((Name::new(alloc, declaration.name)?, Meaning::One(scalar)));
     Ok(())
 }
 
@@ -171,11 +172,11 @@ pub(crate) fn named(
     alloc: Global,
     name: &[u8],
     value: Option<Meaning>,
-) -> Result<Option<(ListOf<u8>, Meaning)>, Stop>
+) -> Result<Option<(Name, Meaning)>, Stop>
     ensures { IfOk result (λ d. d ≡ option_map (λ m. (name.now, m)) value) }
 {
     match value {
-        Some(meaning) => Ok(Some((copy_name(alloc, name)?, meaning))),
+        Some(meaning) => Ok(Some((Name::new(alloc, name)?, meaning))),
         None => Ok(None),
     }
 }

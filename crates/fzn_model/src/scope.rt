@@ -9,27 +9,28 @@ use crate::hints::{Hint, Hints};
 use crate::name_hash::NameHash;
 use constraint_model::{Meaning, Scalar};
 use indexmap::IndexMap;
+use names::Name;
 use std::alloc::{AllocError, Global};
 use std::marker::Model;
 
 /// The declared names, each with what it stands for. Contracts see them in the order of their declarations.
 #[derive(Drop)]
 pub(crate) struct Scope {
-    entries: IndexMap<Vec<u8>, Meaning, NameHash>,
+    entries: IndexMap<Name, Meaning, NameHash>,
     /// What some of them stand for, once more: found faster, and asked first.
     hints: Hints,
 }
 
 impl Model for Scope {
-    ghost use Rattle.fzn_model.specs.Scopes.{Scope as Declared, declared_in};
+    ghost use Rattle.fzn_model.specs.Scopes.{Scope as Declared};
 
     ghost Value = { Declared };
 
     ghost use Rattle.fzn_model.specs.Hints.{AreRight};
 
-    ghost view = { λ s. declared_in s.entries.entries };
+    ghost view = { λ s. s.entries.entries };
 
-    ghost invariant = { λ s. AreRight (declared_in s.entries.entries) s.hints.hints.items };
+    ghost invariant = { λ s. AreRight s.entries.entries s.hints.hints.items };
 }
 
 /// The boolean or the integer that something stands for.
@@ -88,9 +89,9 @@ impl Scope {
     }
 
     /// Adds a name, where it wasn't declared, and tells whether it wasn't. Where memory is refused, the names are as before.
-    pub(crate) fn declare(&mut self, name: Vec<u8>, meaning: Meaning) -> Result<bool, AllocError>
-        ensures new { IfOk result (λ b. b ≡ is_none (meaning_of self.old name.items)) }
-        ensures added { IfOk result (λ b. b ≡ true → self.new ≡ self.old ++ (name.items, meaning) ∷ []) }
+    pub(crate) fn declare(&mut self, name: Name, meaning: Meaning) -> Result<bool, AllocError>
+        ensures new { IfOk result (λ b. b ≡ is_none (meaning_of self.old name)) }
+        ensures added { IfOk result (λ b. b ≡ true → self.new ≡ self.old ++ (name, meaning) ∷ []) }
         ensures unchanged { OnErr result (self.new ≡ self.old) }
     {
         let hint = Hint::of(name.as_slice(), &meaning);

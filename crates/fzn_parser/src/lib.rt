@@ -11,6 +11,7 @@ mod entries;
 mod items;
 pub mod laws;
 mod notes;
+mod plain;
 mod stream;
 mod texts;
 pub mod tree;

@@ -9,6 +9,7 @@ ghost use Rattle.fzn_parser.specs.Stream.{IsStretch, IsNextItem, IsCause, TellsO
 ghost use Rattle.fzn_parser.specs.Gathering.{IsGathered};
 
 use crate::cursor::{Class, Lexeme, Stop, Symbol, begins, same_token};
+use crate::plain::{may_declare, plain_declaration};
 use crate::texts::{is_at, is_plain_name, lexeme_of, plain_mark};
 use crate::tree::Item;
 use crate::{read_item, read_other};
@@ -267,6 +268,11 @@ pub fn next_item(
     ensures next { IfErr result (TellsOfNext text.now from) }
 {
     law_tokens_in_turn();
+    if may_declare(text, from)
+        && let Some(read) = plain_declaration(alloc, text, from)
+    {
+        return Ok(Some(read));
+    }
     let stretch = gather(text, from, &mut room.lexemes)?;
     if room.lexemes.is_empty() {
         return Ok(None);

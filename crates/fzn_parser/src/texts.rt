@@ -184,7 +184,7 @@ fn mark(s: &[u8]) -> Option<Symbol>
 
 #[tactic(auto, unfolding(crate::specs::Texts::spelling))]
 #[inline(always)]
-fn spelling<'a>(text: &'a [u8], token: Token) -> &'a [u8]
+pub(crate) fn spelling<'a>(text: &'a [u8], token: Token) -> &'a [u8]
     ensures { result.now ≡ spelling text.now token }
 {
     if token.from <= token.to && token.to <= text.len() {

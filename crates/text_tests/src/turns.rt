@@ -1,7 +1,8 @@
 //! Texts read token by token and item by item, from places that were counted by hand.
 
-use fzn_lexer::{Kind, next_token};
-use fzn_parser::{ItemError, Room, next_item};
+use fzn_lexer::{Kind, Token, lex, next_token};
+use fzn_parser::tree::{Item, SetLit, Shape, What};
+use fzn_parser::{ItemError, ParseError, Room, next_item, parse};
 use std::test::Fail;
 
 /// What stands behind a byte of a text: a token as (kind, from, to), no token, or a byte at which none begins.
@@ -280,6 +281,62 @@ fn the_next_item_is_this(rt: HostRuntime) -> Result<(), Fail> {
             Err(ItemError::NoMemory) => Next::NoMemory,
         };
         assert_eq!(rt; next, *expected);
+    }
+    Ok(())
+}
+
+/// Declarations in the form that most have, forms next to it, and such as are no items.
+const DECLARATIONS: &[&str] = &[
+    "var 1..20: x;",
+    "\nvar 1 ..\t20 : x ;",
+    "%a\nvar%b\n1%c\n..%d\n2%e\n:%f\nx%g\n;",
+    "var -1..2: x;",
+    "var 1..-2: x;",
+    "var 0x1..2: x;",
+    "var 1..2: x :: output_var;",
+    "var 1..2: x = 1;",
+    "var 1..2: vary;",
+    "var {1, 2}: x;",
+    "var 1..2: x",
+    "var 1..2: var;",
+    "vary 1..2: x;",
+];
+
+/// The place of an item, with the bounds, the name, the number of annotations and whether there is a value, where it declares a
+/// variable by a range.
+fn declared(item: &Item) -> (usize, Option<(Token, Token, Token, usize, bool)>) {
+    match &item.what {
+        What::Scalar {
+            shape: Shape::VarIn(SetLit::Range(low, high)),
+            name,
+            anns,
+            value,
+        } => (
+            item.from,
+            Some((*low, *high, *name, anns.len(), value.is_some())),
+        ),
+        _ => (item.from, None),
+    }
+}
+
+#[test]
+fn declarations_are_read_as_by_parse(rt: HostRuntime) -> Result<(), Fail> {
+    let mut room = Room::new(rt.alloc());
+    for text in DECLARATIONS {
+        let bytes = text.as_bytes();
+        let tokens = lex(rt.alloc(), bytes)?;
+        let whole = parse(rt.alloc(), bytes, tokens.as_slice());
+        match (next_item(rt.alloc(), bytes, 0, &mut room), whole) {
+            (Ok(Some(read)), Ok(items)) => {
+                assert_eq!(rt; items.len(), 1);
+                assert_eq!(rt; declared(&read.0), declared(&items[0]));
+                assert_eq!(rt; read.1, text.len());
+            }
+            (Err(ItemError::NoItem { at, .. }), Err(ParseError::Syntax { at: fault })) => {
+                assert_eq!(rt; at, fault);
+            }
+            _ => assert!(rt; false, "{text}"),
+        }
     }
     Ok(())
 }

@@ -16,7 +16,7 @@ use Rattle.tell_laws.specs.Narrowing.{narrows, narrowing}
 use Rattle.tell_laws.proofs.Lists.{All-one}
 use Rattle.guarded_tell.specs.declared.kernel.Kernel.{Kernel}
 use Rattle.guarded_tell.specs.declared.shape.Shape.TheVariants.{Greatest}
-use Rattle.guarded_tell.specs.declared.few.Few.{Few}
+use Rattle.guarded_tell.specs.declared.seen.Seen.{Seen}
 use Rattle.guarded_tell.specs.Words.{AreVariables}
 use Rattle.guarded_tell.specs.Kernels.{vars_of, tells, IsKernel}
 use Rattle.guarded_tell.specs.Narrowing.{narrowing_tells}
@@ -66,12 +66,12 @@ module _ (b : Bounds) (m x y : ℕ) where
   unfolding sole
   neither_reaches g h = of_passing false false (falls_short x g) (falls_short y h)
 
-  pub few_without : (ts : List Tell) (f : Few) → sole_tells ≡ [] → AreFew ts f → AreFew (ts ++ narrowing b sole_tells) f
+  pub few_without : (ts : List Tell) (f : Seen) → sole_tells ≡ [] → AreFew ts f → AreFew (ts ++ narrowing b sole_tells) f
   few_without ts f e few =
       subst (λ (us : List Tell). AreFew (ts ++ narrowing b us) f) (sym e)
       (subst (λ (us : List Tell). AreFew us f) (sym (append-nil ts)) few)
 
-  pub few_with : (t u : Tell) (ts : List Tell) (f : Few) → sole_tells ≡ u ∷ [] → t ≡ u → AreFew (ts ++ narrowing b (t ∷ [])) f → AreFew (ts ++ narrowing b sole_tells) f
+  pub few_with : (t u : Tell) (ts : List Tell) (f : Seen) → sole_tells ≡ u ∷ [] → t ≡ u → AreFew (ts ++ narrowing b (t ∷ [])) f → AreFew (ts ++ narrowing b sole_tells) f
   few_with t u ts f e same few =
       subst (λ (us : List Tell). AreFew (ts ++ narrowing b us) f) (sym e)
       (subst (λ (v : Tell). AreFew (ts ++ narrowing b (v ∷ [])) f) same few)
@@ -125,7 +125,7 @@ module _ (b : Bounds) (m x y : ℕ) where
       let four = (λ i. three i ++ narrowing b (w ∷ [])) ∙ sym (filter-append (narrows b) (t ∷ u ∷ v ∷ []) (w ∷ [])) in
       (λ i. four i ++ narrowing b us) ∙ sym (filter-append (narrows b) (t ∷ u ∷ v ∷ w ∷ []) us)
 
-  pub few_of_two : (t u v w : Tell) (f : Few) → t ≡ low_told → u ≡ high_told → v ≡ high_tell x (high_of b m) → w ≡ high_tell y (high_of b m)
+  pub few_of_two : (t u v w : Tell) (f : Seen) → t ≡ low_told → u ≡ high_told → v ≡ high_tell x (high_of b m) → w ≡ high_tell y (high_of b m)
       → AreFew ((((narrowing b (t ∷ []) ++ narrowing b (u ∷ [])) ++ narrowing b (v ∷ [])) ++ narrowing b (w ∷ [])) ++ narrowing b sole_tells) f → AreFew (narrowing b (max_tells m (x ∷ y ∷ []) b)) f
   few_of_two t u v w f first second third fourth few =
       subst (λ (ts : List Tell). AreFew ts f)
@@ -137,6 +137,6 @@ pub kernel_kept : (k : Kernel) (b : Bounds) (m x y : ℕ) → IsShapeOf k (Great
 unfolding IsShapeOf tells
 kernel_kept k b m x y e kept = subst (λ (j : Kernel). All (Keeps b) (tells j b)) (sym e) kept
 
-pub kernel_few : (k : Kernel) (b : Bounds) (m x y : ℕ) (f : Few) → IsShapeOf k (Greatest m x y) → AreFew (narrowing b (max_tells m (x ∷ y ∷ []) b)) f → AreFew (narrowing_tells k b) f
+pub kernel_few : (k : Kernel) (b : Bounds) (m x y : ℕ) (f : Seen) → IsShapeOf k (Greatest m x y) → AreFew (narrowing b (max_tells m (x ∷ y ∷ []) b)) f → AreFew (narrowing_tells k b) f
 unfolding IsShapeOf tells
 kernel_few k b m x y f e few = subst (λ (j : Kernel). AreFew (narrowing_tells j b) f) (sym e) few

@@ -22,7 +22,7 @@ use Rattle.tell_laws.proofs.NarrowingLaws.{none_narrows}
 use Rattle.tell_laws.proofs.Lists.{All-one}
 use Rattle.guarded_tell.specs.declared.kernel.Kernel.{Kernel}
 use Rattle.guarded_tell.specs.declared.shape.Shape.TheVariants.{Product}
-use Rattle.guarded_tell.specs.declared.few.Few.{Few}
+use Rattle.guarded_tell.specs.declared.seen.Seen.{Seen}
 use Rattle.guarded_tell.specs.Words.{AreVariables, IsProperIn}
 use Rattle.guarded_tell.specs.Kernels.{vars_of, tells, IsKernel}
 use Rattle.guarded_tell.specs.Narrowing.{narrowing_tells}
@@ -201,36 +201,36 @@ module _ (b : Bounds) (x y z : ℕ) (natural : IsNaturalProduct b x y z) where
 
     -- ---- gathered one after the other
 
-    left_out : (us : List Tell) → All (Keeps b) us → (ts : List Tell) (f : Few) → AreFew ts f → AreFew (ts ++ narrowing b us) f
+    left_out : (us : List Tell) → All (Keeps b) us → (ts : List Tell) (f : Seen) → AreFew ts f → AreFew (ts ++ narrowing b us) f
     left_out us kept ts f few =
         subst (λ (vs : List Tell). AreFew (ts ++ vs) f) (sym (none_narrows b us kept))
         (subst (λ (vs : List Tell). AreFew vs f) (sym (append-nil ts)) few)
 
-    pub without_least : QuotientOrder → low_of b z ≤ℤ (low_of b x *ℤ high_of b y) → (ts : List Tell) (f : Few) → AreFew ts f → AreFew (ts ++ narrowing b least_tells) f
+    pub without_least : QuotientOrder → low_of b z ≤ℤ (low_of b x *ℤ high_of b y) → (ts : List Tell) (f : Seen) → AreFew ts f → AreFew (ts ++ narrowing b least_tells) f
     without_least quotients h = left_out least_tells (least_kept quotients h)
 
-    pub without_most : QuotientOrder → (high_of b x *ℤ low_of b y) ≤ℤ high_of b z → (ts : List Tell) (f : Few) → AreFew ts f → AreFew (ts ++ narrowing b most_tells) f
+    pub without_most : QuotientOrder → (high_of b x *ℤ low_of b y) ≤ℤ high_of b z → (ts : List Tell) (f : Seen) → AreFew ts f → AreFew (ts ++ narrowing b most_tells) f
     without_most quotients h = left_out most_tells (most_kept quotients h)
 
-    pub without_least_product : IsBound (low_of b z) → (low_of b x *ℤ low_of b y) ≤ℤ low_of b z → (ts : List Tell) (f : Few) → AreFew ts f → AreFew (ts ++ narrowing b least_product_tells) f
+    pub without_least_product : IsBound (low_of b z) → (low_of b x *ℤ low_of b y) ≤ℤ low_of b z → (ts : List Tell) (f : Seen) → AreFew ts f → AreFew (ts ++ narrowing b least_product_tells) f
     without_least_product own h = left_out least_product_tells (least_product_kept own h)
 
-    pub without_greatest_product : IsBound (high_of b z) → high_of b z ≤ℤ (high_of b x *ℤ high_of b y) → (ts : List Tell) (f : Few) → AreFew ts f → AreFew (ts ++ narrowing b greatest_product_tells) f
+    pub without_greatest_product : IsBound (high_of b z) → high_of b z ≤ℤ (high_of b x *ℤ high_of b y) → (ts : List Tell) (f : Seen) → AreFew ts f → AreFew (ts ++ narrowing b greatest_product_tells) f
     without_greatest_product own h = left_out greatest_product_tells (greatest_product_kept own h)
 
-  pub few_of_product : (f : Few) → AreFew (narrowing b least_product_tells ++ narrowing b greatest_product_tells) f → AreFew (narrowing b (product_tells x y z b)) f
+  pub few_of_product : (f : Seen) → AreFew (narrowing b least_product_tells ++ narrowing b greatest_product_tells) f → AreFew (narrowing b (product_tells x y z b)) f
   few_of_product f few =
       subst (λ (ts : List Tell). AreFew ts f)
       (sym (two_parts b (low_tell z (low_of b x *ℤ low_of b y)) (high_tell z (high_of b x *ℤ high_of b y))) ∙ (λ i. narrowing b (sym natural_product_tells i))) few
 
-  pub few_with_factor : (ts : List Tell) (f : Few) → AreFew ((ts ++ narrowing b least_tells) ++ narrowing b most_tells) f → AreFew (ts ++ narrowing b (factor_tells x y z b)) f
+  pub few_with_factor : (ts : List Tell) (f : Seen) → AreFew ((ts ++ narrowing b least_tells) ++ narrowing b most_tells) f → AreFew (ts ++ narrowing b (factor_tells x y z b)) f
   few_with_factor ts f few =
       let parts = sym (two_parts b (low_tell x (ceiling_of (low_of b z) (high_of b y))) (high_tell x (floor_of (high_of b z) (low_of b y)))) ∙ (λ i. narrowing b (sym natural_factor_tells i)) in
       subst (λ (us : List Tell). AreFew us f)
       (append_assoc ts (narrowing b least_tells) (narrowing b most_tells) ∙ (λ i. ts ++ parts i)) few
 
 -- of the product, and then of each factor
-pub few_of_all : (b : Bounds) (x y z : ℕ) (f : Few)
+pub few_of_all : (b : Bounds) (x y z : ℕ) (f : Seen)
     → AreFew ((narrowing b (product_tells x y z b) ++ narrowing b (factor_tells x y z b)) ++ narrowing b (factor_tells y x z b)) f → AreFew (narrowing b (times_tells x y z b)) f
 few_of_all b x y z f few =
     subst (λ (ts : List Tell). AreFew ts f)
@@ -245,6 +245,6 @@ all_kept k b x y z e p q r =
     subst (λ (j : Kernel). All (Keeps b) (tells j b)) (sym e)
     (All-append (Keeps b) (product_tells x y z b) (factor_tells x y z b ++ factor_tells y x z b) p (All-append (Keeps b) (factor_tells x y z b) (factor_tells y x z b) q r))
 
-pub few_of_kernel : (k : Kernel) (b : Bounds) (x y z : ℕ) (f : Few) → IsShapeOf k (Product x y z) → AreFew (narrowing b (times_tells x y z b)) f → AreFew (narrowing_tells k b) f
+pub few_of_kernel : (k : Kernel) (b : Bounds) (x y z : ℕ) (f : Seen) → IsShapeOf k (Product x y z) → AreFew (narrowing b (times_tells x y z b)) f → AreFew (narrowing_tells k b) f
 unfolding IsShapeOf tells
 few_of_kernel k b x y z f e few = subst (λ (j : Kernel). AreFew (narrowing_tells j b) f) (sym e) few

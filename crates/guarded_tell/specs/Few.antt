@@ -1,12 +1,13 @@
 -- The tells of a list, where they are few.
 use Rattle.std.specs.Prelude.{◌≡◌, ◌<◌, List, [], ◌∷◌, length}
 use Rattle.tells.specs.declared.tell.Tell.{Tell}
-use Rattle.guarded_tell.specs.declared.few.Few.{Few}
-use Rattle.guarded_tell.specs.declared.few.Few.TheVariants.{None, One, Two, Many}
+use Rattle.guarded_tell.specs.declared.resting.Rest.TheVariants.{Awake}
+use Rattle.guarded_tell.specs.declared.seen.Seen.{Seen}
+use Rattle.guarded_tell.specs.declared.seen.Seen.TheVariants.{Quiet, One, Two, Unseen}
 
 -- these are all tells of the list, in order, or it has more than two
-abbrev pub AreFew : List Tell → Few → Type 0
-AreFew ts None = ts ≡ []
+abbrev pub AreFew : List Tell → Seen → Type 0
+AreFew ts (Quiet r) = (ts ≡ []) × (r ≡ Awake)
 AreFew ts (One t) = ts ≡ t ∷ []
 AreFew ts (Two t u) = ts ≡ t ∷ u ∷ []
-AreFew ts Many = 2 < length ts
+AreFew ts Unseen = 2 < length ts

@@ -1,6 +1,11 @@
 -- The order of the two terms of a difference.
-use Rattle.std.specs.Prelude.{Bool, true, false, ℕ, ℤ, pos, negsuc, List, [], ◌∷◌, ◌++◌}
+use Rattle.std.specs.Prelude.{◌≡◌, Bool, true, false, ℕ, ℤ, pos, negsuc, List, [], ◌∷◌, ◌++◌}
+use Rattle.interval.specs.Boxes.{Bounds}
 use Rattle.tells.specs.declared.tell.Tell.{Tell}
+use Rattle.tell_laws.specs.Narrowing.{narrowing}
+use Rattle.short_tells.specs.declared.short_terms.Room.{Room}
+use Rattle.short_tells.specs.ShortTells.{room_tells}
+use Rattle.guarded_tell.specs.declared.seen.Sole.{Sole}
 
 -- the coefficients of x - y, where x is the first of its variables, or y is
 abbrev pub ordered_signs : Bool → List ℤ
@@ -16,3 +21,8 @@ ordered_vars false x y = y ∷ x ∷ []
 abbrev pub ordered_tells : Bool → List Tell → List Tell → List Tell
 ordered_tells true ts us = ts ++ us
 ordered_tells false ts us = us ++ ts
+
+-- of the tells of x and of the opposite of y, which have this room, this one alone narrows the box, in whichever order they stand
+pub record IsSoleOfTwo (b : Bounds) (x y : ℕ) (room : Room) (s : Sole) : Type 0 where
+  pub one : (f : Bool) → ordered_tells f (narrowing b (room_tells b room (pos 1, x))) (narrowing b (room_tells b room (negsuc 0, y))) ≡ s.tell ∷ []
+  pub last : s.is_last ≡ false

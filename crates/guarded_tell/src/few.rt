@@ -1,84 +1,43 @@
-//! The few tells that a kernel's shape says of a visit, in order.
+//! What a kernel's shape says of a visit, put together tell by tell.
 
-ghost use Rattle.std.specs.Prelude.{◌≡◌, ◌<◌, ◌∷◌, ◌++◌, [], List, MatchOption, length};
-ghost use Rattle.interval.specs.Boxes.{Bounds};
+ghost use Rattle.std.specs.Prelude.{◌≡◌, ◌<◌, ◌∷◌, ◌++◌, [], List, length};
 ghost use Rattle.tell_laws.specs.Narrowing.{narrowing};
 ghost use Rattle.tell_laws.specs.Narrowing as words;
-ghost use Rattle.guarded_tell.specs.declared.kernel.Kernel.{Kernel};
 ghost use Rattle.guarded_tell.specs.Few.{AreFew};
-ghost use Rattle.guarded_tell.specs.Narrowing.{narrowing_tells};
-ghost use Rattle.guarded_tell.specs.Seen.{IsSeen, IsSole};
 
-use crate::seen::{Seen, Sole};
-use crate::{Rest, Side, Tell};
+use crate::seen::Seen;
+use crate::{Side, Tell};
 use interval::BoxOf;
 
-/// The tells of a list, in order, where there are at most two.
-#[derive(Clone, Copy, PartialEq, Eq, Debug)]
-pub enum Few {
-    /// There is none.
-    None,
-    /// There is this one.
-    One(Tell),
-    /// There are these two, in this order.
-    Two(Tell, Tell),
-    /// There are more.
-    Many,
-}
-
-impl Few {
-    /// The same with one more tell behind them.
+impl Seen {
+    /// The same with one more tell behind those that it has.
     #[inline(always)]
-    pub fn with(self, t: Tell) -> Few
+    pub(crate) fn with(self, t: Tell) -> Seen
         ensures { (ts : List Tell) → AreFew ts self → AreFew (ts ++ t ∷ []) result }
     {
         match self {
-            Few::None => Few::One(t),
-            Few::One(first) => Few::Two(first, t),
-            Few::Two(..) | Few::Many => Few::Many,
+            Seen::Quiet(_) => Seen::One(t),
+            Seen::One(first) => Seen::Two(first, t),
+            Seen::Two(..) | Seen::Unseen => Seen::Unseen,
         }
     }
 
-    /// Puts one more tell behind them.
+    /// Puts one more tell behind those that it has.
     #[inline(always)]
-    pub fn add(&mut self, t: Tell)
+    pub(crate) fn add(&mut self, t: Tell)
         ensures { (ts : List Tell) → AreFew ts self.old → AreFew (ts ++ t ∷ []) self.new }
     {
         *self = self.with(t);
     }
-
-    /// What they say of a visit, where they are the kernel's that narrow the box.
-    #[inline(always)]
-    pub fn seen(self) -> Seen
-        ensures { (k : Kernel) (b : Bounds) → AreFew (narrowing_tells k b) self → IsSeen k b result }
-    {
-        match self {
-            Few::None => Seen::Quiet(Rest::Awake),
-            Few::One(t) => Seen::One(t),
-            Few::Two(t, u) => Seen::Two(t, u),
-            Few::Many => Seen::Unseen,
-        }
-    }
-
-    /// The one tell that they are, where they are the kernel's that narrow the box.
-    #[inline(always)]
-    pub(crate) fn sole(self) -> Option<Sole>
-        ensures { (k : Kernel) (b : Bounds) → AreFew (narrowing_tells k b) self → MatchOption result (Unit {0}) (IsSole k b) }
-    {
-        match self {
-            Few::One(t) => Some(Sole::one(t)),
-            Few::None | Few::Two(..) | Few::Many => None,
-        }
-    }
 }
 
-/// The same with one more tell behind them, where that narrows the box.
+/// The same with one more tell behind those that it has, where that narrows the box.
 #[inline(always)]
-pub(crate) fn with_tell(few: Few, t: Tell, b: &BoxOf) -> Few
+pub(crate) fn with_tell(seen: Seen, t: Tell, b: &BoxOf) -> Seen
     requires { t.var < length b.now }
-    ensures { (ts : List Tell) → AreFew ts few → AreFew (ts ++ narrowing b.now (t ∷ [])) result }
+    ensures { (ts : List Tell) → AreFew ts seen → AreFew (ts ++ narrowing b.now (t ∷ [])) result }
 {
-    if narrows(t, b) { few.with(t) } else { few }
+    if narrows(t, b) { seen.with(t) } else { seen }
 }
 
 /// Whether the tell's bound is tighter than the box's.

@@ -18,9 +18,10 @@ ghost use Rattle.guarded_tell.specs.Shapes.{IsShapeOf};
 ghost use Rattle.guarded_tell.specs.Seen.{IsSeen};
 
 use crate::Kernel;
-use crate::few::{Few, with_tell};
+use crate::few::with_tell;
 use crate::resting::Rest;
 use crate::seen::Seen;
+use crate::three::larger;
 use interval::{BoxOf, law_clamp_order};
 use tells::{high_tell, low_tell};
 
@@ -35,7 +36,7 @@ pub(crate) fn seen_greatest(k: &Kernel, m: u32, x: u32, y: u32, b: &BoxOf) -> Se
     if is_greatest_kept(m, x, y, b) {
         Seen::Quiet(Rest::Awake)
     } else {
-        greatest_tells(m, x, y, b).seen()
+        greatest_tells(m, x, y, b)
     }
 }
 
@@ -90,49 +91,41 @@ fn may_reach(low: i64, x: u32, y: u32, b: &BoxOf) -> bool
 
 /// The tells that narrow the box, if there are no more than two.
 #[inline(never)]
-fn greatest_tells(m: u32, x: u32, y: u32, b: &BoxOf) -> Few
+fn greatest_tells(m: u32, x: u32, y: u32, b: &BoxOf) -> Seen
     requires m { m < length b.now }
     requires x { x < length b.now }
     requires y { y < length b.now }
     ensures { AreFew (narrowing b.now (max_tells m (x ∷ y ∷ []) b.now)) result }
 {
-    let few = with_tell(
-        Few::None,
+    let seen = with_tell(
+        Seen::Quiet(Rest::Awake),
         low_tell(m, larger(b.low(x), b.low(y)) as i128),
         b,
     );
-    let few = with_tell(few, high_tell(m, larger(b.high(x), b.high(y)) as i128), b);
-    let few = with_tell(few, high_tell(x, b.high(m) as i128), b);
-    let few = with_tell(few, high_tell(y, b.high(m) as i128), b);
-    with_sole_reaching(few, m, x, y, b)
+    let seen = with_tell(seen, high_tell(m, larger(b.high(x), b.high(y)) as i128), b);
+    let seen = with_tell(seen, high_tell(x, b.high(m) as i128), b);
+    let seen = with_tell(seen, high_tell(y, b.high(m) as i128), b);
+    with_sole_reaching(seen, m, x, y, b)
 }
 
 /// The same with the tell of the one variable that can be as great as `m`, where the other can't.
 #[inline(always)]
-fn with_sole_reaching(few: Few, m: u32, x: u32, y: u32, b: &BoxOf) -> Few
+fn with_sole_reaching(seen: Seen, m: u32, x: u32, y: u32, b: &BoxOf) -> Seen
     requires m { m < length b.now }
     requires x { x < length b.now }
     requires y { y < length b.now }
-    ensures { (ts : List Told) → AreFew ts few → AreFew (ts ++ narrowing b.now (told_of (λ v. tell_words.low_tell v (low_of b.now m)) (sole (filter (max_reaches m b.now) (x ∷ y ∷ []))))) result }
+    ensures { (ts : List Told) → AreFew ts seen → AreFew (ts ++ narrowing b.now (told_of (λ v. tell_words.low_tell v (low_of b.now m)) (sole (filter (max_reaches m b.now) (x ∷ y ∷ []))))) result }
 {
     let low = b.low(m);
     if low <= b.high(x) {
         if low <= b.high(y) {
-            few
+            seen
         } else {
-            with_tell(few, low_tell(x, low as i128), b)
+            with_tell(seen, low_tell(x, low as i128), b)
         }
     } else if low <= b.high(y) {
-        with_tell(few, low_tell(y, low as i128), b)
+        with_tell(seen, low_tell(y, low as i128), b)
     } else {
-        few
+        seen
     }
-}
-
-/// The larger of two numbers.
-#[inline(always)]
-fn larger(first: i64, second: i64) -> i64
-    ensures { result ≡ int_max first second }
-{
-    if first < second { second } else { first }
 }

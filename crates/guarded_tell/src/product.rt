@@ -18,7 +18,7 @@ ghost use Rattle.guarded_tell.specs.Natural.{IsFactor, HasFactors, IsNaturalProd
 ghost use Rattle.guarded_tell.specs.Few.{AreFew};
 
 use crate::Kernel;
-use crate::few::{Few, with_tell};
+use crate::few::with_tell;
 use crate::resting::Rest;
 use crate::seen::Seen;
 use crate::shape::Shape;
@@ -45,7 +45,7 @@ pub fn seen_product(k: &Kernel, x: u32, y: u32, z: u32, b: &BoxOf) -> Seen
     {
         Seen::Quiet(Rest::Awake)
     } else {
-        few_tells(x, y, z, b).seen()
+        few_tells(x, y, z, b)
     }
 }
 
@@ -102,113 +102,113 @@ fn is_factor_kept(x: u32, y: u32, z: u32, b: &BoxOf) -> bool
 
 /// The tells that narrow the box, if there are no more than two.
 #[inline(never)]
-fn few_tells(x: u32, y: u32, z: u32, b: &BoxOf) -> Few
+fn few_tells(x: u32, y: u32, z: u32, b: &BoxOf) -> Seen
     requires x { x < length b.now }
     requires y { y < length b.now }
     requires z { z < length b.now }
     requires natural { IsNaturalProduct b.now x y z }
     ensures { AreFew (narrowing b.now (times_tells x y z b.now)) result }
 {
-    let few = few_products(x, y, z, b);
-    let few = with_factor(few, x, y, z, b);
-    with_factor(few, y, x, z, b)
+    let seen = few_products(x, y, z, b);
+    let seen = with_factor(seen, x, y, z, b);
+    with_factor(seen, y, x, z, b)
 }
 
 /// Those of the product.
 #[inline(always)]
-fn few_products(x: u32, y: u32, z: u32, b: &BoxOf) -> Few
+fn few_products(x: u32, y: u32, z: u32, b: &BoxOf) -> Seen
     requires x { x < length b.now }
     requires y { y < length b.now }
     requires z { z < length b.now }
     requires natural { IsNaturalProduct b.now x y z }
     ensures { AreFew (narrowing b.now (product_tells x y z b.now)) result }
 {
-    let few = with_least_product(Few::None, x, y, z, b);
-    with_greatest_product(few, x, y, z, b)
+    let seen = with_least_product(Seen::Quiet(Rest::Awake), x, y, z, b);
+    with_greatest_product(seen, x, y, z, b)
 }
 
 /// The same with that of the least product.
 #[inline(always)]
-fn with_least_product(few: Few, x: u32, y: u32, z: u32, b: &BoxOf) -> Few
+fn with_least_product(seen: Seen, x: u32, y: u32, z: u32, b: &BoxOf) -> Seen
     requires x { x < length b.now }
     requires y { y < length b.now }
     requires z { z < length b.now }
     requires natural { IsNaturalProduct b.now x y z }
-    ensures { (ts : List Tell) → AreFew ts few → AreFew (ts ++ narrowing b.now (tell_words.low_tell z (low_of b.now x *ℤ low_of b.now y) ∷ [])) result }
+    ensures { (ts : List Tell) → AreFew ts seen → AreFew (ts ++ narrowing b.now (tell_words.low_tell z (low_of b.now x *ℤ low_of b.now y) ∷ [])) result }
 {
     law_clamp_order();
     let least = product(b.low(x), b.low(y));
     if b.low(z) < least {
-        with_tell(few, low_tell(z, least as i128), b)
+        with_tell(seen, low_tell(z, least as i128), b)
     } else {
-        few
+        seen
     }
 }
 
 /// The same with that of the greatest.
 #[inline(always)]
-fn with_greatest_product(few: Few, x: u32, y: u32, z: u32, b: &BoxOf) -> Few
+fn with_greatest_product(seen: Seen, x: u32, y: u32, z: u32, b: &BoxOf) -> Seen
     requires x { x < length b.now }
     requires y { y < length b.now }
     requires z { z < length b.now }
     requires natural { IsNaturalProduct b.now x y z }
-    ensures { (ts : List Tell) → AreFew ts few → AreFew (ts ++ narrowing b.now (tell_words.high_tell z (high_of b.now x *ℤ high_of b.now y) ∷ [])) result }
+    ensures { (ts : List Tell) → AreFew ts seen → AreFew (ts ++ narrowing b.now (tell_words.high_tell z (high_of b.now x *ℤ high_of b.now y) ∷ [])) result }
 {
     law_clamp_order();
     let greatest = product(b.high(x), b.high(y));
     if greatest < b.high(z) {
-        with_tell(few, high_tell(z, greatest as i128), b)
+        with_tell(seen, high_tell(z, greatest as i128), b)
     } else {
-        few
+        seen
     }
 }
 
 /// The same with those of the factor `x`.
 #[inline(always)]
-fn with_factor(few: Few, x: u32, y: u32, z: u32, b: &BoxOf) -> Few
+fn with_factor(seen: Seen, x: u32, y: u32, z: u32, b: &BoxOf) -> Seen
     requires x { x < length b.now }
     requires y { y < length b.now }
     requires z { z < length b.now }
     requires natural { IsNaturalProduct b.now x y z }
-    ensures { (ts : List Tell) → AreFew ts few → AreFew (ts ++ narrowing b.now (factor_tells x y z b.now)) result }
+    ensures { (ts : List Tell) → AreFew ts seen → AreFew (ts ++ narrowing b.now (factor_tells x y z b.now)) result }
 {
-    let few = with_least(few, x, y, z, b);
-    with_most(few, x, y, z, b)
+    let seen = with_least(seen, x, y, z, b);
+    with_most(seen, x, y, z, b)
 }
 
 /// The same with that of the least number of `x`.
 #[inline(always)]
-fn with_least(few: Few, x: u32, y: u32, z: u32, b: &BoxOf) -> Few
+fn with_least(seen: Seen, x: u32, y: u32, z: u32, b: &BoxOf) -> Seen
     requires x { x < length b.now }
     requires y { y < length b.now }
     requires z { z < length b.now }
     requires natural { IsNaturalProduct b.now x y z }
-    ensures { (ts : List Tell) → AreFew ts few → AreFew (ts ++ narrowing b.now (tell_words.low_tell x (ceiling_of (low_of b.now z) (high_of b.now y)) ∷ [])) result }
+    ensures { (ts : List Tell) → AreFew ts seen → AreFew (ts ++ narrowing b.now (tell_words.low_tell x (ceiling_of (low_of b.now z) (high_of b.now y)) ∷ [])) result }
 {
     law_quotient_order();
     law_clamp_order();
     if product(b.low(x), b.high(y)) < b.low(z) {
-        with_tell(few, low_tell(x, ceiling(b.low(z), b.high(y)) as i128), b)
+        with_tell(seen, low_tell(x, ceiling(b.low(z), b.high(y)) as i128), b)
     } else {
-        few
+        seen
     }
 }
 
 /// The same with that of the greatest.
 #[inline(always)]
-fn with_most(few: Few, x: u32, y: u32, z: u32, b: &BoxOf) -> Few
+fn with_most(seen: Seen, x: u32, y: u32, z: u32, b: &BoxOf) -> Seen
     requires x { x < length b.now }
     requires y { y < length b.now }
     requires z { z < length b.now }
     requires natural { IsNaturalProduct b.now x y z }
-    ensures { (ts : List Tell) → AreFew ts few → AreFew (ts ++ narrowing b.now (tell_words.high_tell x (floor_of (high_of b.now z) (low_of b.now y)) ∷ [])) result }
+    ensures { (ts : List Tell) → AreFew ts seen → AreFew (ts ++ narrowing b.now (tell_words.high_tell x (floor_of (high_of b.now z) (low_of b.now y)) ∷ [])) result }
 {
     law_quotient_order();
     law_clamp_order();
     if b.high(z) < product(b.high(x), b.low(y)) {
-        with_tell(few, high_tell(x, floor(b.high(z), b.low(y)) as i128), b)
+        with_tell(seen, high_tell(x, floor(b.high(z), b.low(y)) as i128), b)
     } else {
-        few
+        seen
     }
 }
 

@@ -46,7 +46,7 @@ pub enum Seen {
 impl Sole {
     /// This tell, after which the kernel may need visits.
     #[inline(always)]
-    pub(crate) fn one(tell: Tell) -> Sole
+    pub fn one(tell: Tell) -> Sole
         ensures tell { result.tell ≡ tell }
         ensures last { result.is_last ≡ false }
     {
@@ -56,7 +56,7 @@ impl Sole {
 
     /// This tell, after which the kernel rests for good.
     #[inline(always)]
-    pub(crate) fn last(tell: Tell) -> Sole
+    pub fn last(tell: Tell) -> Sole
         ensures tell { result.tell ≡ tell }
         ensures last { result.is_last ≡ true }
     {

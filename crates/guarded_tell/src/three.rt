@@ -1,6 +1,7 @@
 //! What the shape of an equation of three terms, each a variable or its opposite, says of a visit.
 
 ghost use Rattle.std.specs.Prelude.{◌≡◌, ◌<◌, ◌≤◌, ◌≤ℤ◌, ◌+ℤ◌, ◌-ℤ◌, pos, true, List, ◌++◌, ◌∷◌, [], length, unsigned_abs};
+ghost use Rattle.std.specs.Int.{int_max};
 ghost use Rattle.std.specs.List.{zip, flat_map};
 ghost use Rattle.interval.specs.Limits.{IsBound};
 ghost use Rattle.interval.specs.Boxes.{low_of, high_of};
@@ -16,7 +17,6 @@ ghost use Rattle.guarded_tell.specs.Seen.{IsSeen};
 ghost use Rattle.guarded_tell.specs.Shapes.{IsShapeOf, unit_of, units_of, places_of};
 ghost use Rattle.guarded_tell.specs.Three.{ArePlaced, AreSpansOf, AreBounds, room_of, width_of};
 
-use crate::few::Few;
 use crate::seen::Seen;
 use crate::shape::{Shape, Sign, Terms};
 use crate::{Kernel, Lit, Rest, Side, Tell};
@@ -76,7 +76,7 @@ fn seen_sure(k: &Kernel, lit: Lit, terms: Terms, limit: i64, b: &BoxOf) -> Seen
             Seen::Quiet(Rest::Awake)
         }
     } else if rise >= 0 && fall >= 0 {
-        told(terms, rise, fall, b).seen()
+        told(terms, rise, fall, b)
     } else {
         Seen::Unseen
     }
@@ -171,9 +171,8 @@ fn width(term: SmallTerm) -> i64
 
 /// The larger of two numbers.
 #[inline(always)]
-fn larger(first: i64, second: i64) -> i64
-    ensures first { first ≤ℤ result }
-    ensures second { second ≤ℤ result }
+pub(crate) fn larger(first: i64, second: i64) -> i64
+    ensures { result ≡ int_max first second }
 {
     if first < second { second } else { first }
 }
@@ -190,83 +189,83 @@ pub(crate) fn left(whole: i64, part: i64) -> i64
 }
 
 /// The tells of the terms that narrow the box.
-fn told(terms: Terms, rise: i64, fall: i64, b: &BoxOf) -> Few
+fn told(terms: Terms, rise: i64, fall: i64, b: &BoxOf) -> Seen
     requires places { ArePlaced b.now terms }
     requires rise { pos 0 ≤ℤ rise }
     requires fall { pos 0 ≤ℤ fall }
     ensures { AreFew (flat_map (λ t. narrowing b.now (room_tells b.now (room_of rise fall) t)) (zip (units_of terms) (places_of terms))) result }
 {
-    let mut few = Few::None;
-    add_if_wide(&mut few, terms.x_sign, terms.x, rise, fall, b);
-    add_if_wide(&mut few, terms.y_sign, terms.y, rise, fall, b);
-    add_if_wide(&mut few, terms.z_sign, terms.z, rise, fall, b);
-    few
+    let mut seen = Seen::Quiet(Rest::Awake);
+    add_if_wide(&mut seen, terms.x_sign, terms.x, rise, fall, b);
+    add_if_wide(&mut seen, terms.y_sign, terms.y, rise, fall, b);
+    add_if_wide(&mut seen, terms.z_sign, terms.z, rise, fall, b);
+    seen
 }
 
 /// Adds the tells of one more term. Most are told nothing.
 #[inline(always)]
-fn add_if_wide(few: &mut Few, sign: Sign, var: u32, rise: i64, fall: i64, b: &BoxOf)
+fn add_if_wide(seen: &mut Seen, sign: Sign, var: u32, rise: i64, fall: i64, b: &BoxOf)
     requires variable { var < length b.now }
     requires proper { low_of b.now var ≤ℤ high_of b.now var }
     requires rise { pos 0 ≤ℤ rise }
     requires fall { pos 0 ≤ℤ fall }
-    ensures { (ts : List Told) → AreFew ts few.old → AreFew (ts ++ narrowing b.now (room_tells b.now (room_of rise fall) (unit_of sign, var))) few.new }
+    ensures { (ts : List Told) → AreFew ts seen.old → AreFew (ts ++ narrowing b.now (room_tells b.now (room_of rise fall) (unit_of sign, var))) seen.new }
 {
     law_quotient_order();
     law_clamp_order();
     let width = gap(b.low(var), b.high(var));
     if rise < width || fall < width {
-        add_term_apart(few, sign, var, rise, fall, b);
+        add_term_apart(seen, sign, var, rise, fall, b);
     }
 }
 
 /// The same of a term that is told something. This stands apart, so that one that is told nothing moves no tells.
 #[inline(never)]
-fn add_term_apart(few: &mut Few, sign: Sign, var: u32, rise: i64, fall: i64, b: &BoxOf)
+fn add_term_apart(seen: &mut Seen, sign: Sign, var: u32, rise: i64, fall: i64, b: &BoxOf)
     requires variable { var < length b.now }
     requires proper { low_of b.now var ≤ℤ high_of b.now var }
     requires rise { pos 0 ≤ℤ rise }
     requires fall { pos 0 ≤ℤ fall }
-    ensures { (ts : List Told) → AreFew ts few.old → AreFew (ts ++ narrowing b.now (room_tells b.now (room_of rise fall) (unit_of sign, var))) few.new }
+    ensures { (ts : List Told) → AreFew ts seen.old → AreFew (ts ++ narrowing b.now (room_tells b.now (room_of rise fall) (unit_of sign, var))) seen.new }
 {
-    add_term(few, sign, var, rise, fall, b);
+    add_term(seen, sign, var, rise, fall, b);
 }
 
 /// Adds the tells of one more term, which may rise and fall by so much.
 #[inline(always)]
-pub(crate) fn add_term(few: &mut Few, sign: Sign, var: u32, rise: i64, fall: i64, b: &BoxOf)
+pub(crate) fn add_term(seen: &mut Seen, sign: Sign, var: u32, rise: i64, fall: i64, b: &BoxOf)
     requires variable { var < length b.now }
     requires proper { low_of b.now var ≤ℤ high_of b.now var }
     requires rise { pos 0 ≤ℤ rise }
     requires fall { pos 0 ≤ℤ fall }
-    ensures { (ts : List Told) → AreFew ts few.old → AreFew (ts ++ narrowing b.now (room_tells b.now (room_of rise fall) (unit_of sign, var))) few.new }
+    ensures { (ts : List Told) → AreFew ts seen.old → AreFew (ts ++ narrowing b.now (room_tells b.now (room_of rise fall) (unit_of sign, var))) seen.new }
 {
     law_quotient_order();
     match sign {
         Sign::Plus => {
-            add_high(few, var, rise, b);
-            add_low(few, var, fall, b);
+            add_high(seen, var, rise, b);
+            add_low(seen, var, fall, b);
         }
         Sign::Minus => {
-            add_low(few, var, rise, b);
-            add_high(few, var, fall, b);
+            add_low(seen, var, rise, b);
+            add_high(seen, var, fall, b);
         }
     }
 }
 
 /// Adds the tell of a variable that is at most so far above its low.
 #[inline(always)]
-pub(crate) fn add_high(few: &mut Few, var: u32, slack: i64, b: &BoxOf)
+pub(crate) fn add_high(seen: &mut Seen, var: u32, slack: i64, b: &BoxOf)
     requires variable { var < length b.now }
     requires slack { pos 0 ≤ℤ slack }
-    ensures { (ts : List Told) → AreFew ts few.old → AreFew (ts ++ narrowing b.now (high_tell var (low_of b.now var +ℤ slack) ∷ [])) few.new }
+    ensures { (ts : List Told) → AreFew ts seen.old → AreFew (ts ++ narrowing b.now (high_tell var (low_of b.now var +ℤ slack) ∷ [])) seen.new }
 {
     law_clamp_order();
     let low = b.low(var);
     let high = b.high(var);
     if slack < gap(low, high) {
         let bound = raised(low, slack);
-        few.add(Tell {
+        seen.add(Tell {
             var,
             side: Side::High,
             bound,
@@ -276,17 +275,17 @@ pub(crate) fn add_high(few: &mut Few, var: u32, slack: i64, b: &BoxOf)
 
 /// Adds the tell of a variable that is at most so far below its high.
 #[inline(always)]
-pub(crate) fn add_low(few: &mut Few, var: u32, slack: i64, b: &BoxOf)
+pub(crate) fn add_low(seen: &mut Seen, var: u32, slack: i64, b: &BoxOf)
     requires variable { var < length b.now }
     requires slack { pos 0 ≤ℤ slack }
-    ensures { (ts : List Told) → AreFew ts few.old → AreFew (ts ++ narrowing b.now (low_tell var (high_of b.now var -ℤ slack) ∷ [])) few.new }
+    ensures { (ts : List Told) → AreFew ts seen.old → AreFew (ts ++ narrowing b.now (low_tell var (high_of b.now var -ℤ slack) ∷ [])) seen.new }
 {
     law_clamp_order();
     let low = b.low(var);
     let high = b.high(var);
     if slack < gap(low, high) {
         let bound = lowered(high, slack);
-        few.add(Tell {
+        seen.add(Tell {
             var,
             side: Side::Low,
             bound,
@@ -297,7 +296,7 @@ pub(crate) fn add_low(few: &mut Few, var: u32, slack: i64, b: &BoxOf)
 /// How far the high is above the low.
 #[tactic(auto, unfolding(interval::specs::Limits::bound_limit, interval::specs::Limits::largest_number))]
 #[inline(always)]
-fn gap(low: i64, high: i64) -> i64
+pub(crate) fn gap(low: i64, high: i64) -> i64
     requires low { IsBound low }
     requires high { IsBound high }
     ensures { result ≡ high -ℤ low }
@@ -308,7 +307,7 @@ fn gap(low: i64, high: i64) -> i64
 /// The bound that is so far above another.
 #[tactic(auto, unfolding(interval::specs::Limits::bound_limit, interval::specs::Limits::largest_number))]
 #[inline(always)]
-fn raised(low: i64, slack: i64) -> i64
+pub(crate) fn raised(low: i64, slack: i64) -> i64
     requires { IsBound (low +ℤ slack) }
     ensures { result ≡ low +ℤ slack }
 {
@@ -318,7 +317,7 @@ fn raised(low: i64, slack: i64) -> i64
 /// The bound that is so far below another.
 #[tactic(auto, unfolding(interval::specs::Limits::bound_limit, interval::specs::Limits::largest_number))]
 #[inline(always)]
-fn lowered(high: i64, slack: i64) -> i64
+pub(crate) fn lowered(high: i64, slack: i64) -> i64
     requires { IsBound (high -ℤ slack) }
     ensures { result ≡ high -ℤ slack }
 {

@@ -87,9 +87,9 @@ pub(crate) fn run_kernel(
         }
         None => match masks.shape(place) {
             Shape::Slight | Shape::Other => run_unseen(kernels, masks, place, b, sets, progress),
-            Shape::Three { .. } | Shape::Product { .. } | Shape::Greatest { .. } => {
-                run_seen(kernels, masks, place, b, sets, progress)
-            }
+            Shape::Three { .. } => run_three(kernels, masks, place, b, sets, progress),
+            Shape::Product { .. } => run_product(kernels, masks, place, b, sets, progress),
+            Shape::Greatest { .. } => run_greatest(kernels, masks, place, b, sets, progress),
             _ => run_told(kernels, masks, place, b, sets, progress),
         },
     }
@@ -126,9 +126,10 @@ fn run_told(
     }
 }
 
-/// The same of a kernel whose shape may say more than one tell.
+/// The same of an equation of three terms. Its shape is written down anew, so that nothing that another may say is
+/// kept room for.
 #[inline(never)]
-fn run_seen(
+fn run_three(
     kernels: &[Kernel],
     masks: &Masks,
     place: usize,
@@ -147,10 +148,138 @@ fn run_seen(
     ensures stacks { KeepStacks sets.old.rests sets.new.rests }
     ensures run { KernelRuns kernels.now place b.old.current sets.old.asked sets.old.rests progress b.new.current sets.new.asked sets.new.rests result }
 {
+    match masks.shape(place) {
+        Shape::Three { terms, limit } => {
+            let shape = Shape::Three {
+                terms: *terms,
+                limit: *limit,
+            };
+            run_seen(kernels, masks, place, &shape, b, sets, progress)
+        }
+        _ => run_unseen(kernels, masks, place, b, sets, progress),
+    }
+}
+
+/// The same of a product.
+#[inline(never)]
+fn run_product(
+    kernels: &[Kernel],
+    masks: &Masks,
+    place: usize,
+    b: &mut TrailedBox,
+    sets: &mut AskedSets,
+    progress: Progress,
+) -> Progress
+    requires place { place < length kernels.now }
+    requires kernels { All (IsKernel (length b.old.current)) kernels.now }
+    requires masks { AreMasksOf kernels.now (length b.old.current) masks.now }
+    requires set { count_of sets.old.asked ≡ length kernels.now }
+    requires rests { FitRests (length kernels.now) sets.old.rests }
+    requires proper { IsProper b.old.current }
+    ensures stack { b.new.stack ≡ b.old.stack }
+    ensures rests { FitRests (length kernels.now) sets.new.rests }
+    ensures stacks { KeepStacks sets.old.rests sets.new.rests }
+    ensures run { KernelRuns kernels.now place b.old.current sets.old.asked sets.old.rests progress b.new.current sets.new.asked sets.new.rests result }
+{
+    match masks.shape(place) {
+        Shape::Product { x, y, z } => {
+            let shape = Shape::Product {
+                x: *x,
+                y: *y,
+                z: *z,
+            };
+            run_seen(kernels, masks, place, &shape, b, sets, progress)
+        }
+        _ => run_unseen(kernels, masks, place, b, sets, progress),
+    }
+}
+
+/// The same of the greater of two.
+#[inline(never)]
+fn run_greatest(
+    kernels: &[Kernel],
+    masks: &Masks,
+    place: usize,
+    b: &mut TrailedBox,
+    sets: &mut AskedSets,
+    progress: Progress,
+) -> Progress
+    requires place { place < length kernels.now }
+    requires kernels { All (IsKernel (length b.old.current)) kernels.now }
+    requires masks { AreMasksOf kernels.now (length b.old.current) masks.now }
+    requires set { count_of sets.old.asked ≡ length kernels.now }
+    requires rests { FitRests (length kernels.now) sets.old.rests }
+    requires proper { IsProper b.old.current }
+    ensures stack { b.new.stack ≡ b.old.stack }
+    ensures rests { FitRests (length kernels.now) sets.new.rests }
+    ensures stacks { KeepStacks sets.old.rests sets.new.rests }
+    ensures run { KernelRuns kernels.now place b.old.current sets.old.asked sets.old.rests progress b.new.current sets.new.asked sets.new.rests result }
+{
+    match masks.shape(place) {
+        Shape::Greatest { m, x, y } => {
+            let shape = Shape::Greatest {
+                m: *m,
+                x: *x,
+                y: *y,
+            };
+            run_seen(kernels, masks, place, &shape, b, sets, progress)
+        }
+        _ => run_unseen(kernels, masks, place, b, sets, progress),
+    }
+}
+
+/// The same of a difference, which may have two tells where its literal is sure.
+#[inline(never)]
+fn run_held(
+    kernels: &[Kernel],
+    masks: &Masks,
+    place: usize,
+    b: &mut TrailedBox,
+    sets: &mut AskedSets,
+    progress: Progress,
+) -> Progress
+    requires place { place < length kernels.now }
+    requires kernels { All (IsKernel (length b.old.current)) kernels.now }
+    requires masks { AreMasksOf kernels.now (length b.old.current) masks.now }
+    requires set { count_of sets.old.asked ≡ length kernels.now }
+    requires rests { FitRests (length kernels.now) sets.old.rests }
+    requires proper { IsProper b.old.current }
+    ensures stack { b.new.stack ≡ b.old.stack }
+    ensures rests { FitRests (length kernels.now) sets.new.rests }
+    ensures stacks { KeepStacks sets.old.rests sets.new.rests }
+    ensures run { KernelRuns kernels.now place b.old.current sets.old.asked sets.old.rests progress b.new.current sets.new.asked sets.new.rests result }
+{
+    let shape = masks.shape(place);
+    run_seen(kernels, masks, place, shape, b, sets, progress)
+}
+
+/// The same of a kernel with this shape, which may say more than one tell.
+#[inline(always)]
+fn run_seen(
+    kernels: &[Kernel],
+    masks: &Masks,
+    place: usize,
+    shape: &Shape,
+    b: &mut TrailedBox,
+    sets: &mut AskedSets,
+    progress: Progress,
+) -> Progress
+    requires place { place < length kernels.now }
+    requires kernels { All (IsKernel (length b.old.current)) kernels.now }
+    requires masks { AreMasksOf kernels.now (length b.old.current) masks.now }
+    requires set { count_of sets.old.asked ≡ length kernels.now }
+    requires rests { FitRests (length kernels.now) sets.old.rests }
+    requires proper { IsProper b.old.current }
+    requires shape { (k : Kernel) → IsShapeOf (slice_index_or kernels.now place k) shape.now }
+    ensures stack { b.new.stack ≡ b.old.stack }
+    ensures rests { FitRests (length kernels.now) sets.new.rests }
+    ensures stacks { KeepStacks sets.old.rests sets.new.rests }
+    ensures run { KernelRuns kernels.now place b.old.current sets.old.asked sets.old.rests progress b.new.current sets.new.asked sets.new.rests result }
+{
     // its contract says that the bounds are in range
     let _length = b.len();
     let kernel = &kernels[place];
-    match seen_visit(kernel, masks.shape(place), b.current()) {
+    match seen_visit(kernel, shape, b.current()) {
         Seen::One(tell) => {
             let is_last = false;
             let sole = Sole { tell, is_last };
@@ -303,7 +432,7 @@ fn run_failing(
             let sole = Sole { tell, is_last };
             run_one(kernels, masks, place, sole, b, sets, progress)
         }
-        None => run_seen(kernels, masks, place, b, sets, progress),
+        None => run_held(kernels, masks, place, b, sets, progress),
     }
 }
 

@@ -21,4 +21,8 @@ mod products;
 #[cfg(test)]
 mod quotients;
 #[cfg(test)]
+mod repeats;
+#[cfg(test)]
 mod said;
+#[cfg(test)]
+mod said_twice;

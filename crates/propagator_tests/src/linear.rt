@@ -34,7 +34,7 @@ pub(crate) type Sum = (Relation, bool, &'static [i64], i64);
 
 /// Whether these are numbers of a model.
 #[tactic(auto, unfolding(interval::specs::Limits::largest_number))]
-fn are_numbers(numbers: &[i64]) -> bool
+pub(crate) fn are_numbers(numbers: &[i64]) -> bool
     ensures { OnTrue result ((i : ℕ) → i < length numbers.now → IsNumber (slice_index_or numbers.now i (pos 0))) }
 {
     numbers.iter().all(|z| -LARGEST <= *z && *z <= LARGEST)
@@ -90,7 +90,7 @@ fn terms<'a>(rt: &impl Abort, coeffs: &'a [i64]) -> (&'a [i64], &'a [u32])
 }
 
 /// These items in one piece.
-fn whole<T: Copy + Drop>(alloc: Global, items: &[T]) -> Result<SharedList<T>, AllocError>
+pub(crate) fn whole<T: Copy + Drop>(alloc: Global, items: &[T]) -> Result<SharedList<T>, AllocError>
     ensures { IfOk result (λ list. list ≡ items.now) }
 {
     SharedList::from_vec(Vec::from_slice(alloc, items)?)

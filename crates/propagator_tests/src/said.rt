@@ -9,7 +9,7 @@ use crate::linear::Relation::{AtMost, Equal};
 use crate::linear::{Sum, WAYS, linear};
 use crate::lists::{clause, clause_of_three, greatest};
 use guarded_tell::Side::{High, Low};
-use guarded_tell::{Kernel, Seen, failing_tell, seen_visit, shape_of, sole_tell};
+use guarded_tell::{Kernel, Rest, Seen, failing_tell, seen_visit, shape_of, sole_tell};
 use interval::{BoxOf, NoMemory};
 use std::alloc::Global;
 use std::process::Abort;
@@ -17,11 +17,13 @@ use std::test::Fail;
 
 /// What a kernel's shape says of a visit.
 #[derive(Clone, Copy, PartialEq, Eq, Debug)]
-enum Way {
+pub(crate) enum Way {
     /// Nothing: the tells are gathered.
     Nothing,
     /// It narrows nothing.
     Quiet,
+    /// It narrows nothing, and rests for good.
+    Rests,
     /// Its one tell.
     One,
     /// Its one tell, after which it rests for good.
@@ -32,13 +34,13 @@ enum Way {
     Fails,
 }
 
-use Way::{Fails, Last, Nothing, One, Quiet, Two};
+use Way::{Fails, Last, Nothing, One, Quiet, Rests, Two};
 
 /// Bounds of the variables, what is said there, and the tells that are said.
 type Row = (Pairs, Way, &'static [Told]);
 
 /// Whether the kernel's shape says this of a visit on the box, asked in the order of propagation.
-fn is_said(kernel: &Kernel, b: &BoxOf, way: Way, tells: &[Told]) -> bool
+pub(crate) fn is_said(kernel: &Kernel, b: &BoxOf, way: Way, tells: &[Told]) -> bool
     requires kernel { IsKernel 4 kernel.now }
     requires four { length b.now ≡ 4 }
     requires proper { IsProper b.now }
@@ -57,7 +59,7 @@ fn is_said(kernel: &Kernel, b: &BoxOf, way: Way, tells: &[Told]) -> bool
 /// Whether this is seen.
 fn is_seen(seen: Seen, way: Way, tells: &[Told]) -> bool {
     match seen {
-        Seen::Quiet(_) => way == Quiet,
+        Seen::Quiet(rest) => way == Quiet || (way == Rests && rest == Rest::ForGood),
         Seen::One(t) => way == One && Some(tells) == Some(&[row(t)]),
         Seen::Two(t, u) => way == Two && Some(tells) == Some(&[row(t), row(u)]),
         Seen::Unseen => way == Nothing,
@@ -116,7 +118,7 @@ static SAME: [Row; 10] = [
 ];
 
 /// Variable 0 says whether the sum of variables 1 and 2 less variable 3 is 0.
-static THREE: [Row; 4] = [
+static THREE: [Row; 5] = [
     ([(1, 1), (0, 2), (0, 2), (0, 9)], One, &[(3, High, 4)]),
     (
         [(1, 1), (0, 9), (0, 2), (4, 4)],
@@ -124,6 +126,7 @@ static THREE: [Row; 4] = [
         &[(1, High, 4), (1, Low, 2)],
     ),
     ([(1, 1), (0, 2), (0, 2), (0, 4)], Quiet, &[]),
+    ([(1, 1), (1, 1), (2, 2), (3, 3)], Rests, &[]),
     ([(0, 1), (0, 2), (0, 2), (0, 4)], Nothing, &[]),
 ];
 

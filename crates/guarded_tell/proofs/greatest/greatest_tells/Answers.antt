@@ -18,4 +18,4 @@ returns c =
     let second = read_wide c.high-4.result (search rules) ∙ c.high-4.ensures.value in
     few_of_two c.args.b.now c.args.m c.args.x c.args.y _ _ _ _ c.with_sole_reaching.result (c.low_tell.ensures ∙ (λ i. low_tell c.args.m (low i))) (c.high_tell.ensures ∙ (λ i. high_tell c.args.m (high i)))
     (c.high_tell-2.ensures ∙ (λ i. high_tell c.args.x (first i))) (c.high_tell-3.ensures ∙ (λ i. high_tell c.args.y (second i)))
-    (c.with_sole_reaching.ensures _ (c.with_tell-few-4.ensures _ (c.with_tell-few-3.ensures _ (c.with_tell-few-2.ensures _ (c.with_tell-few.ensures [] refl)))))
+    (c.with_sole_reaching.ensures _ (c.with_tell-seen-4.ensures _ (c.with_tell-seen-3.ensures _ (c.with_tell-seen-2.ensures _ (c.with_tell-seen.ensures [] (refl, refl))))))

@@ -1,5 +1,6 @@
 -- What is seen of the greater of two is seen of its kernel.
 use Rattle.std.proofs.Common.{arith}
+use Rattle.guarded_tell.proofs.FewLaws.{few_seen}
 use Rattle.guarded_tell.proofs.GreatestLaws.{greatest_places, kernel_kept, kernel_few}
 use Rattle.guarded_tell.proofs.greatest.seen_greatest.Goals as goal
 
@@ -29,4 +30,4 @@ returns-then-is_greatest_kept c = record {
 
 pub returns-else-is_greatest_kept : goal.returns-else-is_greatest_kept
 returns-else-is_greatest_kept c =
-    c.seen.ensures c.args.k.now c.args.b.now (kernel_few c.args.k.now c.args.b.now c.args.m c.args.x c.args.y c.greatest_tells.result c.requires.shape c.greatest_tells.ensures)
+    few_seen c.args.k.now c.args.b.now _ (kernel_few c.args.k.now c.args.b.now c.args.m c.args.x c.args.y c.greatest_tells.result c.requires.shape c.greatest_tells.ensures)

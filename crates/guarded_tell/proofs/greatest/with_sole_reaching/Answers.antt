@@ -13,7 +13,7 @@ returns-then-low-high-2 c ts few =
     let second = read c.high-then-low-high.result (search rules) ∙ c.high-then-low-high.ensures.value in
     let reaches = c.if-low-high.true in
     let also = c.if-low-high-2.true in
-    few_without c.args.b.now c.args.m c.args.x c.args.y ts c.args.few (both_reach c.args.b.now c.args.m c.args.x c.args.y (omega (arith, ints)) (omega (arith, ints))) few
+    few_without c.args.b.now c.args.m c.args.x c.args.y ts c.args.seen (both_reach c.args.b.now c.args.m c.args.x c.args.y (omega (arith, ints)) (omega (arith, ints))) few
 
 pub returns-else-low-high-2 : goal.returns-else-low-high-2
 returns-else-low-high-2 c ts few =
@@ -44,4 +44,4 @@ returns-else-low-high-3 c ts few =
     let second = read c.high-else-low-high.result (search rules) ∙ c.high-else-low-high.ensures.value in
     let not = c.if-low-high.false in
     let neither = c.if-low-high-3.false in
-    few_without c.args.b.now c.args.m c.args.x c.args.y ts c.args.few (neither_reaches c.args.b.now c.args.m c.args.x c.args.y (omega (arith, ints)) (omega (arith, ints))) few
+    few_without c.args.b.now c.args.m c.args.x c.args.y ts c.args.seen (neither_reaches c.args.b.now c.args.m c.args.x c.args.y (omega (arith, ints)) (omega (arith, ints))) few

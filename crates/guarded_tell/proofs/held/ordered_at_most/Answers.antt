@@ -13,6 +13,7 @@ use Rattle.guarded_tell.specs.Words.{low_tell, high_tell}
 use Rattle.guarded_tell.proofs.ShapeQuiet.{at_most_places}
 use Rattle.guarded_tell.proofs.DifferenceLaws.{at_most_number, coded_of, short_least}
 use Rattle.guarded_tell.proofs.ThreeLaws.{no_less}
+use Rattle.guarded_tell.proofs.FewLaws.{few_seen}
 use Rattle.guarded_tell.proofs.HeldLaws.{at_most_held}
 use Rattle.guarded_tell.proofs.held.ordered_at_most.Goals as goal
 
@@ -62,4 +63,4 @@ returns-then-rise-ge0 c =
     places.first_proper places.second_proper c.requires.order (no_less _ _ _ low rise) in
     let F : ℤ → List Tell = λ r. ordered_tells c.args.x_first (narrowing b (high_tell x (low_of b x +ℤ r) ∷ [])) (narrowing b (low_tell y (high_of b y -ℤ r) ∷ [])) in
     let read = subst (λ (r : ℤ). AreFew (F r) c.told_at_most.result) rise c.told_at_most.ensures in
-    c.seen.ensures k b (subst (λ (ts : List Tell). AreFew ts c.told_at_most.result) (sym told) read)
+    few_seen k b _ (subst (λ (ts : List Tell). AreFew ts c.told_at_most.result) (sym told) read)

@@ -14,6 +14,7 @@ use Rattle.guarded_tell.proofs.ShapeQuiet.{same_places}
 use Rattle.guarded_tell.proofs.ApartLaws.{limit_number}
 use Rattle.guarded_tell.proofs.DifferenceLaws.{coded_of, short_least, short_greatest}
 use Rattle.guarded_tell.proofs.ThreeLaws.{no_less}
+use Rattle.guarded_tell.proofs.FewLaws.{few_seen}
 use Rattle.guarded_tell.proofs.HeldLaws.{same_held}
 use Rattle.guarded_tell.proofs.held.ordered_same.Goals as goal
 
@@ -82,4 +83,4 @@ returns-then-fall-ge0 c =
     c.requires.order (no_less _ _ _ low rise) (no_less _ _ _ high fall) in
     let F : ℤ → ℤ → List Tell = λ r q. ordered_tells c.args.x_first (narrowing b (room_tells b (room_of r q) (pos 1, x))) (narrowing b (room_tells b (room_of r q) (negsuc 0, y))) in
     let read = subst (λ (q : ℤ). AreFew (F (c.args.limit -ℤ (p.first.least +ℤ p.second.least)) q) c.told_same.result) fall (subst (λ (r : ℤ). AreFew (F r (to_z w64 (of_z w64 c.left-fall.result))) c.told_same.result) rise c.told_same.ensures) in
-    subst (λ (ts : List Tell). AreFew ts c.told_same.result) (sym told) read
+    few_seen k b _ (subst (λ (ts : List Tell). AreFew ts c.told_same.result) (sym told) read)

@@ -15,13 +15,13 @@ returns-then-x_first c =
     let b = c.args.b.now in
     let X : ℤ → List Tell = λ r. narrowing b (high_tell c.args.x (low_of b c.args.x +ℤ r) ∷ []) in
     let Y : ℤ → List Tell = λ r. narrowing b (low_tell c.args.y (high_of b c.args.y -ℤ r) ∷ []) in
-    let read = subst (λ (r : ℤ). AreFew (X r ++ Y r) c.add_low.new.few) (to_z-of_z w64 c.args.rise c.ranges.rise) (c.add_low.ensures _ (c.add_high.ensures [] refl)) in
-    subst (λ (f : Bool). AreFew (ordered_tells f (X c.args.rise) (Y c.args.rise)) c.add_low.new.few) (sym c.if-x_first.true) read
+    let read = subst (λ (r : ℤ). AreFew (X r ++ Y r) c.add_low.new.seen) (to_z-of_z w64 c.args.rise c.ranges.rise) (c.add_low.ensures _ (c.add_high.ensures [] (refl, refl))) in
+    subst (λ (f : Bool). AreFew (ordered_tells f (X c.args.rise) (Y c.args.rise)) c.add_low.new.seen) (sym c.if-x_first.true) read
 
 pub returns-else-x_first : goal.returns-else-x_first
 returns-else-x_first c =
     let b = c.args.b.now in
     let X : ℤ → List Tell = λ r. narrowing b (high_tell c.args.x (low_of b c.args.x +ℤ r) ∷ []) in
     let Y : ℤ → List Tell = λ r. narrowing b (low_tell c.args.y (high_of b c.args.y -ℤ r) ∷ []) in
-    let read = subst (λ (r : ℤ). AreFew (Y r ++ X r) c.add_high-else-x_first.new.few) (to_z-of_z w64 c.args.rise c.ranges.rise) (c.add_high-else-x_first.ensures _ (c.add_low-else-x_first.ensures [] refl)) in
-    subst (λ (f : Bool). AreFew (ordered_tells f (X c.args.rise) (Y c.args.rise)) c.add_high-else-x_first.new.few) (sym c.if-x_first.false) read
+    let read = subst (λ (r : ℤ). AreFew (Y r ++ X r) c.add_high-else-x_first.new.seen) (to_z-of_z w64 c.args.rise c.ranges.rise) (c.add_high-else-x_first.ensures _ (c.add_low-else-x_first.ensures [] (refl, refl))) in
+    subst (λ (f : Bool). AreFew (ordered_tells f (X c.args.rise) (Y c.args.rise)) c.add_high-else-x_first.new.seen) (sym c.if-x_first.false) read

@@ -7,4 +7,4 @@ use Rattle.guarded_tell.proofs.product.few_products.Goals as goal
 pub returns : goal.returns
 returns c =
     few_of_product c.args.b.now c.args.x c.args.y c.args.z c.requires.natural _
-    (c.with_greatest_product.ensures (narrowing c.args.b.now (least_product_tells c.args.b.now c.args.x c.args.y c.args.z c.requires.natural)) (c.with_least_product-few.ensures [] refl))
+    (c.with_greatest_product.ensures (narrowing c.args.b.now (least_product_tells c.args.b.now c.args.x c.args.y c.args.z c.requires.natural)) (c.with_least_product-seen.ensures [] (refl, refl)))

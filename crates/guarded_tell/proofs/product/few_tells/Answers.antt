@@ -6,4 +6,4 @@ pub with_factor-requires-clause-natural : goal.with_factor-requires-clause-natur
 with_factor-requires-clause-natural c = swapped c.args.b.now c.args.x c.args.y c.args.z c.requires.natural
 
 pub returns : goal.returns
-returns c = few_of_all c.args.b.now c.args.x c.args.y c.args.z _ (c.with_factor.ensures _ (c.with_factor-few.ensures _ c.few_products-few.ensures))
+returns c = few_of_all c.args.b.now c.args.x c.args.y c.args.z _ (c.with_factor.ensures _ (c.with_factor-seen.ensures _ c.few_products-seen.ensures))

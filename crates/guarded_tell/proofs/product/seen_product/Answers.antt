@@ -1,4 +1,5 @@
 -- What is seen of a product is seen of its kernel.
+use Rattle.guarded_tell.proofs.FewLaws.{few_seen}
 use Rattle.guarded_tell.proofs.NaturalLaws.{product_places, all_kept, few_of_kernel}
 use Rattle.guarded_tell.proofs.product.seen_product.Goals as goal
 
@@ -40,4 +41,4 @@ returns-then-is_factor_kept-2 c = record {
 
 pub returns-else-is_product_kept : goal.returns-else-is_product_kept
 returns-else-is_product_kept c =
-    c.seen.ensures c.args.k.now c.args.b.now (few_of_kernel c.args.k.now c.args.b.now c.args.x c.args.y c.args.z c.few_tells.result c.requires.shape c.few_tells.ensures)
+    few_seen c.args.k.now c.args.b.now _ (few_of_kernel c.args.k.now c.args.b.now c.args.x c.args.y c.args.z c.few_tells.result c.requires.shape c.few_tells.ensures)

@@ -4,4 +4,4 @@ use Rattle.guarded_tell.proofs.product.with_factor.Goals as goal
 
 pub returns : goal.returns
 returns c ts few =
-    few_with_factor c.args.b.now c.args.x c.args.y c.args.z c.requires.natural ts _ (c.with_most.ensures _ (c.with_least-few.ensures ts few))
+    few_with_factor c.args.b.now c.args.x c.args.y c.args.z c.requires.natural ts _ (c.with_most.ensures _ (c.with_least-seen.ensures ts few))

@@ -44,4 +44,4 @@ returns-else-slack-gap c ts few =
     let low = c.low-low.ensures.value in let high = c.high-high.ensures.value in
     let g = c.gap.ensures in let h = c.if-slack-gap.false in let s = c.ranges.slack in
     let kept = high_kept c.law_clamp_order.ensures b v (low_of b v +ℤ c.args.slack) (subst (λ (z : ℤ). IsBound z) high q) (omega (arith, ints)) in
-    subst (λ (us : List Tell). AreFew us c.args.few.now) (sym (append-nil ts) ∙ (λ i. ts ++ sym kept i)) few
+    subst (λ (us : List Tell). AreFew us c.args.seen.now) (sym (append-nil ts) ∙ (λ i. ts ++ sym kept i)) few

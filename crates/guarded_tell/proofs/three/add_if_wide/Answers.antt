@@ -16,7 +16,7 @@ use Rattle.guarded_tell.proofs.three.add_if_wide.Goals as goal
 pub returns-then-rise-width : goal.returns-then-rise-width
 returns-then-rise-width c ts few =
     let b = c.args.b.now in
-    let Told : ℤ → ℤ → Type 0 = λ r q. AreFew (ts ++ narrowing b (room_tells b (room_of r q) (unit_of c.args.sign, c.args.var))) c.add_term_apart.new.few in
+    let Told : ℤ → ℤ → Type 0 = λ r q. AreFew (ts ++ narrowing b (room_tells b (room_of r q) (unit_of c.args.sign, c.args.var))) c.add_term_apart.new.seen in
     subst (λ (q : ℤ). Told c.args.rise q) (to_z-of_z w64 c.args.fall c.ranges.fall)
     (subst (λ (r : ℤ). Told r (to_z w64 (of_z w64 c.args.fall))) (to_z-of_z w64 c.args.rise c.ranges.rise) (c.add_term_apart.ensures ts few))
 
@@ -30,4 +30,4 @@ returns-else-fall-width c ts few =
     let r = c.ranges.rise in let f = c.ranges.fall in
     let kept = term_kept c.law_quotient_order.ensures c.args.b.now c.args.var c.requires.proper c.args.rise c.args.fall c.law_clamp_order.ensures
     (subst (λ (z : ℤ). IsBound z) low p) (subst (λ (z : ℤ). IsBound z) high q) c.args.sign (omega (arith, ints)) (omega (arith, ints)) in
-    subst (λ (us : List Tell). AreFew us c.args.few.now) (sym (append-nil ts) ∙ (λ i. ts ++ sym kept i)) few
+    subst (λ (us : List Tell). AreFew us c.args.seen.now) (sym (append-nil ts) ∙ (λ i. ts ++ sym kept i)) few

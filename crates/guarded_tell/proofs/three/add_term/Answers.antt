@@ -23,11 +23,11 @@ returns-in-Plus c ts few =
     let fall = to_z-of_z w64 c.args.fall c.ranges.fall in
     let high : List Tell = narrowing b (high_tell v (low_of b v +ℤ c.args.rise) ∷ []) in
     let low : List Tell = narrowing b (low_tell v (high_of b v -ℤ c.args.fall) ∷ []) in
-    let one = subst (λ (z : ℤ). AreFew (ts ++ narrowing b (high_tell v (low_of b v +ℤ z) ∷ [])) c.add_high.new.few) rise (c.add_high.ensures ts few) in
-    let both = subst (λ (z : ℤ). AreFew ((ts ++ high) ++ narrowing b (low_tell v (high_of b v -ℤ z) ∷ [])) c.add_low.new.few) fall (c.add_low.ensures (ts ++ high) one) in
-    let all = subst (λ (us : List Tell). AreFew us c.add_low.new.few)
+    let one = subst (λ (z : ℤ). AreFew (ts ++ narrowing b (high_tell v (low_of b v +ℤ z) ∷ [])) c.add_high.new.seen) rise (c.add_high.ensures ts few) in
+    let both = subst (λ (z : ℤ). AreFew ((ts ++ high) ++ narrowing b (low_tell v (high_of b v -ℤ z) ∷ [])) c.add_low.new.seen) fall (c.add_low.ensures (ts ++ high) one) in
+    let all = subst (λ (us : List Tell). AreFew us c.add_low.new.seen)
     (append_assoc ts high low ∙ (λ i. ts ++ sym (plus_told c.law_quotient_order.ensures b v c.requires.proper c.args.rise c.args.fall) i)) both in
-    subst (λ (s : Sign). AreFew (ts ++ narrowing b (room_tells b (room_of c.args.rise c.args.fall) (unit_of s, v))) c.add_low.new.few) (sym c.in-Plus.is) all
+    subst (λ (s : Sign). AreFew (ts ++ narrowing b (room_tells b (room_of c.args.rise c.args.fall) (unit_of s, v))) c.add_low.new.seen) (sym c.in-Plus.is) all
 
 pub returns-in-Minus : goal.returns-in-Minus
 returns-in-Minus c ts few =
@@ -37,8 +37,8 @@ returns-in-Minus c ts few =
     let fall = to_z-of_z w64 c.args.fall c.ranges.fall in
     let low : List Tell = narrowing b (low_tell v (high_of b v -ℤ c.args.rise) ∷ []) in
     let high : List Tell = narrowing b (high_tell v (low_of b v +ℤ c.args.fall) ∷ []) in
-    let one = subst (λ (z : ℤ). AreFew (ts ++ narrowing b (low_tell v (high_of b v -ℤ z) ∷ [])) c.add_low-in-Minus.new.few) rise (c.add_low-in-Minus.ensures ts few) in
-    let both = subst (λ (z : ℤ). AreFew ((ts ++ low) ++ narrowing b (high_tell v (low_of b v +ℤ z) ∷ [])) c.add_high-in-Minus.new.few) fall (c.add_high-in-Minus.ensures (ts ++ low) one) in
-    let all = subst (λ (us : List Tell). AreFew us c.add_high-in-Minus.new.few)
+    let one = subst (λ (z : ℤ). AreFew (ts ++ narrowing b (low_tell v (high_of b v -ℤ z) ∷ [])) c.add_low-in-Minus.new.seen) rise (c.add_low-in-Minus.ensures ts few) in
+    let both = subst (λ (z : ℤ). AreFew ((ts ++ low) ++ narrowing b (high_tell v (low_of b v +ℤ z) ∷ [])) c.add_high-in-Minus.new.seen) fall (c.add_high-in-Minus.ensures (ts ++ low) one) in
+    let all = subst (λ (us : List Tell). AreFew us c.add_high-in-Minus.new.seen)
     (append_assoc ts low high ∙ (λ i. ts ++ sym (minus_told c.law_quotient_order.ensures b v c.requires.proper c.args.rise c.args.fall) i)) both in
-    subst (λ (s : Sign). AreFew (ts ++ narrowing b (room_tells b (room_of c.args.rise c.args.fall) (unit_of s, v))) c.add_high-in-Minus.new.few) (sym c.in-Minus.is) all
+    subst (λ (s : Sign). AreFew (ts ++ narrowing b (room_tells b (room_of c.args.rise c.args.fall) (unit_of s, v))) c.add_high-in-Minus.new.seen) (sym c.in-Minus.is) all

@@ -13,6 +13,7 @@ use Rattle.small_sums.proofs.SlightLaws.{short_fits_sum}
 use Rattle.guarded_tell.specs.Few.{AreFew}
 use Rattle.guarded_tell.specs.Shapes.{units_of, places_of}
 use Rattle.guarded_tell.specs.Three.{room_of}
+use Rattle.guarded_tell.proofs.FewLaws.{few_seen}
 use Rattle.guarded_tell.proofs.ThreeLaws.{no_less, three_number, three_placed, three_quiet, three_settled, three_told}
 use Rattle.guarded_tell.proofs.three.seen_sure.Goals as goal
 
@@ -102,4 +103,4 @@ returns-then-fall-ge0 c =
     (no_less _ _ _ low rise) (no_less _ _ _ high fall) in
     let F : ℤ → ℤ → List Tell = λ r q. flat_map (λ (u : Term). narrowing b (room_tells b (room_of r q) u)) (zip (units_of c.args.terms) (places_of c.args.terms)) in
     let read = subst (λ (q : ℤ). AreFew (F (c.args.limit -ℤ s.least) q) c.told.result) fall (subst (λ (r : ℤ). AreFew (F r (to_z w64 (of_z w64 c.left-fall.result))) c.told.result) rise c.told.ensures) in
-    c.seen.ensures k b (subst (λ (ts : List Tell). AreFew ts c.told.result) (sym told) read)
+    few_seen k b _ (subst (λ (ts : List Tell). AreFew ts c.told.result) (sym told) read)

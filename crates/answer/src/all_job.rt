@@ -9,10 +9,10 @@ ghost use Rattle.answer.specs.Results.{IsAllResult};
 ghost use Rattle.answer.specs.Jobs.{numbers_of, Owns, AllFits, AllParts, AllStands};
 
 use crate::plan::{Own, Plan, subproblem};
-use crew::{Gate as CrewGate, Job, Work, Workers, run_numbers};
+use crew::{Job, Work, Workers, run_numbers};
+use gate::Gate;
 use interval::NoMemory;
 use list_of::ListOf;
-use rounds::Gate;
 use search::{AllEnd, Start, run_all_from};
 use std::alloc::Global;
 use std::thread::Threads;
@@ -76,7 +76,7 @@ fn run_number<R: Threads + Sync, L: Gate + Sync>(
 }
 
 /// Runs all numbers, each once.
-fn run_each<R: Threads + Sync, C: CrewGate + Sync, L: Gate + Sync>(
+fn run_each<R: Threads + Sync, C: Gate + Sync, L: Gate + Sync>(
     rt: &R,
     alloc: Global,
     crew: &mut Workers,
@@ -103,7 +103,7 @@ fn run_each<R: Threads + Sync, C: CrewGate + Sync, L: Gate + Sync>(
 }
 
 /// The ends of the searches of all numbers for all solutions.
-pub(crate) fn all_ends<R: Threads + Sync, C: CrewGate + Sync, L: Gate + Sync>(
+pub(crate) fn all_ends<R: Threads + Sync, C: Gate + Sync, L: Gate + Sync>(
     rt: &R,
     alloc: Global,
     crew: &mut Workers,

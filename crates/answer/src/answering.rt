@@ -23,13 +23,13 @@ use crate::plan::Plan;
 use crate::settled::is_settled;
 use branching::{law_every_list, law_one_list};
 use constraint_model::{FznModel, Goal};
-use crew::{Gate as CrewGate, Workers};
+use crew::Workers;
 use decompose::compile;
 use fzn_print::{Answer, Mark};
+use gate::Gate;
 use interval::{NoMemory, law_inside_order};
 use list_of::ListOf;
 use moved_set::Masks;
-use rounds::Gate;
 use search::{Run, law_records_solutions};
 use solution_lists::{law_in_declaration_order, law_solutions_listed};
 use std::alloc::Global;
@@ -49,7 +49,7 @@ fn mark_of(is_spent: bool, given: &ListOf<ListOf<i64>>, whole: Mark) -> Mark
 }
 
 /// The first solution.
-fn first_answer<R: Threads + Sync, C: CrewGate + Sync, L: Gate + Sync>(
+fn first_answer<R: Threads + Sync, C: Gate + Sync, L: Gate + Sync>(
     rt: &R,
     alloc: Global,
     run: &Run<'_, L>,
@@ -84,7 +84,7 @@ fn first_answer<R: Threads + Sync, C: CrewGate + Sync, L: Gate + Sync>(
 }
 
 /// All solutions.
-fn all_answer<R: Threads + Sync, C: CrewGate + Sync, L: Gate + Sync>(
+fn all_answer<R: Threads + Sync, C: Gate + Sync, L: Gate + Sync>(
     rt: &R,
     alloc: Global,
     run: &Run<'_, L>,
@@ -141,7 +141,7 @@ fn second_mark(is_spent: bool) -> Mark
 }
 
 /// The first solution that costs as much as the best one, where none costs less.
-fn optimum<R: Threads + Sync, C: CrewGate + Sync, L: Gate + Sync>(
+fn optimum<R: Threads + Sync, C: Gate + Sync, L: Gate + Sync>(
     rt: &R,
     alloc: Global,
     run: &Run<'_, L>,
@@ -205,7 +205,7 @@ fn settled_answer<L>(
 
 /// The first of the solutions that cost as much as the best one: the best one itself where that is known, else it is
 /// searched for.
-fn first_least<R: Threads + Sync, C: CrewGate + Sync, L: Gate + Sync>(
+fn first_least<R: Threads + Sync, C: Gate + Sync, L: Gate + Sync>(
     rt: &R,
     alloc: Global,
     run: &Run<'_, L>,
@@ -227,7 +227,7 @@ fn first_least<R: Threads + Sync, C: CrewGate + Sync, L: Gate + Sync>(
 }
 
 /// A solution of least cost.
-fn least_answer<R: Threads + Sync, C: CrewGate + Sync, L: Gate + Sync>(
+fn least_answer<R: Threads + Sync, C: Gate + Sync, L: Gate + Sync>(
     rt: &R,
     alloc: Global,
     run: &Run<'_, L>,
@@ -271,7 +271,7 @@ fn least_answer<R: Threads + Sync, C: CrewGate + Sync, L: Gate + Sync>(
 }
 
 /// The answer of a set up run.
-fn answer_of<R: Threads + Sync, C: CrewGate + Sync, L: Gate + Sync>(
+fn answer_of<R: Threads + Sync, C: Gate + Sync, L: Gate + Sync>(
     rt: &R,
     alloc: Global,
     run: &Run<'_, L>,
@@ -319,7 +319,7 @@ fn depth_for(options: &Options) -> u32
 
 /// The answer of a model: its first solution in the order of the search tree, all solutions, or the first of those of least
 /// cost; where a limit stopped a part of the search, what is known.
-pub fn answer<R: Threads + Sync, C: CrewGate + Sync, L: Gate + Sync>(
+pub fn answer<R: Threads + Sync, C: Gate + Sync, L: Gate + Sync>(
     rt: &R,
     alloc: Global,
     model: &FznModel,

@@ -12,10 +12,10 @@ ghost use Rattle.answer.specs.Jobs.{numbers_of, Owns, SaysWhichSolve, FirstFits,
 
 use crate::plan::{Own, Plan, subproblem};
 use best_bound::{Found, FoundSeat, Numbers};
-use crew::{Gate as CrewGate, Job, Work, Workers, run_numbers};
+use crew::{Job, Work, Workers, run_numbers};
+use gate::Gate;
 use interval::{NoMemory, law_inside_order};
 use list_of::ListOf;
-use rounds::Gate;
 use search::{FirstEnd, Numbered, Start, lesser_seen, run_first_from};
 use std::alloc::Global;
 use std::marker::{Brand, PhantomData};
@@ -146,7 +146,7 @@ fn run_number<R: Threads + Sync, L: Gate + Sync, M: OfParts>(
 }
 
 /// Runs all numbers, each once.
-fn run_all<R: Threads + Sync, C: CrewGate + Sync, L: Gate + Sync, M: OfParts + Sync>(
+fn run_all<R: Threads + Sync, C: Gate + Sync, L: Gate + Sync, M: OfParts + Sync>(
     rt: &R,
     alloc: Global,
     crew: &mut Workers,
@@ -182,7 +182,7 @@ fn run_all<R: Threads + Sync, C: CrewGate + Sync, L: Gate + Sync, M: OfParts + S
 }
 
 /// The same, where the test of numbers has a name.
-fn ends_of<R: Threads + Sync, C: CrewGate + Sync, L: Gate + Sync, M: OfParts + Sync>(
+fn ends_of<R: Threads + Sync, C: Gate + Sync, L: Gate + Sync, M: OfParts + Sync>(
     rt: &R,
     alloc: Global,
     crew: &mut Workers,
@@ -208,7 +208,7 @@ fn ends_of<R: Threads + Sync, C: CrewGate + Sync, L: Gate + Sync, M: OfParts + S
 }
 
 /// The ends of the searches of all numbers for the first solution.
-pub(crate) fn first_ends<R: Threads + Sync, C: CrewGate + Sync, L: Gate + Sync>(
+pub(crate) fn first_ends<R: Threads + Sync, C: Gate + Sync, L: Gate + Sync>(
     rt: &R,
     alloc: Global,
     crew: &mut Workers,

@@ -12,10 +12,10 @@ ghost use Rattle.answer.specs.Jobs.{numbers_of, Owns, SaysWhichCost, LeastFits, 
 use crate::plan::{Own, Plan, subproblem_below};
 use best_bound::{Best, BestSeat, Costs};
 use branching::law_every_list;
-use crew::{Gate as CrewGate, Job, Work, Workers, run_numbers};
+use crew::{Job, Work, Workers, run_numbers};
+use gate::Gate;
 use interval::{NoMemory, law_inside_order};
 use list_of::ListOf;
-use rounds::Gate;
 use search::{LeastEnd, Start, law_costs_fall, law_finds_least, law_more_posted, run_least_from};
 use solution_lists::law_solutions_listed;
 use std::alloc::Global;
@@ -131,7 +131,7 @@ fn run_number<R: Threads + Sync, L: Gate + Sync, M: OfModel>(
 }
 
 /// Runs all numbers, each once.
-fn run_all<R: Threads + Sync, C: CrewGate + Sync, L: Gate + Sync, M: OfModel + Sync>(
+fn run_all<R: Threads + Sync, C: Gate + Sync, L: Gate + Sync, M: OfModel + Sync>(
     rt: &R,
     alloc: Global,
     crew: &mut Workers,
@@ -167,7 +167,7 @@ fn run_all<R: Threads + Sync, C: CrewGate + Sync, L: Gate + Sync, M: OfModel + S
 }
 
 /// The same, where the test of costs has a name.
-fn ends_of<R: Threads + Sync, C: CrewGate + Sync, L: Gate + Sync, M: OfModel + Sync>(
+fn ends_of<R: Threads + Sync, C: Gate + Sync, L: Gate + Sync, M: OfModel + Sync>(
     rt: &R,
     alloc: Global,
     crew: &mut Workers,
@@ -201,7 +201,7 @@ fn ends_of<R: Threads + Sync, C: CrewGate + Sync, L: Gate + Sync, M: OfModel + S
 }
 
 /// The ends of the searches of all numbers for the least cost.
-pub(crate) fn least_ends<R: Threads + Sync, C: CrewGate + Sync, L: Gate + Sync>(
+pub(crate) fn least_ends<R: Threads + Sync, C: Gate + Sync, L: Gate + Sync>(
     rt: &R,
     alloc: Global,
     crew: &mut Workers,

@@ -20,7 +20,6 @@ mod work;
 mod worker;
 mod workers;
 
-pub use gate::{Gate, NoGate};
 pub use job::Job;
 pub use numbers::run_numbers;
 pub use work::Work;

@@ -3,7 +3,8 @@
 #![tactic(auto)]
 
 use fzn_io::{FileSource, MemSink, read_named};
-use solver_top::{Gates, NoGate, Status, solve_main};
+use gate::NoGate;
+use solver_top::{Gates, Status, solve_main};
 use std::thread::Threads;
 
 /// The most bytes of an answer that is compared.

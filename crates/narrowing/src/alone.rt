@@ -15,10 +15,10 @@ ghost use Rattle.narrowing.specs.Narrowers.{IsAloneFor, Knows, LetsRestWhereFixe
 use crate::narrowed::Narrowed;
 use crate::propagation::Propagation;
 use fixpoint_laws::Limited;
+use gate::Gate;
 use guarded_tell::Kernel;
 use interval::{BoxOf, NoMemory};
 use moved_fixpoint::{MovedSets, settle_proper};
-use rounds::Gate;
 use std::alloc::Global;
 use trailed_box::TrailedBox;
 

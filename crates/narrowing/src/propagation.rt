@@ -1,8 +1,8 @@
 //! What is propagated.
 
+use gate::Gate;
 use guarded_tell::Kernel;
 use moved_set::Masks;
-use rounds::Gate;
 
 /// What is propagated, and how far.
 #[derive(Clone, Copy)]

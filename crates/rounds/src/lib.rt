@@ -20,7 +20,6 @@ pub use cache::Cache;
 pub use cuts::even_cut;
 pub use engine::Engine;
 pub use fixpoint_laws::Limited;
-pub use gate::{Gate, NoGate};
 pub use once::{Propagated, propagate};
 pub use share::run_share;
 pub use work::Work;

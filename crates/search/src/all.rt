@@ -20,9 +20,9 @@ use crate::node::Visit;
 use crate::run::{Over, Run, Start, alone};
 use crate::searcher::Searcher;
 use branching::law_branches;
+use gate::Gate;
 use interval::{BoxOf, NoMemory, law_inside_order};
 use list_of::ListOf;
-use rounds::Gate;
 use std::alloc::Global;
 use std::thread::Threads;
 

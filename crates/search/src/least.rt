@@ -31,9 +31,9 @@ use crate::searcher::Searcher;
 use best_bound::{Best, BestSeat, Costs};
 use branching::law_branches;
 use constraint_model::{FznModel, Goal};
+use gate::Gate;
 use interval::{BoxOf, NoMemory, law_inside_order};
 use list_of::ListOf;
-use rounds::Gate;
 use std::alloc::{AllocError, Global};
 use std::thread::Threads;
 

@@ -2,7 +2,8 @@
 
 ghost use Rattle.std.specs.Prelude.{◌≡◌, ◌<◌, ◌≤◌, ◌+◌, ◌*◌, ◌/◌, min, length, slice_index, IfOk};
 
-use crew::{Gate, Job, NoGate, Work, Workers, run_numbers};
+use crew::{Job, Work, Workers, run_numbers};
+use gate::{Gate, NoGate};
 use interval::NoMemory;
 use list_of::ListOf;
 use meeting::Meet;

@@ -4,7 +4,8 @@ ghost use Rattle.command_line.specs.CommandLine.{config_of};
 ghost use Rattle.solver_top.specs.Outcome.{CanOpen};
 
 use fzn_io::{HonestSource, MemSink, Source};
-use solver_top::{Gate, Gates, NoGate, Status, solve_main};
+use gate::{Gate, NoGate};
+use solver_top::{Gates, Status, solve_main};
 use std::alloc::{AllocError, Global};
 use std::process::Abort;
 use std::test::Fail;

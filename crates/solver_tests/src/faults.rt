@@ -4,7 +4,8 @@ ghost use Rattle.std.specs.Prelude.{◌≡◌};
 
 use crate::calls::{BOUNDS, Ended, Outcome, SOUND, Stream, assert_ended, assert_streams};
 use fzn_io::{MemSink, MemSource, Named};
-use solver_top::{Gates, NoGate, Status, solve_main};
+use gate::NoGate;
+use solver_top::{Gates, Status, solve_main};
 use std::alloc::{AllocError, Global};
 use std::test::Fail;
 use std::thread::Threads;

@@ -2,8 +2,9 @@
 //! until all eight have begun.
 
 use crate::calls::{SOUND, assert_ended, run_gated};
+use gate::{Gate, NoGate};
 use meeting::Meet;
-use solver_top::{Gate, Gates, NoGate, Status};
+use solver_top::{Gates, Status};
 use std::sync::atomic::{AtomicBool, AtomicU64, Ordering};
 use std::test::Fail;
 use std::thread::yield_now;

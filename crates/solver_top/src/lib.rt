@@ -15,7 +15,6 @@ mod status;
 mod top;
 
 pub use answer::{Answer, Gates, Options, answer};
-pub use gate::{Gate, NoGate};
 pub use laws::{law_made_is_answered, law_one_answer};
 pub use made_model::made_text;
 pub use model_text::{TextError, law_one_text, line_of, read_model};

@@ -1,6 +1,7 @@
 //! The order in which one worker of a crew gets the numbers, while the other is held up.
 
-use crew::{Gate, Job, Work, Workers, run_numbers};
+use crew::{Job, Work, Workers, run_numbers};
+use gate::Gate;
 use interval::NoMemory;
 use list_of::ListOf;
 use std::alloc::Global;

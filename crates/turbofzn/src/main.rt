@@ -5,7 +5,8 @@
 #![tactic(auto)]
 
 use fzn_io::{FileSource, StdSink};
-use solver_top::{Gates, NoGate, Status, report, solve_main};
+use gate::NoGate;
+use solver_top::{Gates, Status, report, solve_main};
 use std::process::ExitCode;
 use std::thread::Threads;
 use std::{env, io};

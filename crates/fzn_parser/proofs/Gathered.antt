@@ -171,7 +171,7 @@ pub record HaveLexemes (text : List ℕ) (from at : ℕ) (lexemes : List Lexeme)
 pub lexemes_none : (text : List ℕ) (from : ℕ) (start : ℕ) (laws : TurnLaws text) → from ≤ length text → HaveLexemes text from from [] start
 lexemes_none text from start laws h = record { tokens = []; gathered = gathered_none text from laws h; same = refl; leads = tt }
 
-more_than_none : (n : ℕ) → (suc n == 0) ≡ false
+pub more_than_none : (n : ℕ) → (suc n == 0) ≡ false
 more_than_none n = grind (arith, nat_tests)
 
 leads_more : (start : ℕ) (t : Token) (ts : List Token) (none : Bool) → none ≡ (length ts == 0) → LeadsIn start ts → LeadsIn (cond none t.from start) (ts ++ t ∷ [])

@@ -17,4 +17,4 @@ pub mod WholeItems
 pub mod WholeNotes
 pub mod WholeValues
 pub mod Gathered
-pub mod SevenTokens
+pub mod PlainItems

@@ -129,7 +129,7 @@ print_aim (Aim.Maximize e) = Lexeme.Fixed Symbol.Maximize ∷ print_expr e
 abbrev pub print_named : Token → List AnnTree → List Lexeme
 print_named name notes = Lexeme.Fixed Symbol.Colon ∷ Lexeme.Kept Class.Name name ∷ print_notes notes
 
--- an item but its semicolon; a predicate item keeps its tokens as they stand, and `toks` writes it
+-- an item but its semicolon; a predicate item keeps its tokens as they are, and `toks` writes it
 abbrev pub print_what : WhatTree → List Lexeme
 print_what (predicate_item tokens) = []
 print_what (scalar_item shape name notes value) = print_shape shape ++ (print_named name notes ++ print_value value)

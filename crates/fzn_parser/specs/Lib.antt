@@ -3,6 +3,7 @@ pub mod Grammar
 pub mod Items
 pub mod Notes
 pub mod Parsing
+pub mod Plain
 pub mod Printer
 pub mod Reading
 pub mod Stream

@@ -77,7 +77,7 @@ arg_of_elem (Elem.Float t) = float_arg t
 arg_of_elem (Elem.Name t) = note_arg (bare t)
 arg_of_elem (Elem.Set s) = set_arg s
 
--- what stands behind an annotation's name
+-- an annotation by its name and what is read behind that: arguments in parentheses, or nothing
 unfoldable pub called_with : Read (List ArgTree) → Token → Read AnnTree
 called_with parens name ls = cond (begins Symbol.ParenOpen ls)
     (mapped (λ args. called name (args_of args)) (parens (rest ls)))

@@ -12,7 +12,7 @@ use Rattle.fzn_parser.specs.Parsing.{ItemTree, item_tree, BeginsAt, ReadsAsItem,
 abbrev pub GoesOn : List ℕ → List Token → Type 0
 GoesOn text tokens = All (λ t. is_at Symbol.Semicolon text t ≡ false) tokens
 
--- the last of the tokens, and none before it, is a semicolon, and it ends before the byte `to`
+-- the last of the tokens, and none before it, is a semicolon, and `to` is the first byte behind it
 pub record ClosesAt (text : List ℕ) (to : ℕ) (tokens : List Token) : Type 0 where
   pub front : List Token
   pub last : Token
@@ -21,7 +21,7 @@ pub record ClosesAt (text : List ℕ) (to : ℕ) (tokens : List Token) : Type 0 
   pub semicolon : is_at Symbol.Semicolon text last ≡ true
   pub place : to ≡ last.to
 
--- none of the tokens is a semicolon, and the text ends before the byte `to`
+-- none of the tokens is a semicolon, and the byte `to` is the text's end
 abbrev pub RunsOut : List ℕ → ℕ → List Token → Type 0
 RunsOut text to tokens = GoesOn text tokens × (to ≡ length text)
 
@@ -39,18 +39,20 @@ pub record IsItemTo (text : List ℕ) (from to : ℕ) (item : ItemTree) : Type 0
   pub lexed : LexesTo text from to tokens
   pub read : ReadsAsItem text tokens item
 
--- the first item behind the byte `from` and the place behind it, or no token is left
+-- the first item behind the byte `from`, and a place behind its tokens: between these and the place may be blanks and comments,
+-- but no token; or no token is left
 abbrev pub IsNextItem : List ℕ → ℕ → Option (Item × ℕ) → Type 0
 IsNextItem text from None = LexesTo text from (length text) []
 IsNextItem text from (Some p) = IsItemTo text from p.1 (item_tree p.0)
 
--- whatever tokens follow those from the byte `from` to the byte `to`, no item begins at their first one, at the byte `at`
+-- whatever tokens the text behind the byte `to` is cut into: those from the byte `from` to `to`, followed by these, have a fault
+-- at the byte `at`: after some items, maybe none, the stretch that begins there reads as no item
 pub record LacksItem (text : List ℕ) (from at to : ℕ) : Type 0 where
   pub tokens : List Token
   pub lexed : LexesTo text from to tokens
   pub fault : (more : List Token) → LexesTo text to (length text) more → FaultsAt text (tokens ++ more) at
 
--- behind the byte `from` are some tokens up to the byte `at`, and there no piece begins
+-- from the byte `from` to the byte `at` the text is cut into pieces, and at `at`, before the text's end, no piece begins
 pub record LacksToken (text : List ℕ) (from at : ℕ) : Type 0 where
   pub tokens : List Token
   pub lexed : LexesTo text from at tokens
@@ -75,8 +77,8 @@ pub record LacksNext (text : List ℕ) (from at to : ℕ) : Type 0 where
   pub first : BeginsAt at tokens
   pub refused : (item : ItemTree) → ReadsAsItem text tokens item → ⊥
 
--- an error tells of the first stretch behind the byte `from`: `NoToken` that no semicolon stands before its byte, `NoItem` that the
--- stretch from `at` to `to` is this one and reads as no item; memory may be refused at any time
+-- an error tells of the first stretch behind the byte `from`: `NoToken` that no semicolon comes before its byte, `NoItem` that
+-- the stretch from `at` to `to` is this one and reads as no item; memory may be refused at any time
 abbrev pub TellsOfNext : List ℕ → ℕ → ItemError → Type 0
 TellsOfNext text from (ItemError.NoToken at) = RunsOnTo text from at
 TellsOfNext text from (ItemError.NoItem at to) = LacksNext text from at to

@@ -185,7 +185,7 @@ impl<'a> Cursor<'a> {
         }
     }
 
-    /// Whether `symbol` stands here; it is then passed.
+    /// Whether `symbol` is next; it is then passed.
     #[tactic(auto, unfolding(crate::specs::Terminals::begins, crate::specs::Terminals::rest))]
     #[inline(always)]
     pub fn take(&mut self, symbol: Symbol) -> bool
@@ -201,7 +201,7 @@ impl<'a> Cursor<'a> {
         }
     }
 
-    /// The token that stands here, where it is of `class`; it is then passed.
+    /// The next token, where it is of `class`; it is then passed.
     #[tactic(auto, unfolding(crate::specs::Terminals::kept_at))]
     #[inline(always)]
     pub fn take_kept(&mut self, class: Class) -> Option<Token>
@@ -232,7 +232,7 @@ impl Cursor<'_> {
         }
     }
 
-    /// The token of `class` that stands here, or refuses.
+    /// The next token, where it is of `class`, or refuses.
     #[inline(always)]
     pub fn kept(&mut self, class: Class) -> Result<Token, Stop>
         ensures read { IfOk result (λ t. kept_at class self.old ≡ Some (t, self.new)) }

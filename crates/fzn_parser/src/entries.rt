@@ -13,7 +13,7 @@ pub(crate) trait Entry: Sized + Drop {
     // what is read as an entry
     ghost at: { Read Self };
 
-    /// The entry that stands here.
+    /// The entry that comes next.
     fn read(alloc: Global, cursor: &mut Cursor) -> Result<Self, Stop>
         ensures read { IfOk result (λ e. at cursor.old ≡ Some (e, cursor.new)) }
         ensures refused { result ≡ Err Stop.Refused → at cursor.old ≡ None };

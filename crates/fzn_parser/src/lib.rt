@@ -2,7 +2,7 @@
 //!
 //! `next_item` gives the next item behind a byte, or why there is none; `parse` takes a text whole and is used by laws and
 //! tests. An item is the one whose tokens, as the grammar writes them (`specs/Grammar.antt`, `specs/Printer.antt`), are the
-//! text's; every list of tokens has one list of items or one fault (`law_one_reading`). It stands on `fzn_lexer`. Names mean
+//! text's; every list of tokens has one list of items or one fault (`law_one_reading`). It builds on `fzn_lexer`. Names mean
 //! nothing yet: `fzn_model` resolves them.
 #![tactic(auto)]
 

@@ -97,7 +97,7 @@ fn read_args(
     Err(Stop::Refused)
 }
 
-/// The annotations that stand here, in which at most `depth` brackets are open at once.
+/// The annotations that come next, in which at most `depth` brackets are open at once.
 pub(crate) fn read_notes(alloc: Global, cursor: &mut Cursor, depth: usize) -> Result<Vec<Ann>, Stop>
     ensures read { IfOk result (λ v. notes_at depth cursor.old ≡ Some (map ann_tree v.items, cursor.new)) }
     ensures refused { result ≡ Err Stop.Refused → notes_at depth cursor.old ≡ None }

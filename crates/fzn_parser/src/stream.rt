@@ -1,6 +1,6 @@
 //! Reads a text item by item.
 
-ghost use Rattle.std.specs.Prelude.{◌≡◌, ◌≤◌, ◌++◌, ◌∷◌, [], length, map, cond, MatchResult, IfOk, OnOk, IfErr};
+ghost use Rattle.std.specs.Prelude.{◌≡◌, ◌≤◌, ◌++◌, ◌∷◌, [], Some, length, map, cond, MatchResult, IfOk, OnOk, IfErr};
 ghost use Rattle.fzn_lexer.specs.Lexing.{IsNext, LacksToken as LacksPieceAt};
 ghost use Rattle.fzn_parser.specs.declared.cursor.Symbol.{Symbol as Sign};
 ghost use Rattle.fzn_parser.specs.declared.cursor.Lexeme.{Lexeme as Sort};
@@ -9,7 +9,7 @@ ghost use Rattle.fzn_parser.specs.Stream.{IsStretch, IsNextItem, IsCause, TellsO
 ghost use Rattle.fzn_parser.specs.Gathering.{IsGathered};
 
 use crate::cursor::{Class, Lexeme, Stop, Symbol, begins, same_token};
-use crate::plain::{may_declare, plain_declaration};
+use crate::plain::{Form, form_behind, plain_constraint, plain_declaration};
 use crate::texts::{is_at, is_plain_name, lexeme_of, plain_mark};
 use crate::tree::Item;
 use crate::{read_item, read_other};
@@ -162,7 +162,11 @@ fn start_with(none: bool, start: usize, token: Token) -> usize
 }
 
 /// The lexemes of the first stretch of tokens behind the byte `from`.
-fn gather(text: &[u8], from: usize, lexemes: &mut Vec<Lexeme>) -> Result<Stretch, ItemError>
+pub(crate) fn gather(
+    text: &[u8],
+    from: usize,
+    lexemes: &mut Vec<Lexeme>,
+) -> Result<Stretch, ItemError>
     requires { from ≤ length text.now }
     ensures stretch { IfOk result (IsGathered text.now from lexemes.new.items) }
     ensures cause { IfErr result (IsCause text.now from) }
@@ -253,6 +257,55 @@ fn next_predicate(
     }
 }
 
+/// The first item behind the byte `from`, as `next_item` gives it, read by the list of its lexemes.
+#[inline(never)]
+fn next_listed(
+    alloc: Global,
+    text: &[u8],
+    from: usize,
+    lexemes: &mut Vec<Lexeme>,
+) -> Result<Option<(Item, usize)>, ItemError>
+    requires { from ≤ length text.now }
+    ensures item { IfOk result (IsNextItem text.now from) }
+    ensures cause { IfErr result (IsCause text.now from) }
+    ensures next { IfErr result (TellsOfNext text.now from) }
+{
+    law_tokens_in_turn();
+    let stretch = gather(text, from, lexemes)?;
+    if lexemes.is_empty() {
+        return Ok(None);
+    }
+    if begins(Symbol::Predicate, lexemes.as_slice()) {
+        return next_predicate(alloc, text, from);
+    }
+    match read_other(alloc, stretch.start, lexemes.as_slice()) {
+        Ok(item) => Ok(Some((item, stretch.to))),
+        Err(Stop::Refused) => Err(ItemError::NoItem {
+            at: stretch.start,
+            to: stretch.to,
+        }),
+        Err(Stop::NoMemory) => Err(ItemError::NoMemory),
+    }
+}
+
+/// The first item behind the byte `from`, where it is read as its tokens are found.
+#[inline(always)]
+fn next_in_form(
+    alloc: Global,
+    text: &[u8],
+    from: usize,
+    lexemes: &mut Vec<Lexeme>,
+) -> Result<(Item, usize), Stop>
+    requires { from ≤ length text.now }
+    ensures { IfOk result (λ p. IsNextItem text.now from (Some p)) }
+{
+    match form_behind(text, from) {
+        Form::Variable => plain_declaration(alloc, text, from, lexemes),
+        Form::Constraint => plain_constraint(alloc, text, from, lexemes),
+        Form::Other => Err(Stop::Refused),
+    }
+}
+
 /// The first item behind the byte `from` of `text`, with the place behind its tokens, or none where no token is left.
 /// Errors: `NoItem` where the stretch of tokens, up to and with its `;`, reads as no item; `NoToken` where there is a
 /// byte before its end at which no token begins; `NoMemory`.
@@ -267,25 +320,9 @@ pub fn next_item(
     ensures cause { IfErr result (IsCause text.now from) }
     ensures next { IfErr result (TellsOfNext text.now from) }
 {
-    law_tokens_in_turn();
-    if may_declare(text, from)
-        && let Some(read) = plain_declaration(alloc, text, from)
-    {
-        return Ok(Some(read));
-    }
-    let stretch = gather(text, from, &mut room.lexemes)?;
-    if room.lexemes.is_empty() {
-        return Ok(None);
-    }
-    if begins(Symbol::Predicate, room.lexemes.as_slice()) {
-        return next_predicate(alloc, text, from);
-    }
-    match read_other(alloc, stretch.start, room.lexemes.as_slice()) {
-        Ok(item) => Ok(Some((item, stretch.to))),
-        Err(Stop::Refused) => Err(ItemError::NoItem {
-            at: stretch.start,
-            to: stretch.to,
-        }),
+    match next_in_form(alloc, text, from, &mut room.lexemes) {
+        Ok(read) => Ok(Some(read)),
+        Err(Stop::Refused) => next_listed(alloc, text, from, &mut room.lexemes),
         Err(Stop::NoMemory) => Err(ItemError::NoMemory),
     }
 }

@@ -138,8 +138,9 @@ fn any_keyword(s: &[u8]) -> Option<Symbol>
     }
 }
 
+/// The keyword that is spelled so.
 #[inline(always)]
-fn keyword(s: &[u8]) -> Option<Symbol>
+pub(crate) fn keyword(s: &[u8]) -> Option<Symbol>
     ensures { result ≡ keyword s.now }
 {
     match s {

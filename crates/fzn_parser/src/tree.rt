@@ -16,7 +16,7 @@ pub enum SetLit {
     Braces(ListOf<Token>),
 }
 
-/// A set literal that stands apart, seen by contracts as that literal. So an entry of an array, which is a number or a name
+/// A set literal in memory of its own, seen by contracts as that literal. So an entry of an array, which is a number or a name
 /// mostly, takes no room for a set.
 #[derive(Drop)]
 pub struct SetApart {
@@ -48,7 +48,7 @@ impl SetApart {
         &self.set
     }
 
-    /// The set as it is written, which stands apart no longer.
+    /// The set as it is written, no longer in memory of its own.
     pub(crate) fn into_literal(self) -> SetLit
         ensures { result ≡ self }
     {
@@ -75,11 +75,13 @@ pub enum Expr {
     Row(ListOf<Elem>),
 }
 
-/// An annotation: a name, and its arguments where it has brackets.
+/// An annotation: a name, and its arguments where it has parentheses.
 #[cycle(notes)]
 #[derive(Drop)]
 pub struct Ann {
+    /// Its name.
     pub name: Token,
+    /// Its arguments, where it has parentheses.
     pub args: Option<Vec<Arg>>,
 }
 
@@ -158,6 +160,8 @@ pub enum What {
 /// An item, with the place of its first byte.
 #[derive(Drop)]
 pub struct Item {
+    /// The place of its first byte in the text.
     pub from: usize,
+    /// What it says.
     pub what: What,
 }

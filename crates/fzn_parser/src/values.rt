@@ -34,7 +34,7 @@ pub(crate) fn read_set(alloc: Global, cursor: &mut Cursor) -> Result<SetLit, Sto
     Ok(SetLit::Range(low, high))
 }
 
-/// A set as an entry. It is called, so that what stands for the many other entries is written once where they are read.
+/// A set as an entry. It isn't inlined, so that the code for the many other entries is written once where they are read.
 #[inline(never)]
 fn set_entry(alloc: Global, set: SetLit) -> Result<Elem, Stop>
     ensures set { IfOk result (λ e. e ≡ Written.Set set) }

@@ -6,7 +6,7 @@ use Rattle.fzn_parser.specs.Terminals.{begins}
 use Rattle.fzn_parser.specs.Parsing.{item_tree, placed_at, max_depth}
 use Rattle.fzn_parser.specs.Items.{whole_at}
 use Rattle.fzn_parser.proofs.Gathered.{TurnLaws, gathered_item, gathered_lacks, gathered_lacks_next}
-use Rattle.fzn_parser.proofs.stream.next_item.Goals as goal
+use Rattle.fzn_parser.proofs.stream.next_listed.Goals as goal
 
 pub returns-in-Ok-clause-item : goal.returns-in-Ok-clause-item
 returns-in-Ok-clause-item c =

@@ -5,7 +5,7 @@ use Rattle.guarded_tell.specs.declared.resting.Rest.TheVariants.{Awake}
 use Rattle.guarded_tell.specs.declared.seen.Seen.{Seen}
 use Rattle.guarded_tell.specs.declared.seen.Seen.TheVariants.{Quiet, One, Two, Unseen}
 
--- these are all tells of the list, in order, or it has more than two
+-- these are all tells of the list, in order, and where there are none the kernel stays awake; unseen: there are more than two
 abbrev pub AreFew : List Tell → Seen → Type 0
 AreFew ts (Quiet r) = (ts ≡ []) × (r ≡ Awake)
 AreFew ts (One t) = ts ≡ t ∷ []

@@ -20,8 +20,8 @@ IsNoneOrOne Counts = (m n : ℕ) → Counts m → Counts n → m ≡ n
 abbrev pub IsSearched : Kernel → Bounds → Type 0
 IsSearched k b = (lits : List Lit) → k ≡ Clause lits → IsNoneOrOne (IsLeftAt b lits)
 
--- among the places that were seen it finds that none counts, the one that does, or two of them; or one twice that is enough
--- alone, which is passed over nowhere
+-- what is found: no place seen counts or is enough; one seen place counts, no other does, and none is enough; or two different
+-- places count, or one twice is enough by itself
 unfoldable pub AreFound : (ℕ → Type 0) → (ℕ → Type 0) → (ℕ → Type 0) → Left → Type 0
 AreFound Counts IsEnough IsSeen None = (n : ℕ) → IsSeen n → (Counts n ⊎ IsEnough n) → ⊥
 AreFound Counts IsEnough IsSeen (One p) =

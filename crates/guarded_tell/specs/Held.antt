@@ -17,12 +17,13 @@ abbrev pub ordered_vars : Bool → ℕ → ℕ → List ℕ
 ordered_vars true x y = x ∷ y ∷ []
 ordered_vars false x y = y ∷ x ∷ []
 
--- the tells of x and those of y, in that order
+-- the tells of x and those of y, in the order of the terms
 abbrev pub ordered_tells : Bool → List Tell → List Tell → List Tell
 ordered_tells true ts us = ts ++ us
 ordered_tells false ts us = us ++ ts
 
--- of the tells of x and of the opposite of y, which have this room, this one alone narrows the box, in whichever order they stand
+-- of the tells of x and of the opposite of y, which have this room, exactly this one narrows the box, whichever term is first;
+-- it isn't said to be the kernel's last
 pub record IsSoleOfTwo (b : Bounds) (x y : ℕ) (room : Room) (s : Sole) : Type 0 where
   pub one : (f : Bool) → ordered_tells f (narrowing b (room_tells b room (pos 1, x))) (narrowing b (room_tells b room (negsuc 0, y))) ≡ s.tell ∷ []
   pub last : s.is_last ≡ false

@@ -8,7 +8,7 @@ abbrev pub IsOpenAt : Bounds → List ℤ → List ℕ → ℕ → Type 0
 IsOpenAt b coeffs vars n =
     (n < length coeffs) × (slice_index_or coeffs n (pos 0) ≢ pos 0) × (low_of b (slice_index vars n) <ℤ high_of b (slice_index vars n))
 
--- two of them, the lower place first
+-- two places of terms whose least value is below their greatest, the lower place first
 pub record AreTwoOpen (b : Bounds) (coeffs : List ℤ) (vars : List ℕ) : Type 0 where
   pub first : ℕ
   pub second : ℕ

@@ -16,15 +16,15 @@ use Rattle.guarded_tell.specs.Kernels.{vars_of, tells, IsClosedUnder}
 abbrev pub IsFixedAt : Bounds → ℕ → Type 0
 IsFixedAt b v = low_of b v ≡ high_of b v
 
--- of these variables, those that are fixed in the inner box were fixed in the outer one
+-- of these variables, those that are fixed in the inner box are fixed in the outer one too
 abbrev pub FixesNoOther : List ℕ → Bounds → Bounds → Type 0
 FixesNoOther vars outer inner = All (λ v. IsFixedAt inner v → IsFixedAt outer v) vars
 
--- the kernel narrows no box inside this one
+-- the kernel narrows no box inside this one that is proper in the kernel's variables
 abbrev pub IsEntailed : Kernel → Bounds → Type 0
 IsEntailed k b = (c : Bounds) → IsInside c b → IsProperIn (vars_of k) c → IsClosedUnder k c
 
--- nor, as long as no other of its variables is fixed, a box inside this one
+-- it narrows no such box in which only those of its variables are fixed that are fixed in this one
 abbrev pub IsQuietUntilFixed : Kernel → Bounds → Type 0
 IsQuietUntilFixed k b = (c : Bounds) → IsInside c b → IsProperIn (vars_of k) c → FixesNoOther (vars_of k) b c → IsClosedUnder k c
 
@@ -41,7 +41,8 @@ pub record IsQuietFor (k : Kernel) (b : Bounds) (r : Rest) : Type 0 where
 
 -- ---- what is seen of the sum of two terms
 
--- whatever their numbers become, the literal stays as it is, and so does whether the sum is at most the limit
+-- the literal is sure and the greatest sum at most the limit, or it is out and the least sum above the limit: so it stays,
+-- whatever the terms' numbers become
 abbrev pub IsAtMostSettled : Bounds → Lit → ℤ → Pair → Type 0
 IsAtMostSettled b l limit p =
     ((is_sure l b ≡ true) × ((p.first.greatest +ℤ p.second.greatest) ≤ℤ limit))

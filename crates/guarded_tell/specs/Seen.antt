@@ -21,23 +21,24 @@ SideLeavesNone b High v z = z <ℤ low_of b v
 abbrev pub LeavesNone : Bounds → Tell → Type 0
 LeavesNone b t = SideLeavesNone b t.side t.var t.bound
 
--- of the kernel's tells that narrow the box this is the first, and it leaves its variable no number
+-- this is the first of the kernel's tells that narrow the box, and it leaves its variable no number
 pub record IsFailedBy (k : Kernel) (b : Bounds) (t : Tell) : Type 0 where
   pub others : List Tell
   pub first : narrowing_tells k b ≡ t ∷ others
   pub none : LeavesNone b t
 
--- no box inside this one that keeps the tell is narrowed by the kernel
+-- the kernel narrows no box inside this one that keeps the tell and is proper in the kernel's variables
 abbrev pub IsEntailedBy : Tell → Kernel → Bounds → Type 0
 IsEntailedBy t k b = (c : Bounds) → IsInside c b → IsProperIn (vars_of k) c → Keeps c t → IsClosedUnder k c
 
--- one tell of the kernel narrows the box, and where it is the last the kernel may rest for good once that is joined
+-- this is the one tell of the kernel that narrows the box; and where it is the last, the kernel narrows no box inside this one
+-- that keeps the tell and is proper in the kernel's variables
 pub record IsSole (k : Kernel) (b : Bounds) (s : Sole) : Type 0 where
   pub one : narrowing_tells k b ≡ s.tell ∷ []
   pub last : OnTrue s.is_last (IsEntailedBy s.tell k b)
 
--- the kernel narrows nothing of the box and rests so long, or one tell of it does, or two tells do, and no other; or nothing is
--- said
+-- the kernel narrows nothing of the box and rests so long; or exactly this tell of it narrows the box, or exactly these two, in
+-- this order, which may be on one variable; or nothing is said
 abbrev pub IsSeen : Kernel → Bounds → Seen → Type 0
 IsSeen k b (Quiet r) = IsQuietFor k b r
 IsSeen k b (One t) = narrowing_tells k b ≡ t ∷ []
@@ -50,7 +51,7 @@ MovesOff b v z t =
     ((low_of b v ≡ z) × (t ≡ record { var = v; side = Low; bound = low_of b v +ℤ pos 1 }))
     ⊎ ((high_of b v ≡ z) × (t ≡ record { var = v; side = High; bound = high_of b v -ℤ pos 1 }))
 
--- the tell leaves the number, which is a bound of variable v, out
+-- the bounds of variable v are in the range, the number is one of them, and the tell moves that bound by one
 pub record LeavesOut (b : Bounds) (v : ℕ) (z : ℤ) (t : Tell) : Type 0 where
   pub low_in_range : IsBound (low_of b v)
   pub high_in_range : IsBound (high_of b v)

@@ -7,7 +7,8 @@ use Rattle.guarded_tell.specs.declared.resting.Rest.{Rest}
 use Rattle.guarded_tell.specs.declared.resting.Rest.TheVariants.{Awake, UntilFixed, ForGood}
 use Rattle.guarded_tell.specs.Words.{is_sure, is_out}
 
--- whatever their numbers become, the literal stays as it is, and so does whether the sum is at most the limit
+-- the literal is sure and the greatest sum at most the limit, or it is out and the least sum above the limit: so it stays,
+-- whatever the terms' numbers become
 abbrev pub IsSumSettled : Bounds → Lit → ℤ → Sums → Type 0
 IsSumSettled b l limit s = ((is_sure l b ≡ true) × (s.greatest ≤ℤ limit)) ⊎ ((is_out l b ≡ true) × (limit <ℤ s.least))
 

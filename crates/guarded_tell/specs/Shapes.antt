@@ -1,4 +1,5 @@
--- Shapes: a kernel of two variables or three, of two literals or three, of a product, or of the greater of two, as one record, without its lists.
+-- Shapes: what a visit looks at first of a kernel, without its lists: a difference, an equation of three terms, a clause of two
+-- or three literals, a product, the greater of two, or that it is a sum with slight coefficients.
 use Rattle.std.specs.Prelude.{◌≡◌, ◌⊎◌, ℕ, ℤ, pos, negsuc, List, [], ◌∷◌, length, slice_index_or, ◌<◌}
 use Rattle.interval.specs.Boxes.{Bounds}
 use Rattle.guarded_tell.specs.Words.{Lit}
@@ -42,7 +43,7 @@ places_of t = t.x ∷ t.y ∷ t.z ∷ []
 abbrev pub IsThreeOf : Kernel → Terms → ℤ → Type 0
 IsThreeOf k t limit = (l : Lit) × (k ≡ Eq l (units_of t) (places_of t) limit)
 
--- the kernel is a sum with slight coefficients
+-- the kernel is an inequality or an equation of a sum with slight coefficients
 abbrev pub IsSlightSum : Kernel → Type 0
 IsSlightSum k = (l : Lit) × (coeffs : List ℤ) × (vars : List ℕ) × (limit : ℤ) × ((k ≡ Le l coeffs vars limit) ⊎ (k ≡ Eq l coeffs vars limit)) × AreSlight coeffs
 

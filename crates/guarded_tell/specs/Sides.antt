@@ -1,4 +1,4 @@
--- Which bounds of its variables a kernel reads, where it is one-sided: whether it narrows nothing hangs on these alone.
+-- Which bounds of its variables a kernel reads, where it is one-sided: whether it narrows nothing depends on these alone.
 use Rattle.std.specs.Prelude.{◌≡◌, ◌==◌, ◌&&◌, ◌<◌, ℕ, ℤ, pos, Bool, true, false, List, [], ◌∷◌, length, map, cond, slice_index, slice_index_or, int_lt}
 use Rattle.std.specs.List.{All}
 use Rattle.interval.specs.Boxes.{Bounds, low_of, high_of, IsInside}
@@ -44,12 +44,12 @@ SameSide High b c v = high_of b v ≡ high_of c v
 abbrev pub Reads : Kernel → ℕ → Side → Type 0
 Reads k place side = (place < length (sides_of k)) × (slice_index_or (sides_of k) place side ≡ side)
 
--- both boxes have the same of the bounds that the kernel reads
+-- both boxes agree in the bounds that the kernel reads
 abbrev pub AgreeInRead : Kernel → Bounds → Bounds → Type 0
 AgreeInRead k b c = (i : ℕ) (side : Side) → i < length (vars_of k) → Reads k i side → SameSide side b c (slice_index (vars_of k) i)
 
--- a box inside this one that keeps what the kernel tells a wider one is narrowed by nothing of it, where both have the same of
--- the bounds that it reads
+-- where two boxes agree in the bounds that the kernel reads, and the inner one, which is inside this box, keeps what the kernel
+-- tells the outer one, the kernel doesn't narrow the inner one
 abbrev pub IsOneSided : Kernel → Bounds → Type 0
 IsOneSided k b = (outer inner : Bounds) → IsInside inner b → IsInside inner outer → IsProperIn (vars_of k) inner →
     AgreeInRead k outer inner → All (Keeps inner) (tells k outer) → IsClosedUnder k inner

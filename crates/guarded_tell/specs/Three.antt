@@ -9,7 +9,7 @@ use Rattle.guarded_tell.specs.declared.shape.Terms.{Terms}
 use Rattle.guarded_tell.specs.declared.three.Spans.{Spans}
 use Rattle.guarded_tell.specs.Shapes.{unit_of}
 
--- the variables of the terms stand in the box, which is proper in them
+-- the terms' variables are variables of the box, which is proper in them
 pub record ArePlaced (b : Bounds) (t : Terms) : Type 0 where
   pub x : t.x < length b
   pub y : t.y < length b

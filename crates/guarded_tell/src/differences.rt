@@ -21,8 +21,8 @@ use interval::{BoxOf, law_clamp_order};
 use short_tells::{is_same, tell_where};
 use tells::{high_tell, low_tell, stands_false, tell_true};
 
-/// Gives the tells of `x - y` not being the limit that narrow the box to `h`, and answers yes, where that must be so and one
-/// of both is fixed. Else it gives none, and answers no.
+/// Where the literal of `x - y = limit` is out and exactly one of the two variables is fixed, gives the tells that narrow the box
+/// to `h` and answers yes. Else it gives none and answers no.
 pub fn is_apart_given<H: Hear>(k: &Kernel, shape: &Shape, b: &BoxOf, h: &mut H) -> bool
     requires kernel { IsKernel (length b.now) k.now }
     requires shape { IsShapeOf k.now shape.now }

@@ -10,7 +10,7 @@ use crate::{Side, Tell};
 use interval::BoxOf;
 
 impl Seen {
-    /// The same with one more tell behind those that it has.
+    /// The same with a tell appended to those that it has; `Unseen` where there are more than two then.
     #[inline(always)]
     pub(crate) fn with(self, t: Tell) -> Seen
         ensures { (ts : List Tell) → AreFew ts self → AreFew (ts ++ t ∷ []) result }
@@ -22,7 +22,7 @@ impl Seen {
         }
     }
 
-    /// Puts one more tell behind those that it has.
+    /// Appends a tell to those that it has; it is `Unseen` where there are more than two then.
     #[inline(always)]
     pub(crate) fn add(&mut self, t: Tell)
         ensures { (ts : List Tell) → AreFew ts self.old → AreFew (ts ++ t ∷ []) self.new }
@@ -31,7 +31,7 @@ impl Seen {
     }
 }
 
-/// The same with one more tell behind those that it has, where that narrows the box.
+/// The same with a tell appended to those that it has, where that narrows the box.
 #[inline(always)]
 pub(crate) fn with_tell(seen: Seen, t: Tell, b: &BoxOf) -> Seen
     requires { t.var < length b.now }

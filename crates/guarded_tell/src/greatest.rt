@@ -25,7 +25,7 @@ use crate::three::larger;
 use interval::{BoxOf, law_clamp_order};
 use tells::{high_tell, low_tell};
 
-/// What the shape of the greater of two variables says of a visit.
+/// What the shape of the greater of two variables says of a visit. It says nothing where more than two tells narrow the box.
 #[inline(always)]
 pub(crate) fn seen_greatest(k: &Kernel, m: u32, x: u32, y: u32, b: &BoxOf) -> Seen
     requires kernel { IsKernel (length b.now) k.now }
@@ -52,7 +52,7 @@ fn is_greatest_kept(m: u32, x: u32, y: u32, b: &BoxOf) -> bool
     is_reach_kept(m, x, y, b) && is_sole_kept(m, x, y, b)
 }
 
-/// Whether the low of `m` is no less than those of the two, and its high is the greater of theirs.
+/// Whether the low of `m` is no less than the lows of the two, and its high is the greater of their highs.
 #[inline(always)]
 fn is_reach_kept(m: u32, x: u32, y: u32, b: &BoxOf) -> bool
     requires m { m < length b.now }
@@ -66,7 +66,8 @@ fn is_reach_kept(m: u32, x: u32, y: u32, b: &BoxOf) -> bool
     larger(b.low(x), b.low(y)) <= b.low(m) && larger(b.high(x), b.high(y)) == b.high(m)
 }
 
-/// Whether both variables can be as great as `m`, or the one that can is so anyway.
+/// Whether each of the two variables can be at least the low of `m`, or the other one is so anyway: neither is then told that it
+/// alone must be.
 #[inline(always)]
 fn is_sole_kept(m: u32, x: u32, y: u32, b: &BoxOf) -> bool
     requires m { m < length b.now }
@@ -79,7 +80,7 @@ fn is_sole_kept(m: u32, x: u32, y: u32, b: &BoxOf) -> bool
     may_reach(low, x, y, b) && may_reach(low, y, x, b)
 }
 
-/// Whether `x` can be as great as this number, or `y` is so anyway.
+/// Whether `x` can be as great as this number, or `y` is so great anyway.
 #[inline(always)]
 fn may_reach(low: i64, x: u32, y: u32, b: &BoxOf) -> bool
     requires x { x < length b.now }
@@ -89,7 +90,7 @@ fn may_reach(low: i64, x: u32, y: u32, b: &BoxOf) -> bool
     low <= b.high(x) || low <= b.low(y)
 }
 
-/// The tells that narrow the box, if there are no more than two.
+/// The tells that narrow the box; `Unseen` where there are more than two.
 #[inline(never)]
 fn greatest_tells(m: u32, x: u32, y: u32, b: &BoxOf) -> Seen
     requires m { m < length b.now }
@@ -108,7 +109,7 @@ fn greatest_tells(m: u32, x: u32, y: u32, b: &BoxOf) -> Seen
     with_sole_reaching(seen, m, x, y, b)
 }
 
-/// The same with the tell of the one variable that can be as great as `m`, where the other can't.
+/// The same with the tell of the one variable that can be at least the low of `m`, where the other can't.
 #[inline(always)]
 fn with_sole_reaching(seen: Seen, m: u32, x: u32, y: u32, b: &BoxOf) -> Seen
     requires m { m < length b.now }

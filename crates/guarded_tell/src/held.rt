@@ -23,7 +23,7 @@ use interval::{BoxOf, law_clamp_order, law_quotient_order};
 use small_sums::sum;
 use sum_tells::Extended;
 
-/// What the shape of an inequality whose literal is sure says of a visit.
+/// What the shape of an inequality whose literal is sure says of a visit: nothing where it can't hold.
 #[inline(never)]
 pub(crate) fn held_at_most(k: &Kernel, lit: Lit, x: u32, y: u32, limit: i64, b: &BoxOf) -> Seen
     requires kernel { IsKernel (length b.now) k.now }
@@ -41,7 +41,8 @@ pub(crate) fn held_at_most(k: &Kernel, lit: Lit, x: u32, y: u32, limit: i64, b: 
     }
 }
 
-/// What the shape of an equation whose literal is sure says of a visit.
+/// What the shape of an equation whose literal is sure says of a visit: nothing where its least sum is above the limit or its
+/// greatest below it, or where more than two tells narrow the box.
 #[inline(never)]
 pub(crate) fn held_same(k: &Kernel, lit: Lit, x: u32, y: u32, limit: i64, b: &BoxOf) -> Seen
     requires kernel { IsKernel (length b.now) k.now }
@@ -59,7 +60,7 @@ pub(crate) fn held_same(k: &Kernel, lit: Lit, x: u32, y: u32, limit: i64, b: &Bo
     }
 }
 
-/// The one tell of such an equation, by four comparisons in place of a list of its tells.
+/// The one tell of such an equation that narrows the box, where there is just one: four comparisons, not a list of tells.
 #[inline(always)]
 pub(crate) fn held_sole(k: &Kernel, lit: Lit, x: u32, y: u32, limit: i64, b: &BoxOf) -> Option<Sole>
     requires kernel { IsKernel (length b.now) k.now }
@@ -122,7 +123,7 @@ fn sole_of_four(x: u32, y: u32, rise: i64, fall: i64, b: &BoxOf) -> Option<Sole>
     }
 }
 
-/// The tell of a variable that is at most so far above its low, where that is below its high.
+/// The tell that a variable is at most so far above its low, where that bound is below its high.
 #[inline(always)]
 fn sole_high(var: u32, slack: i64, b: &BoxOf) -> Sole
     requires variable { var < length b.now }
@@ -141,7 +142,7 @@ fn sole_high(var: u32, slack: i64, b: &BoxOf) -> Sole
     })
 }
 
-/// The tell of a variable that is at most so far below its high, where that is above its low.
+/// The tell that a variable is at most so far below its high, where that bound is above its low.
 #[inline(always)]
 fn sole_low(var: u32, slack: i64, b: &BoxOf) -> Sole
     requires variable { var < length b.now }
@@ -236,8 +237,8 @@ fn ordered_same(k: &Kernel, x_first: bool, lit: Lit, x: u32, y: u32, limit: i64,
     }
 }
 
-/// The tells of `x` and of the opposite of `y` that narrow the box, where each may rise by so much. They stand in the order of
-/// the kernel's terms.
+/// The tells of `x` and of the opposite of `y` that narrow the box, where each may rise by so much, in the order of the kernel's
+/// terms.
 #[inline(always)]
 fn told_at_most(x_first: bool, x: u32, y: u32, rise: i64, b: &BoxOf) -> Seen
     requires first { x < length b.now }
@@ -257,7 +258,7 @@ fn told_at_most(x_first: bool, x: u32, y: u32, rise: i64, b: &BoxOf) -> Seen
     }
 }
 
-/// The same where each may rise and fall by so much.
+/// The same where each may rise and fall by so much; `Unseen` where more than two narrow the box.
 #[inline(always)]
 fn told_same(x_first: bool, x: u32, y: u32, rise: i64, fall: i64, b: &BoxOf) -> Seen
     requires first { x < length b.now }

@@ -5,11 +5,12 @@
 //! kernels by four laws alone: `law_monotone` (a smaller box gets no weaker tells), `law_point` (a point is closed exactly
 //! where the relation holds), `law_tell_place` and `law_local` (on the kernel's own variables).
 //!
-//! Begin with `specs/Kernels.antt`, which has a line of `tells` for each. It stands on the families (`sum_tells`, with
+//! Begin with `specs/Kernels.antt`, which has a line of `tells` for each. It builds on the families (`sum_tells`, with
 //! `small_sums` and `short_tells`, `clause_tells`, `arithmetic_tells`, `extreme_tells`, `element_tells`, `set_tells`,
-//! `global_tells`), whose tells it gives on and whose laws make its own. Its own are shapes (differences of two variables,
-//! equations of three terms, products, clauses of two or three literals), how long a kernel rests and which bounds it reads.
-//! It runs nothing to a fixpoint. That a visit which narrows nothing forms no tell isn't claimed.
+//! `global_tells`), whose tells it gives on and from whose laws its own follow. It adds shapes (differences of two variables,
+//! equations of three terms, clauses of two or three literals, products, the greater of two, sums with slight coefficients),
+//! how long a kernel rests and which bounds it reads. It runs nothing to a fixpoint. That a visit which narrows nothing forms
+//! no tell isn't claimed.
 #![tactic(auto)]
 
 mod differences;

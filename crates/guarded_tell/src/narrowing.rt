@@ -168,7 +168,7 @@ fn visit_slight<H: Hear>(k: &Kernel, b: &BoxOf, hint: &mut Hint, h: &mut H) -> R
     }
 }
 
-/// The same of any kernel.
+/// Gives the tells of any kernel.
 fn give_tells<H: Hear>(k: &Kernel, b: &BoxOf, h: &mut H)
     requires kernel { IsKernel (length b.now) k.now }
     requires proper { IsProperIn (vars_of k.now) b.now }
@@ -180,8 +180,8 @@ fn give_tells<H: Hear>(k: &Kernel, b: &BoxOf, h: &mut H)
     }
 }
 
-/// Gives the tells of a sum in 64 bits or of a product, and sees that other kernels narrow nothing. Where it doesn't, it gives
-/// none.
+/// Gives the tells of a sum that fits 64 bits or of a product, and answers yes; so too where another kernel is seen to narrow
+/// nothing. Else it gives none and answers no.
 #[tactic(auto, unfolding(crate::specs::Kernels::tells, crate::specs::Kernels::vars_of, crate::specs::Kernels::HasNumbers))]
 fn is_given<H: Hear>(k: &Kernel, b: &BoxOf, h: &mut H) -> bool
     requires kernel { IsKernel (length b.now) k.now }

@@ -25,11 +25,11 @@ use crate::shape::Shape;
 use interval::{BoxOf, law_clamp_order, law_quotient_order};
 use tells::{high_tell, low_tell};
 
-/// A natural factor is at most this much.
+/// A natural factor is at most this much, 2^31: the product of two fits 64 bits.
 const FACTOR_LIMIT: i64 = 2_147_483_648;
 
-/// What the shape of a product says of a visit. Where a factor may be below 1, the product below 0, or either too great for
-/// 64 bits, it says nothing.
+/// What the shape of a product says of a visit. It says nothing where a factor may be below 1 or above 2^31, where the product
+/// may be below 0, or where more than two tells narrow the box.
 #[inline(always)]
 pub fn seen_product(k: &Kernel, x: u32, y: u32, z: u32, b: &BoxOf) -> Seen
     requires kernel { IsKernel (length b.now) k.now }
@@ -63,7 +63,7 @@ fn is_natural_product(x: u32, y: u32, z: u32, b: &BoxOf) -> bool
     is_factor(x, b) && is_factor(y, b) && 0 <= b.low(z)
 }
 
-/// Whether a variable has only numbers of a natural factor.
+/// Whether all numbers of a variable are natural factors: from 1 to `FACTOR_LIMIT`.
 #[inline(always)]
 fn is_factor(v: u32, b: &BoxOf) -> bool
     requires variable { v < length b.now }
@@ -100,7 +100,7 @@ fn is_factor_kept(x: u32, y: u32, z: u32, b: &BoxOf) -> bool
     b.low(z) <= product(b.low(x), b.high(y)) && product(b.high(x), b.low(y)) <= b.high(z)
 }
 
-/// The tells that narrow the box, if there are no more than two.
+/// The tells that narrow the box; `Unseen` where there are more than two.
 #[inline(never)]
 fn few_tells(x: u32, y: u32, z: u32, b: &BoxOf) -> Seen
     requires x { x < length b.now }

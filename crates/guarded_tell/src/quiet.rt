@@ -261,7 +261,7 @@ impl Left {
         matches!(self, Left::Two(_, _))
     }
 
-    /// What is remembered of it; one place alone twice: once its literal is told, it is sure.
+    /// What is remembered of it. One place alone is remembered twice: once its literal is told, it is sure.
     fn hint(self) -> Hint {
         match self {
             Left::None => Hint::new(),

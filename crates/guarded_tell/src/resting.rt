@@ -34,7 +34,8 @@ pub enum Rest {
     ForGood,
 }
 
-/// How long the kernel is seen to need no visit, from this box on. What a visit of it remembered is looked at alone.
+/// How long the kernel is seen to need no visit, from this box on: by its shape, and where that says nothing, by the
+/// places that the hint remembers alone.
 #[inline(always)]
 pub fn rest_of(k: &Kernel, shape: &Shape, b: &BoxOf, hint: Hint) -> Rest
     requires kernel { IsKernel (length b.now) k.now }
@@ -215,7 +216,7 @@ fn hinted_rest(k: &Kernel, b: &BoxOf, hint: Hint) -> Rest
 }
 
 /// How long the kernel needs no visit, where it is a clause that is seen to narrow nothing or an equation that must not hold
-/// with two open terms. What the hint remembers is looked at first, and then all of a clause.
+/// with two open terms. What the hint remembers is looked at first, and then the whole list.
 #[tactic(auto, unfolding(crate::specs::Kernels::vars_of, crate::specs::Kernels::HasNumbers))]
 pub fn listed_rest(k: &Kernel, b: &BoxOf, hint: &mut Hint) -> Option<Rest>
     requires kernel { IsKernel (length b.now) k.now }
@@ -295,7 +296,7 @@ fn is_open_sum(
     }
 }
 
-/// Whether the literal stays as it is, and so does whether the sum of two terms is at most the limit.
+/// Whether the literal is sure and the greatest sum of two terms at most the limit, or it is out and the least sum above it.
 fn is_at_most_settled(lit: Lit, limit: i64, pair: Pair, b: &BoxOf) -> bool
     requires variable { lit.var < length b.now }
     requires proper { low_of b.now lit.var ≤ℤ high_of b.now lit.var }

@@ -17,8 +17,8 @@ use short_tells::{narrow_equation_literal, narrow_literal, narrow_term, room_at_
 use small_sums::{Pair, Sums, sum};
 use tells::{stands_false, stands_true};
 
-/// Gives the tell of a literal that is neither sure nor out, where the difference decides it, and answers yes. Else it gives
-/// none, and answers no.
+/// Where the literal of a difference is neither sure nor out, gives its tell, if the difference decides it, and answers yes.
+/// Else it gives none and answers no.
 pub fn is_open_given<H: Hear>(k: &Kernel, shape: &Shape, b: &BoxOf, h: &mut H) -> bool
     requires kernel { IsKernel (length b.now) k.now }
     requires shape { IsShapeOf k.now shape.now }
@@ -50,8 +50,8 @@ pub fn is_open_given<H: Hear>(k: &Kernel, shape: &Shape, b: &BoxOf, h: &mut H) -
     }
 }
 
-/// Gives the tells of one variable of a difference whose literal is sure, where the other is told nothing, and answers yes.
-/// Else it gives none, and answers no.
+/// Where the literal of a difference is sure and one of the two variables is told nothing, gives the tells of the other and
+/// answers yes. Else it gives none and answers no.
 pub fn is_sure_given<H: Hear>(k: &Kernel, shape: &Shape, b: &BoxOf, h: &mut H) -> bool
     requires kernel { IsKernel (length b.now) k.now }
     requires shape { IsShapeOf k.now shape.now }

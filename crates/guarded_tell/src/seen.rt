@@ -26,7 +26,7 @@ use tells::{stands_false, stands_true, tell_false, tell_true};
 pub struct Sole {
     /// The tell.
     pub tell: Tell,
-    /// Whether the kernel rests for good once the tell is joined.
+    /// Whether it is seen that the kernel rests for good once the tell is joined.
     pub is_last: bool,
 }
 
@@ -46,7 +46,7 @@ pub enum Seen {
 impl Sole {
     /// This tell, after which the kernel may need visits.
     #[inline(always)]
-    pub fn one(tell: Tell) -> Sole
+    pub(crate) fn one(tell: Tell) -> Sole
         ensures tell { result.tell ≡ tell }
         ensures last { result.is_last ≡ false }
     {
@@ -56,7 +56,7 @@ impl Sole {
 
     /// This tell, after which the kernel rests for good.
     #[inline(always)]
-    pub fn last(tell: Tell) -> Sole
+    pub(crate) fn last(tell: Tell) -> Sole
         ensures tell { result.tell ≡ tell }
         ensures last { result.is_last ≡ true }
     {
@@ -91,7 +91,7 @@ pub fn sole_tell(k: &Kernel, shape: &Shape, b: &BoxOf) -> Option<Sole>
 }
 
 /// What the kernel's shape says of a visit where it may have two tells: a difference whose literal is sure, an equation of three
-/// terms, a product, or the greater of two. That a difference narrows nothing is left to `seen_rest`.
+/// terms, a product, or the greater of two. Of any other kernel it says nothing, not even that it narrows nothing.
 #[inline(always)]
 pub fn seen_visit(k: &Kernel, shape: &Shape, b: &BoxOf) -> Seen
     requires kernel { IsKernel (length b.now) k.now }
@@ -121,7 +121,7 @@ pub fn seen_visit(k: &Kernel, shape: &Shape, b: &BoxOf) -> Seen
     }
 }
 
-/// The one tell of an inequality.
+/// The one tell of an inequality that narrows the box, where that is seen.
 #[inline(always)]
 fn seen_at_most(k: &Kernel, lit: Lit, x: u32, y: u32, limit: i64, b: &BoxOf) -> Option<Sole>
     requires kernel { IsKernel (length b.now) k.now }
@@ -172,7 +172,7 @@ fn at_most_sure(k: &Kernel, lit: Lit, x: u32, y: u32, limit: i64, b: &BoxOf) -> 
     }
 }
 
-/// The same of an inequality whose literal is told.
+/// The same of an inequality whose literal is neither sure nor out: that literal alone may be told.
 #[inline(always)]
 fn at_most_open(k: &Kernel, lit: Lit, x: u32, y: u32, limit: i64, b: &BoxOf) -> Option<Sole>
     requires kernel { IsKernel (length b.now) k.now }
@@ -211,7 +211,7 @@ fn seen_same(k: &Kernel, lit: Lit, x: u32, y: u32, limit: i64, b: &BoxOf) -> Opt
     }
 }
 
-/// The same of an equation that must not hold: the variable that isn't fixed is told, where the other is.
+/// The same of an equation that must not hold: where one variable is fixed, the other may be told.
 #[inline(always)]
 fn same_out(k: &Kernel, lit: Lit, x: u32, y: u32, limit: i64, b: &BoxOf) -> Option<Sole>
     requires kernel { IsKernel (length b.now) k.now }
@@ -235,7 +235,7 @@ fn same_out(k: &Kernel, lit: Lit, x: u32, y: u32, limit: i64, b: &BoxOf) -> Opti
     }
 }
 
-/// The tell that leaves a value out of a variable, where it is a bound of it.
+/// The tell that leaves a value out of a variable, where the value is one of its bounds.
 #[inline(always)]
 fn apart_seen(var: u32, value: i64, b: &BoxOf) -> Option<Sole>
     requires { var < length b.now }
@@ -260,7 +260,7 @@ fn apart_seen(var: u32, value: i64, b: &BoxOf) -> Option<Sole>
     }
 }
 
-/// The same of an equation whose literal is told.
+/// The same of an equation whose literal is neither sure nor out: that literal alone may be told.
 #[inline(always)]
 fn same_open(k: &Kernel, lit: Lit, x: u32, y: u32, limit: i64, b: &BoxOf) -> Option<Sole>
     requires kernel { IsKernel (length b.now) k.now }
@@ -286,7 +286,7 @@ fn same_open(k: &Kernel, lit: Lit, x: u32, y: u32, limit: i64, b: &BoxOf) -> Opt
     }
 }
 
-/// The same of a clause of two literals: one is out, and the other is told.
+/// The same of a clause of two literals: where one is out, the other may be told.
 #[inline(always)]
 fn seen_either(k: &Kernel, first: Lit, second: Lit, b: &BoxOf) -> Option<Sole>
     requires kernel { IsKernel (length b.now) k.now }
@@ -305,7 +305,7 @@ fn seen_either(k: &Kernel, first: Lit, second: Lit, b: &BoxOf) -> Option<Sole>
     }
 }
 
-/// The same of a clause of three literals: two are out, and the third is told.
+/// The same of a clause of three literals: where two are out, the third may be told.
 #[inline(always)]
 fn seen_triple(k: &Kernel, first: Lit, second: Lit, third: Lit, b: &BoxOf) -> Option<Sole>
     requires kernel { IsKernel (length b.now) k.now }
@@ -330,7 +330,7 @@ fn seen_triple(k: &Kernel, first: Lit, second: Lit, third: Lit, b: &BoxOf) -> Op
     }
 }
 
-/// The tell that makes a literal true that is neither sure nor out.
+/// The tell that makes a literal true, where it is neither sure nor out.
 #[inline(always)]
 fn sole_true(lit: Lit, b: &BoxOf) -> Option<Sole>
     requires variable { lit.var < length b.now }

@@ -40,7 +40,8 @@ pub struct Terms {
     pub z_sign: Sign,
 }
 
-/// A kernel of two variables or three, of two literals or three, or of a product, whole, or what kind of another kernel it is.
+/// What a visit needs to know of a kernel, without its lists: the variables or the literals of a difference, an equation of three
+/// terms, a short clause, a product or the greater of two; that it is a sum with slight coefficients; or nothing.
 #[derive(Clone, Copy, PartialEq, Eq, Debug)]
 pub enum Shape {
     /// The literal is true exactly where `x - y` is at most the limit.
@@ -106,9 +107,9 @@ pub enum Shape {
         /// The second of the two.
         y: u32,
     },
-    /// A sum of three terms or more with slight coefficients.
+    /// The literal is true exactly where a sum of three terms or more with slight coefficients is at most, or is, the limit.
     Slight,
-    /// Any kernel.
+    /// Any kernel: nothing is said of it.
     Other,
 }
 
@@ -270,7 +271,7 @@ fn difference_of(coeffs: &[i64], vars: &[u32]) -> Option<(u32, u32)>
     }
 }
 
-/// The same of lists whose last items may stand apart.
+/// The same of lists whose last items may be kept apart.
 fn extended_difference_of(coeffs: &Extended<i64>, vars: &Extended<u32>) -> Option<(u32, u32)>
     requires { IsLinear coeffs.now vars.now (pos 0) }
     ensures { MatchOption result ((x y : ℕ) → IsDifference coeffs.now vars.now x y → ⊥) (λ d. IsDifference coeffs.now vars.now d.0 d.1) }
@@ -295,7 +296,7 @@ fn difference_by_signs(first: i64, second: i64, x: u32, y: u32) -> Option<(u32, 
     }
 }
 
-/// What `x` and the opposite of `y` are at least and at most.
+/// What `x`, and then the opposite of `y`, are at least and at most.
 pub fn difference(x: u32, y: u32, b: &BoxOf) -> Pair
     requires first { x < length b.now }
     requires second { y < length b.now }

@@ -26,8 +26,8 @@ use sum_tells::Extended;
 use tells::stands_false;
 
 /// Gives the tells of a sum with slight coefficients that narrow the box to `h`, and says how long it needs no visit, or gives
-/// none and says nothing. The terms of an equation that must not hold, and of one whose last term stands apart, are left
-/// where they may be told something.
+/// none and says nothing. The terms of an equation whose last term is kept apart aren't told here, nor are those of one that must
+/// not hold, but for the term at the hint's place.
 #[tactic(auto, unfolding(crate::specs::Kernels::tells, crate::specs::Kernels::vars_of, crate::specs::Kernels::HasNumbers))]
 pub fn give_slight_sum<H: Hear>(k: &Kernel, b: &BoxOf, hint: &mut Hint, h: &mut H) -> Option<Rest>
     requires kernel { IsKernel (length b.now) k.now }
@@ -105,7 +105,7 @@ fn give_slight_equation<H: Hear>(
     }
 }
 
-/// The same of an equation whose terms all stand together.
+/// The same of an equation whose terms are all in one list.
 fn give_whole_slight_equation<H: Hear>(
     lit: Lit,
     coeffs: &[i64],

@@ -18,8 +18,8 @@ use crate::{Hear, Lit};
 use interval::{BoxOf, law_clamp_order};
 use small_sums::{SmallTerm, Sums, opposite, plain, slight_sums};
 
-/// Gives the tells of the equation that narrow the box to `h`, and answers yes, where it must not hold, the term at this place
-/// is its variable or the opposite, and alone isn't fixed. Else it gives none, and answers no.
+/// Where the term at this place of an equation that must not hold is its variable or the opposite, and the only one that isn't
+/// fixed, gives the tells that narrow the box to `h` and answers yes. Else it gives none and answers no.
 pub fn is_sole_given<H: Hear>(
     lit: Lit,
     coeffs: &[i64],

@@ -35,7 +35,8 @@ pub struct Spans {
     pub z: SmallTerm,
 }
 
-/// What the shape says of a visit, where the sum has to be the limit.
+/// What the shape of an equation of three terms says of a visit. It says nothing where the literal isn't sure, where the
+/// least sum is above the limit or the greatest below it, or where more than two tells narrow the box.
 #[inline(always)]
 pub fn seen_three(k: &Kernel, terms: Terms, limit: i64, b: &BoxOf) -> Seen
     requires kernel { IsKernel (length b.now) k.now }
@@ -188,7 +189,7 @@ pub(crate) fn left(whole: i64, part: i64) -> i64
     whole - part
 }
 
-/// The tells of the terms that narrow the box.
+/// The tells of the terms that narrow the box; `Unseen` where there are more than two.
 fn told(terms: Terms, rise: i64, fall: i64, b: &BoxOf) -> Seen
     requires places { ArePlaced b.now terms }
     requires rise { pos 0 ≤ℤ rise }
@@ -219,7 +220,7 @@ fn add_if_wide(seen: &mut Seen, sign: Sign, var: u32, rise: i64, fall: i64, b: &
     }
 }
 
-/// The same of a term that is told something. This stands apart, so that one that is told nothing moves no tells.
+/// The same of a term that is told something. It is a function of its own, so that a term that is told nothing moves no tells.
 #[inline(never)]
 fn add_term_apart(seen: &mut Seen, sign: Sign, var: u32, rise: i64, fall: i64, b: &BoxOf)
     requires variable { var < length b.now }
@@ -231,7 +232,7 @@ fn add_term_apart(seen: &mut Seen, sign: Sign, var: u32, rise: i64, fall: i64, b
     add_term(seen, sign, var, rise, fall, b);
 }
 
-/// Adds the tells of one more term, which may rise and fall by so much.
+/// Adds the tells of one more term that narrow the box, where the term may rise and fall by so much.
 #[inline(always)]
 pub(crate) fn add_term(seen: &mut Seen, sign: Sign, var: u32, rise: i64, fall: i64, b: &BoxOf)
     requires variable { var < length b.now }
@@ -253,7 +254,7 @@ pub(crate) fn add_term(seen: &mut Seen, sign: Sign, var: u32, rise: i64, fall: i
     }
 }
 
-/// Adds the tell of a variable that is at most so far above its low.
+/// Adds the tell that a variable is at most so far above its low, where that narrows the box.
 #[inline(always)]
 pub(crate) fn add_high(seen: &mut Seen, var: u32, slack: i64, b: &BoxOf)
     requires variable { var < length b.now }
@@ -273,7 +274,7 @@ pub(crate) fn add_high(seen: &mut Seen, var: u32, slack: i64, b: &BoxOf)
     }
 }
 
-/// Adds the tell of a variable that is at most so far below its high.
+/// Adds the tell that a variable is at most so far below its high, where that narrows the box.
 #[inline(always)]
 pub(crate) fn add_low(seen: &mut Seen, var: u32, slack: i64, b: &BoxOf)
     requires variable { var < length b.now }

@@ -9,7 +9,7 @@ use Rattle.answer.specs.declared.options.Options.{Options}
 use Rattle.answer.specs.Lists.{Assignment}
 use Rattle.answer.specs.Places.{AreResults}
 
--- these solutions stand first in the list of those of what a number leads to
+-- these solutions are the first of the list of those of what a number leads to
 pub record IsFrontOfPart (model : FznModel) (path : Option Bounds) (front : List Assignment) : Type 0 where
   pub rest : List Assignment
   pub listed : SolutionsOf model (kernels_of model) path (front ++ rest)

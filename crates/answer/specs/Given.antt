@@ -1,4 +1,4 @@
--- What the parts of the answer owe.
+-- What the parts of the answer promise.
 use Rattle.std.specs.Prelude.{◌≡◌, ◌≤◌, ℤ, Bool, true, false, List, [], ◌∷◌, All, Some}
 use Rattle.constraint_model.specs.declared.model.FznModel.{FznModel}
 use Rattle.constraint_model.specs.Relations.{cost_of, IsSolution}

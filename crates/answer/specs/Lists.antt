@@ -16,8 +16,8 @@ abbrev pub Assignment : Type 0
 Assignment = List ℤ
 
 -- The list has the solutions that lie in a box in the order of the search tree, that of propagation and branching alone.
--- These are the assignments that `IsOne` tells, each of them once; and where no search annotation asks for anything they
--- stand in the lexicographic order of the declarations.
+-- These are the assignments that meet `IsOne`, each of them once; and where no search annotation asks for anything they are
+-- in the lexicographic order of the declarations.
 pub record ListsInOrder (model : FznModel) (b : Bounds) (IsOne : Assignment → Type 0) (found : List Assignment) : Type 0 where
   pub in_order : SolutionsIn model (kernels_of model) b found
   pub each : (a : Assignment) → Contains found a ↔ IsOne a

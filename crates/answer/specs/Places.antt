@@ -5,7 +5,7 @@ use Rattle.constraint_model.specs.declared.model.FznModel.{FznModel}
 use Rattle.decompose.specs.Kernels.{kernels_of}
 use Rattle.subproblems.specs.Paths.{LeadsTo}
 
--- this entry stands at the place, counted from 0
+-- this entry is at the place, counted from 0
 abbrev pub StandsAt : {E : Type 0} → List E → ℕ → E → Type 0
 StandsAt xs place entry = slice_get xs place ≡ Some entry
 

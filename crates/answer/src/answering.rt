@@ -295,7 +295,7 @@ fn answer_of<R: Threads + Sync, C: Gate + Sync, L: Gate + Sync>(
     }
 }
 
-/// What may hold the workers and the lanes up. Each answer is lawful whatever they do; without limits they change none.
+/// What may hold the workers and the lanes up. The answer is lawful whatever they do, and without limits they don't change it.
 #[derive(Drop)]
 pub struct Gates<'a, C, L> {
     /// Is passed by each worker before it asks for a number.
@@ -305,7 +305,7 @@ pub struct Gates<'a, C, L> {
 }
 
 /// The depth to which the search tree is cut. Where one worker searches without limits, parts would only cost time; under a
-/// limit they are what the limit stands for.
+/// limit each part is stopped by itself.
 fn depth_for(options: &Options) -> u32
     ensures limited { HasLimit options.now → result ≡ options.now.depth }
     ensures most { result ≤ options.now.depth }
@@ -318,7 +318,7 @@ fn depth_for(options: &Options) -> u32
 }
 
 /// The answer of a model: its first solution in the order of the search tree, all solutions, or the first of those of least
-/// cost; where a limit stopped a part of the search, what is known.
+/// cost; where a limit stopped a part of the search, what is known. Errors: memory.
 pub fn answer<R: Threads + Sync, C: Gate + Sync, L: Gate + Sync>(
     rt: &R,
     alloc: Global,

@@ -94,7 +94,7 @@ fn solutions_of(end: AllEnd) -> ListOf<ListOf<i64>>
     }
 }
 
-/// Puts solutions behind others.
+/// Appends solutions to others.
 fn put(given: &mut ListOf<ListOf<i64>>, found: ListOf<ListOf<i64>>) -> Result<(), AllocError>
     ensures { OnOk result (given.new ≡ given.old ++ found) }
 {

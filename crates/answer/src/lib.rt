@@ -5,7 +5,7 @@
 //! solution that it gives solves the model. A model has one finished answer (`law_one_finished`). For an objective a second
 //! search looks for the first solution of the least cost, unless the best one is known to be it (`law_best_is_first`).
 //!
-//! It stands on `search`, `subproblem_walk`, `crew` and `fzn_print`. Which of the answers comes, where a limit allows several,
+//! It builds on `search`, `subproblem_walk`, `crew` and `fzn_print`. Which of the answers comes, where a limit allows several,
 //! isn't claimed. Begin with `src/answering.rt`.
 #![tactic(auto)]
 

@@ -7,7 +7,7 @@ ghost use Rattle.answer.specs.Settled.{IsSettled};
 use crate::options::Options;
 use constraint_model::{FznModel, VarSel};
 
-/// Whether each phase takes its variables as they stand, so that the order of the solutions doesn't depend on the bounds.
+/// Whether each phase takes its variables as they are listed, so that the order of the solutions doesn't depend on the bounds.
 fn is_static(model: &FznModel) -> bool
     ensures as_they_stand { OnTrue result (IsStaticSearch model.now) }
     ensures by_bounds { OnFalse result (IsStaticSearch model.now → ⊥) }

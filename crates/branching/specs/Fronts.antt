@@ -10,7 +10,7 @@ use Rattle.branching.specs.Selection.{IsFixed, IsUnfixed}
 use Rattle.branching.specs.declared.fronts.Front.{Front}
 use Rattle.branching.specs.declared.branch.Branching.{Branching}
 
--- the phase that stands behind so many
+-- the phase behind the first so many
 abbrev pub IsPhaseAt : FznModel → ℕ → Phase → Type 0
 IsPhaseAt model number phase = (number < length model.search) × (slice_index_or model.search number phase ≡ phase)
 
@@ -26,7 +26,7 @@ pub record IsFirstUnfixed (b : Bounds) (vars : List ℕ) (place : ℕ) : Type 0 
   pub fixed : All (IsFixed b) (take place vars)
   pub unfixed : IsUnfixed b (slice_index_or vars place 0)
 
--- the front stands at the first variable that isn't fixed
+-- the front is at the first variable that isn't fixed
 pub record IsFarthestFront (model : FznModel) (b : Bounds) (front : Front) : Type 0 where
   pub behind : All (λ p. All (IsFixed b) p.vars) (take front.phases model.search)
   pub phase : Phase

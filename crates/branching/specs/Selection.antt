@@ -28,8 +28,8 @@ rank_of VarSel.Largest low high = neg_ℤ high
 abbrev pub rank_in : VarSel → Bounds → ℕ → ℤ
 rank_in selection b v = rank_of selection (low_of b (suc v)) (high_of b (suc v))
 
--- Of these variables v is the chosen one: it is unfixed, every unfixed variable that stands before it has a greater rank,
--- and none that stands after it has a lesser one.
+-- Of these variables v is the chosen one: it is unfixed, every unfixed variable before it has a greater rank,
+-- and none after it has a lesser one.
 pub record IsChosen (selection : VarSel) (b : Bounds) (vars : List ℕ) (v : ℕ) : Type 0 where
   pub before : List ℕ
   pub after : List ℕ

@@ -53,7 +53,7 @@ EveryList = (model : FznModel) (kernels : List Kernel) (b : Bounds) → IsSearch
 
 -- ---- what is in such a list
 
--- of each pair that stands for a constant, pair 0 and those behind the declared variables, one number is left at most
+-- each pair of a constant, which is pair 0 or one behind the declared variables, has one number at most
 abbrev pub AreConstantsFixed : FznModel → Bounds → Type 0
 AreConstantsFixed model b = (p : ℕ) → p < length b → (p ≡ 0) ⊎ (length model.vars < p) → high_of b p ≤ℤ low_of b p
 
@@ -65,7 +65,7 @@ pub record IsSolutionIn (model : FznModel) (kernels : List Kernel) (b : Bounds) 
   pub inside : IsInside point b
   pub is_values : values ≡ values_of model point
 
--- no entry stands in the list again
+-- no entry is in the list twice
 abbrev pub AreDistinct : List (List ℤ) → Type 0
 AreDistinct [] = Unit {0}
 AreDistinct (values ∷ others) = (Contains others values → ⊥) × AreDistinct others

@@ -2,7 +2,7 @@
 //!
 //! `branch_from` gives both parts as bounds of one pair, looked for from a front on, or none where each declared variable is
 //! fixed; each point of the box is in one part alone. `specs/Tree.antt` says what the list of solutions in a box is, in the
-//! order of the search tree: a box has exactly one (`law_one_list`, `law_every_list`). It stands on `constraint_model` and
+//! order of the search tree: a box has exactly one (`law_one_list`, `law_every_list`). It builds on `constraint_model` and
 //! `fixpoint_laws`, and searches nothing. Begin with `specs/Selection.antt` and `specs/Parts.antt`.
 #![tactic(auto)]
 

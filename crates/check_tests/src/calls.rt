@@ -147,7 +147,7 @@ const WORDS: &[(&str, Ended<'static>)] = &[
 
 const USAGE: Ended<'static> = (Status::Usage, "", "usage: fzncheck MODEL SOLUTION\n");
 
-/// These words, which stand with a blank between each two.
+/// These words, which are written with a blank between each two.
 fn words_of(alloc: Global, words: &str) -> Result<Vec<String>, AllocError> {
     let mut list = Vec::new(alloc);
     for word in words.split(' ') {

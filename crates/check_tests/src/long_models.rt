@@ -17,7 +17,7 @@ const SHORT: &str = "constraint int_le(x,9);\n";
 /// Doesn't hold of it.
 const VIOLATED: &str = "constraint int_lt(x,5);\n";
 
-/// Parts of the constraints, each with how often it stands, and the line that is told.
+/// Parts of the constraints, each with how often it occurs, and the line that is told.
 const MODELS: &[(&[(&str, usize)], &str)] = &[
     // The last of 3,000.
     (

@@ -152,7 +152,7 @@ on_differing a (Operand.One x ∷ Operand.One y ∷ []) = compares Comparison.Di
 on_differing a (Operand.One x ∷ Operand.One y ∷ Operand.One r ∷ []) = same (is_true (value a r)) (compares Comparison.Different (value a x) (value a y))
 on_differing a _ = false
 
--- behind the arguments of a constraint stands a boolean, which is true exactly where the constraint holds
+-- behind the arguments of a constraint comes a boolean, which is true exactly where the constraint holds
 abbrev pub reified : (List Operand → Bool) → List ℤ → List Operand → Bool
 reified f a [] = false
 reified f a (Operand.One r ∷ []) = same (is_true (value a r)) (f [])

@@ -9,12 +9,12 @@ use Rattle.constraint_model.specs.declared.model.Constraint.{Constraint}
 abbrev pub IsNumbered : List (List Term) → ArrayTerms → Type 0
 IsNumbered arrays row = IfSome row.number (λ n. slice_get arrays n ≡ Some row.terms)
 
--- the same of what stands at an argument
+-- an argument that is an array is numbered so
 abbrev pub HasNumber : List (List Term) → Operand → Type 0
 HasNumber arrays (Operand.One t) = Unit {0}
 HasNumber arrays (Operand.Row row) = IsNumbered arrays row
 HasNumber arrays (Operand.Set ranges) = Unit {0}
 
--- and of all arguments of constraints
+-- each argument of the constraints that is an array is numbered so
 abbrev pub HaveNumbers : List (List Term) → List Constraint → Type 0
 HaveNumbers arrays constraints = All (λ c. All (HasNumber arrays) c.operands) constraints

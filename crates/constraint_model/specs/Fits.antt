@@ -1,4 +1,4 @@
--- Which arguments a constraint takes, and what stands at them.
+-- Which arguments a constraint takes, and what is kept of them.
 use Rattle.std.specs.Prelude.{◌≡◌, ℕ, ◌+◌, ℤ, pos, List, [], ◌∷◌, ◌++◌, length, take, map, Bool, true, false, ◌&&◌, cond, nat_eq, nat_lt, flat_map, find, Option, Some, unwrap_or, if◌then◌else◌, bytes_eq}
 use Rattle.std.specs.List.{list_all, list_any}
 use Rattle.std.specs.Ordering.{int_eq}
@@ -52,7 +52,7 @@ fits_row meanings letters = all_fit letters meanings && has_equal_lengths letter
 unfoldable pub row_for : ConstraintName → List Meaning → Option (List Letter)
 row_for name meanings = find (fits_row meanings) (signatures name)
 
--- what stands at an argument
+-- what a constraint keeps of an argument with this meaning
 abbrev pub operand_of : Meaning → Operand
 operand_of (Meaning.One s) = Operand.One s.term
 operand_of (Meaning.Row array) = Operand.Row (record { terms = map (λ s. s.term) array.entries; number = array.number })
@@ -61,7 +61,7 @@ operand_of (Meaning.Set ranges) = Operand.Set ranges
 abbrev pub constraint_on : ConstraintName → List Meaning → Constraint
 constraint_on name meanings = record { name = name; operands = map operand_of meanings }
 
--- a variable may stand at such an argument, or at each entry of it
+-- such an argument, or each entry of it, may be a variable
 abbrev pub takes_variables : Letter → Bool
 takes_variables Letter.Constant = false
 takes_variables Letter.Set = false
@@ -80,7 +80,7 @@ constants_of_operand (Operand.One t) = constant_of t
 constants_of_operand (Operand.Row row) = flat_map constant_of row.terms
 constants_of_operand (Operand.Set ranges) = []
 
--- the constants that stand where variables may, in order
+-- the constants that occur where a variable may be, in order
 abbrev pub constants_at : List Letter → List Operand → List ℤ
 constants_at (l ∷ ls) (o ∷ os) = cond (takes_variables l) (constants_of_operand o) [] ++ constants_at ls os
 constants_at _ _ = []
@@ -102,7 +102,7 @@ goal_constants (Goal.Maximize t) = constant_of t
 abbrev pub add_once : List ℤ → ℤ → List ℤ
 add_once numbers n = if list_any (int_eq n) numbers then numbers else numbers ++ n ∷ []
 
--- the first list stands at the front of the second
+-- the second list begins with the first
 abbrev pub IsFront : List ℤ → List ℤ → Type 0
 IsFront front numbers = take (length front) numbers ≡ front
 
@@ -118,7 +118,7 @@ kernels_of c = count c.name c.operands
     count ConstraintName.BoolClauseReif (Operand.Row positive ∷ Operand.Row negative ∷ _) = length positive.terms + length negative.terms + 1
     count _ _ = 1
 
--- a list that may have few places only has too many: that of the variables that have to differ, or of the starts of tasks
+-- a list that may have only few places has too many: that of the variables that have to differ, or of the starts of tasks
 abbrev pub has_long_row : Constraint → Bool
 has_long_row c = is_long c.name c.operands
   where

@@ -1,4 +1,4 @@
--- What the entries of an array are alike in.
+-- What all entries of an array have in common.
 use Rattle.std.specs.Prelude.{pos, List, Bool, true, false, not, ◌&&◌, int_le, map, cond}
 use Rattle.std.specs.List.{list_all}
 use Rattle.constraint_model.specs.declared.model.Term.{Term}
@@ -26,7 +26,7 @@ is_amount s = is_integer s && is_natural s.term
     is_natural (Term.Number n) = int_le (pos 0) n
     is_natural (Term.Var v) = false
 
--- what each of these entries is
+-- what all of these entries have in common
 abbrev pub kinds_of : List Scalar → Kinds
 kinds_of entries =
     record {
@@ -36,10 +36,10 @@ kinds_of entries =
       all_amounts = list_all is_amount entries;
     }
 
--- the entries of these terms, each a boolean or none
+-- the entries of these terms, all booleans or all integers
 abbrev pub entries_on : Bool → List Term → List Scalar
 entries_on is_bool terms = map (λ t. record { is_bool = is_bool; term = t }) terms
 
--- the entries of these terms where they are alike, else those that stand beside
+-- the entries of these terms where all are integers or all are booleans, else those that are kept beside
 abbrev pub scalars_of : Kinds → List Term → List Scalar → List Scalar
 scalars_of kinds terms mixed = cond kinds.all_integers (entries_on false terms) (cond kinds.all_booleans (entries_on true terms) mixed)

@@ -17,7 +17,7 @@ most_index_sets = 6
 abbrev pub most_kernels : ℕ
 most_kernels = 1048576
 
--- the most distinct numbers other than 1 that stand where variables may
+-- the most distinct numbers other than 1 that occur where a variable may be
 abbrev pub most_constants : ℕ
 most_constants = 131072
 

@@ -43,7 +43,7 @@ unfoldable pub ranges_of_rising : List ℤ → List Range
 ranges_of_rising [] = []
 ranges_of_rising (z ∷ zs) = ranges_on z z zs
 
--- the ranges of the set of these numbers, which may repeat and stand in any order
+-- the ranges of the set of these numbers, which may repeat and be in any order
 unfoldable pub ranges_of : List ℤ → List Range
 ranges_of numbers = ranges_of_rising (rising numbers)
 

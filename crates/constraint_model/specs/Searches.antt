@@ -6,7 +6,7 @@ use Rattle.constraint_model.specs.declared.model.ValSel.{ValSel}
 use Rattle.constraint_model.specs.declared.model.Phase.{Phase}
 use Rattle.constraint_model.specs.declared.model.FznModel.{FznModel}
 
--- the phase that stands last: all of so many declared variables in order, the least value first
+-- the phase that comes last: all of so many declared variables in order, the least value first
 abbrev pub last_phase : ℕ → Phase
 last_phase count = record { vars = range_with_len 0 count; var_sel = VarSel.InputOrder; val_sel = ValSel.Min }
 

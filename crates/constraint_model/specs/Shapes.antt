@@ -57,7 +57,7 @@ Row3One R a (Operand.Row xs ∷ Operand.Row ys ∷ Operand.Row zs ∷ Operand.On
     R (map (value a) xs.terms) (map (value a) ys.terms) (map (value a) zs.terms) (value a c)
 Row3One R a _ = ⊥
 
--- behind the arguments of a constraint stands a boolean, which is true exactly where the constraint holds
+-- behind the arguments of a constraint comes a boolean, which is true exactly where the constraint holds
 abbrev pub Reified : (List Operand → Type 0) → List ℤ → List Operand → Type 0
 Reified Holds a [] = ⊥
 Reified Holds a (Operand.One r ∷ []) = IsTrueNumber (value a r) ↔ Holds []

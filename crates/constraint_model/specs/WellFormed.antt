@@ -28,7 +28,7 @@ pub record IsVariable (vars : List VarDecl) (is_bool : Bool) (place : ℕ) : Typ
   pub inside : place < length vars
   pub same_type : (d : VarDecl) → (slice_index_or vars place d).is_bool ≡ is_bool
 
--- a number of the profile, 0 or 1 where a boolean stands, or a variable
+-- a number of the profile, 0 or 1 where the type is boolean, or a variable of the type
 abbrev pub IsTermOf : List VarDecl → Bool → Term → Type 0
 IsTermOf vars is_bool (Term.Number n) = IsInProfile n × (IsTrue is_bool → (n ≡ pos 0) ⊎ (n ≡ pos 1))
 IsTermOf vars is_bool (Term.Var v) = IsVariable vars is_bool v
@@ -36,7 +36,8 @@ IsTermOf vars is_bool (Term.Var v) = IsVariable vars is_bool v
 abbrev pub IsScalarOf : List VarDecl → Scalar → Type 0
 IsScalarOf vars s = IsTermOf vars s.is_bool s.term
 
--- what stands at an argument: an array or a set isn't too long, and has terms, or numbers of the profile
+-- the meaning of an argument: each term is of its type; an array or a set isn't too long, and the ranges of a set lie apart and
+-- have bounds of the profile
 abbrev pub IsMeaningOf : List VarDecl → Meaning → Type 0
 IsMeaningOf vars (Meaning.One s) = IsScalarOf vars s
 IsMeaningOf vars (Meaning.Row array) = (length array.entries ≤ most_entries) × All (IsScalarOf vars) array.entries
@@ -64,7 +65,7 @@ IsOutputOf vars (Output.Scalar name is_bool value) = IsTermOf vars is_bool value
 IsOutputOf vars (Output.Array name is_bool ranges entries) =
     (length entries ≤ most_entries) × All (IsTermOf vars is_bool) entries × (1 ≤ length ranges) × (length ranges ≤ most_index_sets) × All (λ (r : Range). IsInProfile r.0 × IsInProfile r.1) ranges
 
--- the numbers other than 1 that stand where variables may, each once, in the order in which they first stand: in the
+-- the numbers other than 1 that occur where a variable may be, each once, in the order of their first occurrences: in the
 -- constraints, then in the objective
 abbrev pub constants_of : FznModel → List ℤ
 constants_of model = fold add_once [] (flat_map constants_in model.constraints ++ goal_constants model.goal)

@@ -21,7 +21,7 @@ use std::marker::Model;
 pub struct Constants {
     /// The numbers in their order.
     numbers: Vec<i64>,
-    /// The place of each. A number that was taken out again may still stand here.
+    /// The place of each. A number that was taken out again may still be here.
     places: Places,
     /// The terms of the declared arrays.
     arrays: ListOf<SharedList<Term>>,
@@ -39,7 +39,7 @@ impl Model for Constants {
     ghost invariant = { λ c. AreConstants c.places c.numbers.items c.arrays c.counted };
 }
 
-/// Whether a number stands at a place.
+/// Whether this number is at this place.
 fn stands_at(numbers: &[i64], place: usize, number: i64) -> bool
     ensures { IsTrue result ↔ (slice_get numbers.now place ≡ Some number) }
 {

@@ -13,9 +13,10 @@ use shared_list::SharedList;
 use std::alloc::{AllocError, Global};
 use std::marker::Model;
 
-/// What is kept of the entries of an array. Their terms stand alone, since the constraints that name the array share them; so do
-/// their variables, which search annotations share, and what each of them is, so that a constraint that names the array needn't go
-/// through them. Of entries that are neither all integers nor all booleans, which no declared array has, the meanings stand beside.
+/// What is kept of the entries of an array. Their terms are a list of their own, since the constraints that name the array share
+/// them; so are their variables, which search annotations share. What all have in common is kept too, so that a constraint that
+/// names the array needn't go through them. Of entries that are neither all integers nor all booleans, which no
+/// declared array has, the meanings are kept beside.
 #[derive(Drop)]
 pub(crate) struct Parts {
     terms: SharedList<Term>,
@@ -24,8 +25,8 @@ pub(crate) struct Parts {
     mixed: ListOf<Scalar>,
 }
 
-/// The entries of an array, seen by contracts as the list of their meanings. What is kept of them stands apart, so that a name that
-/// stands for one variable takes no room for an array.
+/// The entries of an array, seen by contracts as the list of their meanings. What is kept of them is in a box, so that a name
+/// that denotes one variable takes no room for an array.
 #[derive(Drop)]
 pub struct Entries {
     parts: Box<Parts>,
@@ -76,7 +77,7 @@ fn not_told(alloc: Global, kinds: Kinds, terms: &[Term], scalars: Vec<Scalar>) -
 }
 
 impl Entries {
-    /// These entries.
+    /// These entries. Errors: memory.
     pub fn new(alloc: Global, scalars: Vec<Scalar>) -> Result<Entries, AllocError>
         ensures { IfOk result (λ entries. entries ≡ scalars.items) }
     {
@@ -103,7 +104,7 @@ impl Entries {
         self.parts.terms.len()
     }
 
-    /// The same entries for another owner. Of a long array none is copied.
+    /// The same entries for another owner. Of a long array none is copied. Errors: memory.
     pub fn share(&self, alloc: Global) -> Result<Entries, AllocError>
         ensures { IfOk result (λ entries. entries ≡ self.now) }
     {
@@ -146,14 +147,14 @@ impl Entries {
         self.parts.kinds.all_amounts
     }
 
-    /// Their terms for another owner. Of a long array none is copied.
+    /// Their terms for another owner. Of a long array none is copied. Errors: memory.
     pub fn share_terms(&self, alloc: Global) -> Result<SharedList<Term>, AllocError>
         ensures { IfOk result (λ terms. terms ≡ map (λ s. s.term) self.now) }
     {
         self.parts.terms.share(alloc)
     }
 
-    /// Their variables for another owner, in order. Of a long array none is copied.
+    /// Their variables for another owner, in order. Of a long array none is copied. Errors: memory.
     pub fn share_variables(&self, alloc: Global) -> Result<SharedList<u32>, AllocError>
         ensures { IfOk result (λ variables. variables ≡ variables_in self.now) }
     {

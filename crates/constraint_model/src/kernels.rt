@@ -37,7 +37,7 @@ pub fn kernel_count(constraint: &Constraint) -> u64
     }
 }
 
-/// Whether a list that may have few places only has too many: that of the variables that have to differ, or of the starts of
+/// Whether a list that may have only few places has too many: that of the variables that have to differ, or of the starts of
 /// tasks.
 pub fn has_long_row(constraint: &Constraint) -> bool
     ensures { result ≡ has_long_row constraint.now }
@@ -53,7 +53,7 @@ pub fn has_long_row(constraint: &Constraint) -> bool
     }
 }
 
-/// Whether a variable may stand at such an argument, or at each entry of it.
+/// Whether such an argument, or each entry of it, may be a variable.
 fn takes_variables(letter: Letter) -> bool
     ensures { result ≡ takes_variables letter }
 {
@@ -118,7 +118,7 @@ fn add_row(found: &mut Constants, row: &ArrayTerms) -> Result<(), AllocError>
     found.keep_row(row)
 }
 
-/// Adds those of an argument, where variables may stand there.
+/// Adds those of an argument, where it may have variables.
 #[tactic(auto, using(crate::proofs::ConstantLaws::front_laws))]
 fn add_argument(found: &mut Constants, letter: Letter, operand: &Operand) -> Result<(), AllocError>
     requires { HasNumber found.old.arrays operand.now }

@@ -1,4 +1,4 @@
-//! What the entries of an array are alike in.
+//! What all entries of an array have in common.
 
 ghost use Rattle.std.specs.Prelude.{◌≡◌, ◌||◌};
 ghost use Rattle.std.specs.List.{list_all};
@@ -7,7 +7,7 @@ ghost use Rattle.constraint_model.specs.Kinds.{is_amount, is_constant, is_intege
 use crate::meanings::Scalar;
 use crate::model::Term;
 
-/// What each entry of an array is. Each constraint that names the array asks for it, so it is found once.
+/// What all entries of an array have in common. Each constraint that names the array asks for it, so it is found once.
 #[derive(Clone, Copy)]
 pub(crate) struct Kinds {
     /// Whether each is an integer.
@@ -69,7 +69,7 @@ impl Kinds {
         self.all_integers || self.all_booleans
     }
 
-    /// What each of these entries is.
+    /// What all of these entries have in common.
     pub(crate) fn of(entries: &[Scalar]) -> Kinds
         ensures { result ≡ kinds_of entries.now }
     {

@@ -4,7 +4,7 @@
 //! Begin with `FznModel` (`src/model.rt`) and `specs/Table.antt`, which has a line of `row` for each constraint: a
 //! definition, so nothing can prove it right. `law_table` says that each name is found by its spelling; `kernel_count` how many
 //! propagators a constraint is run as. `Constants` has the numbers that need a variable, each once, in the order in which they
-//! were added. It stands on `list_of` and `shared_list`, and reads no text: `fzn_model` does.
+//! were added. It builds on `list_of` and `shared_list`, and reads no text: `fzn_model` does.
 #![tactic(auto)]
 
 mod constant_set;

@@ -7,7 +7,7 @@ use list_of::ListOf;
 use names::Name;
 use shared_list::SharedList;
 
-/// What stands where a variable may stand.
+/// A number or a variable, in a place where a variable may be.
 #[derive(Debug, Clone, Copy)]
 pub enum Term {
     /// A number from the opposite of `LARGEST` to `LARGEST`; a boolean constant is 0 or 1.
@@ -30,7 +30,7 @@ impl Term {
     }
 }
 
-/// An array that stands at an argument of a constraint.
+/// An array as an argument of a constraint.
 #[derive(Drop)]
 pub struct ArrayTerms {
     /// The terms of its entries, in order.
@@ -40,7 +40,7 @@ pub struct ArrayTerms {
     pub number: Option<usize>,
 }
 
-/// What stands at an argument of a constraint.
+/// An argument of a constraint: a term, an array or a set.
 #[derive(Drop)]
 pub enum Operand {
     /// A number or a variable.
@@ -64,7 +64,7 @@ pub struct VarDecl {
     pub high: i64,
 }
 
-/// A constraint: its name, and what stands at its arguments, in order.
+/// A constraint: its name and its arguments, in order.
 #[derive(Drop)]
 pub struct Constraint {
     /// Its name.

@@ -6,10 +6,10 @@ ghost use Rattle.constraint_model.specs.Places.{place_kept, near_at, found_in, P
 use std::alloc::{AllocError, Global};
 use std::collections::BTreeMap;
 
-/// So long the table may be for each number that was put down.
+/// The table may have so many entries for each number that was added.
 const MOST_EACH: usize = 1024;
 
-/// So long the table may be.
+/// The table may have so many entries at most.
 const MOST: usize = 262_144;
 
 /// Places of numbers. Contracts speak of what is found at each number.

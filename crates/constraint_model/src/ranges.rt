@@ -37,7 +37,7 @@ fn ranges_of_rising(alloc: Global, numbers: &[i64]) -> Result<ListOf<(i64, i64)>
     Ok(ranges)
 }
 
-/// The ranges of the set of these numbers.
+/// The ranges of the set of these numbers. Errors: memory.
 #[tactic(auto, using(crate::proofs::RangeLaws::sorted_ranges))]
 pub fn ranges_of(alloc: Global, mut numbers: Vec<i64>) -> Result<SharedList<(i64, i64)>, AllocError>
     ensures { IfOk result (λ r. r ≡ ranges_of numbers.items) }
@@ -47,7 +47,7 @@ pub fn ranges_of(alloc: Global, mut numbers: Vec<i64>) -> Result<SharedList<(i64
     SharedList::from_vec(ranges.into_vec())
 }
 
-/// The ranges of the set of all numbers from `low` to `high`.
+/// The ranges of the set of all numbers from `low` to `high`. Errors: memory.
 pub fn range_of(alloc: Global, low: i64, high: i64) -> Result<SharedList<(i64, i64)>, AllocError>
     ensures { IfOk result (λ r. r ≡ range_of low high) }
 {

@@ -126,9 +126,9 @@ pub enum Letter {
     Booleans,
     /// An array of integer constants: the coefficients of a linear constraint.
     Coefficients,
-    /// An array of integer constants, each of which stands where a variable may.
+    /// An array of integer constants, each where a variable may be.
     Numbers,
-    /// An array of boolean constants, each of which stands where a variable may.
+    /// An array of boolean constants, each where a variable may be.
     Truths,
     /// An integer constant that isn't negative.
     Amount,
@@ -459,7 +459,7 @@ impl ConstraintName {
     }
 }
 
-/// Whether a boolean or an integer may stand at such an argument.
+/// Whether such an argument may be this boolean or integer.
 fn scalar_fits(letter: Letter, scalar: Scalar) -> bool
     ensures { result ≡ fits letter (Meaning.One scalar) }
 {
@@ -472,7 +472,7 @@ fn scalar_fits(letter: Letter, scalar: Scalar) -> bool
     }
 }
 
-/// Whether an array may.
+/// Whether it may be this array.
 fn row_fits(letter: Letter, array: &Array) -> bool
     ensures { result ≡ fits letter (Meaning.Row array.now) }
 {
@@ -487,7 +487,7 @@ fn row_fits(letter: Letter, array: &Array) -> bool
     }
 }
 
-/// Whether this may stand at such an argument.
+/// Whether such an argument may be this.
 pub fn fits(letter: Letter, meaning: &Meaning) -> bool
     ensures { result ≡ fits letter meaning.now }
 {
@@ -514,7 +514,7 @@ fn all_fit(letters: &[Letter], meanings: &[Meaning]) -> bool
     true
 }
 
-/// Whether three rows have one length.
+/// Whether three rows have the same length.
 fn are_alike(first: &Array, second: &Array, third: &Array) -> bool
     ensures { result ≡ (nat_eq (length first.now.entries) (length second.now.entries) && nat_eq (length first.now.entries) (length third.now.entries)) }
 {

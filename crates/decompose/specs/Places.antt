@@ -36,7 +36,7 @@ abbrev pub IsDeclared : ℕ → Term → Type 0
 IsDeclared count (Term.Number n) = Unit {0}
 IsDeclared count (Term.Var v) = v < count
 
--- each variable that stands at an argument is a declared one
+-- each variable in an argument is a declared one
 abbrev pub HasDeclared : ℕ → Operand → Type 0
 HasDeclared count (Operand.One t) = IsDeclared count t
 HasDeclared count (Operand.Row array) = All (IsDeclared count) array.terms

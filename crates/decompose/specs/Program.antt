@@ -1,7 +1,7 @@
 -- The program of a model: the box in which its solutions lie, and the kernels that must hold on them.
 --
 -- The variables of a program are numbered thus: 0 is the constant 1, which is also true; then come the declared variables
--- in their order; then each other number that stands where a variable may, in the order in which they first stand.
+-- in their order; then each other number that occurs where a variable may be, in the order of first occurrences.
 use Rattle.std.specs.Prelude.{◌≡◌, ◌↔◌, ℕ, ◌<◌, ℤ, pos, List, ◌∷◌, ◌++◌, length, map, sum_by, All}
 use Rattle.interval.specs.Limits.{IsNumber}
 use Rattle.interval.specs.Boxes.{Bounds, low_of, high_of, IsInRange, IsInside}

@@ -169,8 +169,8 @@ fn own_literals(
     Ok(Literals::from_list(SharedList::from_vec(literals)?))
 }
 
-/// The literals of a clause. Those of arrays whose lists no other constraint shares stand together, since they are read faster
-/// so.
+/// The literals of a clause. Those of arrays whose lists no other constraint shares are put into one list: so they are read
+/// faster.
 fn literals_of_clause(
     alloc: Global,
     places: &Places,

@@ -14,7 +14,7 @@ use list_of::ListOf;
 use shared_list::SharedList;
 use std::alloc::{AllocError, Global};
 
-/// What is said of two terms x and y: how x + sign * y is to the limit.
+/// What is said of two terms x and y: how x + sign * y compares with the limit.
 #[derive(Clone, Copy)]
 pub(crate) struct Comparison {
     /// The relation of the sum to the limit.

@@ -10,7 +10,7 @@ use constraint_model::{Constants, Constraint, FznModel, Goal, Term, add_constant
 use shared_list::SharedList;
 use std::alloc::{AllocError, Global};
 
-/// The numbers other than 1 that stand where variables may, each once, in the order in which they first stand, with
+/// The numbers other than 1 that occur where a variable may be, each once, in the order of their first occurrences, with
 /// their places; beside them the declared arrays.
 pub(crate) fn constant_set(alloc: Global, model: &FznModel) -> Result<Constants, AllocError>
     requires { HaveNumbers model.now.arrays model.now.constraints }

@@ -5,7 +5,7 @@
 //! a line of `row_of` (`specs/Kernels.antt`); that they mean it is a law a line (`proofs/`). A model has one program
 //! (`law_one_program`, `law_some_program`).
 //!
-//! It stands on `constraint_model` and `guarded_tell`, and runs nothing. That a long array's lists are made once isn't claimed.
+//! It builds on `constraint_model` and `guarded_tell`, and runs nothing. That a long array's lists are made once isn't claimed.
 //! Begin with `src/program.rt` and `src/start.rt`, where numbers become a box.
 #![tactic(auto)]
 

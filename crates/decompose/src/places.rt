@@ -30,9 +30,9 @@ pub(crate) const NEVER: Lit = Lit {
     positive: false,
 };
 
-/// For what the variables of a program stand: the constant 1, the declared variables, the other constants. There are so
-/// few of them that each has a number. Beside them stand the declared arrays, and what the propagators that name the same long
-/// one share; contracts don't see the latter.
+/// What the variables of a program represent: the constant 1, the declared variables, the other constants. There are so few
+/// of them that each has a number. Beside them are the declared arrays, and what the propagators that name the same long one
+/// share; contracts don't see the latter.
 #[derive(Drop)]
 pub(crate) struct Places {
     /// How many variables are declared.

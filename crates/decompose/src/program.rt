@@ -27,7 +27,7 @@ pub struct Program {
     pub kernels: ListOf<Kernel>,
 }
 
-/// The program of the model.
+/// The program of the model. Errors: memory.
 pub fn compile(alloc: Global, model: &FznModel) -> Result<Program, NoMemory>
     requires { IsWellFormed model.now }
     ensures { IfOk result (λ program. IsProgramOf model.now program) }

@@ -24,7 +24,7 @@ pub(crate) enum Relation {
     Equal,
 }
 
-/// What is said of some terms: how their sum, each times its coefficient, is to the limit.
+/// What is said of some terms: how their sum, each times its coefficient, compares with the limit.
 #[derive(Drop)]
 pub(crate) struct LinearComparison {
     /// The relation of the sum to the limit.
@@ -99,7 +99,7 @@ fn add_sum_of_row(
     Ok(())
 }
 
-/// Adds the kernel of a sum that must be so to a limit, or not.
+/// Adds the kernel of a sum that must compare so with a limit, or must not.
 pub(crate) fn sum(
     alloc: Global,
     places: &Places,
@@ -129,7 +129,7 @@ pub(crate) fn sum(
     }
 }
 
-/// Adds the kernel of a sum that is so to a limit exactly where a boolean is true, or isn't.
+/// Adds the kernel of a sum that compares so with a limit exactly where a boolean is true, or isn't.
 pub(crate) fn sum_reified(
     alloc: Global,
     places: &Places,

@@ -1,5 +1,5 @@
 -- What a hearer goes through when it is given a list of drops, in order. `may` says which drop it may be given, and
--- `hears` how it stands before and after one. A drop is a variable and a number that the variable can't have.
+-- `hears` what its states before and after one may be. A drop is a variable and a number that the variable can't have.
 use Rattle.std.specs.Prelude.{◌≡◌, ℕ, ℤ, Bool, true, false, List, [], ◌∷◌, ⊤}
 
 abbrev pub Drop : Type 0

@@ -1,5 +1,5 @@
 -- Which numbers a kernel removes on a box: for each place that it looks at a variable, and a test of the numbers that
--- this variable can't have. What the box must say for it stands in the test, so that the places are those of every box.
+-- this variable can't have. The test has what the box must say for it, so that the places are the same on every box.
 use Rattle.std.specs.Prelude.{ℕ, ℤ, pos, ◌-ℤ◌, Bool, not, ◌&&◌, ◌||◌, List, [], ◌∷◌, map}
 use Rattle.std.specs.Ordering.{int_eq}
 use Rattle.std.specs.List.{zip, list_any}
@@ -34,7 +34,7 @@ abbrev pub equation_removals : Lit → List Term → ℤ → Bounds → List Rem
 equation_removals l terms limit b =
     map (term_removal l limit (sum_over (least_of b) terms) (sum_over (greatest_of b) terms) b) terms
 
--- where the literal is sure the variable has no number outside the set, and where it is out none of the set
+-- the number is outside the set where the literal is sure, or in the set where the literal is out
 unfoldable pub is_against_set : Lit → List (ℤ × ℤ) → Bounds → ℤ → Bool
 is_against_set l ranges b z =
     (is_sure l b && not (list_any (has_number z) ranges)) || (is_out l b && list_any (has_number z) ranges)

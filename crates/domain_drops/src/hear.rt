@@ -4,10 +4,10 @@ ghost use Rattle.domain_drops.specs.Hearing.{Drop};
 
 /// Is given drops, one after the other.
 pub trait HearDrop {
-    // which drop it may be given as it stands
+    // which drop it may be given in the state that it is in
     ghost can_hear: { Self → Drop → Type 0 };
 
-    // how it stands before and after it heard a drop
+    // its states before and after it heard a drop
     ghost hears: { Self → Drop → Self → Type 0 };
 
     /// Takes one drop: the variable can't have the value.

@@ -1,7 +1,7 @@
 //! The numbers that kernels drop from the small domains of their variables, and what a mix is that none drops from.
 //!
 //! Exactly the drops of the definition, in order (`visit_drops`); none names a number of a closed mix inside (`law_drop`), and
-//! a mix of points is closed exactly where the relation holds (`law_drop_point`). It stands on `guarded_tell` and `bit_domain`.
+//! a mix of points is closed exactly where the relation holds (`law_drop_point`). It builds on `guarded_tell` and `bit_domain`.
 //! It isn't claimed that a propagator drops every number that it could. Begin with
 //! `specs/Removals.antt`.
 #![tactic(auto)]

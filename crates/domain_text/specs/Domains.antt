@@ -22,7 +22,7 @@ abbrev pub dom_text : Dom → List ℕ
 dom_text (Bits base set) = codes "{" ++ joined comma (map signed_decimal (values_from base set)) ++ codes "}"
 dom_text (Pair low high) = range_text (low, high)
 
--- the domain of a declared variable; the constant 1 stands before all of them
+-- the domain of a declared variable; the constant 1 comes before all of them
 abbrev pub declared_dom : Mix → ℕ → Dom
 declared_dom m v = dom_of m (v + 1)
 

@@ -21,7 +21,7 @@ use std::alloc::Global;
 use std::thread::Threads;
 
 /// The text of the domains that propagation by so many lanes, 1 to 64, leaves for the variables of a model; where it leaves
-/// none, the mark that there is no solution.
+/// none, the mark that there is no solution. Errors: memory.
 pub fn domains_of<R: Threads + Sync, G: Gate + Sync>(
     rt: &R,
     alloc: Global,

@@ -76,7 +76,7 @@ const SUMS_START: [(i8, i8); 4] = [(1, 1), (0, 10), (0, 10), (0, 14)];
 
 const SUMS_END: [i64; 8] = [1, 1, 0, 7, 0, 7, 0, 14];
 
-/// A cut of two kernels with an empty share, and with a kernel that stands in two.
+/// A cut of two kernels with an empty share, and with a kernel that is in two.
 fn overlapping(alloc: Global) -> Result<Vec<Vec<u32>>, AllocError>
     ensures { IfOk result (λ v. IsCut 2 v.items) }
 {

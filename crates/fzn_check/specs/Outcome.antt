@@ -1,4 +1,4 @@
--- What a check of two files owes: its statuses, each with its cause, and what it writes.
+-- What a check of two files promises: its statuses, each with its cause, and what it writes.
 use Rattle.std.specs.Prelude.{◌≡◌, ◌⊎◌, ℕ, List, [], ◌∷◌, ◌++◌, codes, Bool, Option, Some, None}
 use Rattle.fzn_io.specs.Faults.{CountRose}
 use Rattle.fzn_io.specs.Streams.{Adds, AddsFront, IsHeld, later_names}

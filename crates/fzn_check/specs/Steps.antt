@@ -18,7 +18,7 @@ status_in (Ending.Judged status line) = status
 status_in (Ending.Stopped status line) = status
 status_in (Ending.Plain status) = status
 
--- ---- an end whose status and line are known, or want of memory
+-- ---- an end whose status and line are known, or refused memory
 
 abbrev pub StopsWith : Status → List ℕ → Ending → Type 0
 StopsWith status text (Ending.Judged s line) = ⊥

@@ -24,6 +24,6 @@ names_meant names = (names.model.now, names.solutions.now)
 abbrev pub texts_of : List (String Global) → List Text
 texts_of = map string_bytes
 
--- The names of the two files, where the program's name stands first among the words; none where the command doesn't take them.
+-- The names of the two files, where the program's name is the first of the words; none where the command doesn't take them.
 abbrev pub names_of : List (String Global) → Option (Text × Text)
 names_of words = if is_empty (fault_of command (texts_of words)) then names_in (matches_of command (texts_of words)) else None

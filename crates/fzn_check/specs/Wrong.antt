@@ -31,7 +31,7 @@ abbrev pub IsWrong : FznModel → List ℤ → Wrong → Type 0
 IsWrong model a (Wrong.Outside v) = IsFirstOutside model.vars a v
 IsWrong model a (Wrong.Violates number) = IsFirstViolated model a number
 
--- nothing is wrong with a solution
+-- what is found is the first that is wrong with the numbers, or nothing, and then they are a solution
 abbrev pub IsFirstWrong : FznModel → List ℤ → Option Wrong → Type 0
 IsFirstWrong model a found = MatchOption found (IsSolution model a) (IsWrong model a)
 

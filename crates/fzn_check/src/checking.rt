@@ -57,7 +57,7 @@ fn first_failing(rt: &(impl Threads + Sync), model: &FznModel, solution: &[i64])
 }
 
 /// The first that is wrong with numbers for the variables: the first variable outside the bounds that it starts with, else the
-/// first constraint that doesn't hold, in the order of the model; none exactly where they are a solution.
+/// first constraint that doesn't hold, in the order of the model; none exactly where they are a solution. Errors: memory.
 pub fn first_wrong(
     rt: &(impl Threads + Sync),
     model: &FznModel,

@@ -3,7 +3,7 @@
 //!
 //! `check_main` is the program `fzncheck` but for its arguments, files and streams: each status is one that the texts give,
 //! with its line, or has its cause, and nothing else is written. `first_wrong` finds what a plain search in order finds,
-//! however many threads test. Whether a mark is true isn't judged. It stands on `model_text`, `fzn_print` and
+//! however many threads test. Whether a mark is true isn't judged. It builds on `model_text`, `fzn_print` and
 //! `constraint_check`. Begin with `specs/Endings.antt`.
 #![tactic(auto)]
 

@@ -1,4 +1,4 @@
--- A draft of the model as what stands of the text after some of its items.
+-- A draft of the model, as what some items of the text declare and ask for.
 use Rattle.std.specs.Prelude.{◌≡◌, ◌+◌, ℕ, List, [], ◌∷◌, ◌++◌, length, map, fold, flat_map, sum_by, Bool, true, false, not, ◌&&◌, cond, Option, Some, None, is_none, option_to_list}
 use Rattle.std.specs.List.{list_any}
 use Rattle.std.specs.Option.{option_or}
@@ -41,7 +41,7 @@ counted before more = record {
   kernels = before.kernels + sum_by kernels_of more.constraints;
 }
 
--- what an item adds stands, and was counted before
+-- what an item adds is appended; it was counted before
 abbrev pub put : Reading → Effect → Reading
 put before more = record {
   scope = before.scope ++ map (numbered (length before.arrays)) (option_to_list more.declared);
@@ -98,8 +98,8 @@ abbrev pub first_kind : List (FaultKind × Bool) → Option FaultKind
 first_kind [] = None
 first_kind (t ∷ ts) = cond t.1 (Some t.0) (first_kind ts)
 
--- the kinds of fault that an item may have by itself and against the declarations before it, but that it declares a name again, the
--- least first, with their tests
+-- the kinds of fault that an item may have by itself or by the declarations before it, all but `NameTwice`, the least first, with
+-- their tests
 abbrev pub later_kinds : List ℕ → Scope → WhatTree → List (FaultKind × Bool)
 later_kinds text scope what =
     (FaultKind.NameUnknown, has_leaf text scope FaultKind.NameUnknown what)
@@ -110,6 +110,6 @@ later_kinds text scope what =
     ∷ (FaultKind.TooMany, has_leaf text scope FaultKind.TooMany what)
     ∷ []
 
--- and with it, which is the least
+-- the same with `NameTwice`, which is the least
 abbrev pub own_kinds : List ℕ → Scope → WhatTree → List (FaultKind × Bool)
 own_kinds text scope what = (FaultKind.NameTwice, declares_again text scope what) ∷ later_kinds text scope what

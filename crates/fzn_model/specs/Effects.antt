@@ -1,4 +1,4 @@
--- What an item adds to the model, against the items before it.
+-- What an item adds to the model, after the items before it.
 -- (MiniZinc Handbook, FlatZinc: parameter declarations, variable declarations, constraints, the solve item.)
 use Rattle.std.specs.Prelude.{ℕ, ◌+◌, ℤ, pos, neg_ℤ, List, [], ◌∷◌, ◌++◌, map, length, Bool, true, false, cond, fold, flat_map, filter_map, sum_by, Option, Some, None, option_map, option_and_then, option_to_list, unwrap_or}
 use Rattle.std.specs.Option.{option_or}
@@ -28,7 +28,7 @@ use Rattle.fzn_model.specs.Outputs.{has_output_var, output_ranges}
 use Rattle.constraint_model.specs.Searches.{last_phase}
 use Rattle.fzn_model.specs.Searches.{phases_of}
 
--- what stands of a text after some of its items
+-- what some items of a text, from its first on, declare and ask for
 pub record Reading : Type 0 where
   pub scope : Scope
   pub vars : List VarDecl
@@ -37,7 +37,7 @@ pub record Reading : Type 0 where
   pub constraints : List Constraint
   pub output : List Output
   pub solved : Option (List Phase × Goal)
-  -- the distinct numbers other than 1 that stand where variables may, in the order in which they first stand
+  -- the distinct numbers other than 1 that occur where a variable may be, in the order of their first occurrences
   pub constants : List ℤ
   -- how many propagators the constraints are run as
   pub kernels : ℕ
@@ -55,7 +55,7 @@ abbrev pub with_number : ℕ → Meaning → Meaning
 with_number n (Meaning.Row array) = Meaning.Row (record { entries = array.entries; number = Some n })
 with_number n meaning = meaning
 
--- a declared name with what it stands for: an array gets this number
+-- a declared name with what it denotes: an array gets this number
 abbrev pub numbered : ℕ → List ℕ × Meaning → List ℕ × Meaning
 numbered n d = (d.0, with_number n d.1)
 
@@ -64,11 +64,11 @@ abbrev pub array_terms : Meaning → List (List Term)
 array_terms (Meaning.Row array) = map (λ s. s.term) array.entries ∷ []
 array_terms meaning = []
 
--- the terms of what a declared name stands for, where that is an array
+-- the terms of what a declared name denotes, where that is an array
 abbrev pub arrays_in : List ℕ × Meaning → List (List Term)
 arrays_in d = array_terms d.1
 
--- what an item adds stands behind what stood before, and a declared array is numbered by how many there were
+-- what an item adds comes behind what was there before, and a declared array is numbered by how many there were
 abbrev pub joined : Reading → Effect → Reading
 joined before more = record {
   scope = before.scope ++ map (numbered (length before.arrays)) (option_to_list more.declared);
@@ -198,7 +198,7 @@ array_effect text shape name notes value = record {
 
 -- ---- constraints and the solve item
 
--- what the arguments stand for, each that stands for something
+-- what the arguments denote; one that denotes nothing is left out
 abbrev pub meanings_of : List ℕ → Scope → List Expr → List Meaning
 meanings_of text scope args = filter_map (expr_meaning text scope) args
 
@@ -229,7 +229,7 @@ solve_effect text scope count notes aim = record {
   solved = Some (phases_of text scope notes ++ last_phase count ∷ [], goal_of text scope aim);
 }
 
--- what an item adds, against the declared names and so many declared variables
+-- what an item adds, after these declared names and so many declared variables
 unfoldable pub effect_of : List ℕ → Scope → ℕ → WhatTree → Effect
 effect_of text scope count (predicate_item tokens) = no_effect
 effect_of text scope count (scalar_item shape name notes value) = scalar_effect text count shape (spelling text name) notes (value_of text scope value)
@@ -240,6 +240,6 @@ effect_of text scope count (solve_item notes aim) = solve_effect text scope coun
 abbrev pub with_item : List ℕ → Reading → ItemTree → Reading
 with_item text before item = joined before (effect_of text before.scope (length before.vars) item.what)
 
--- what stands after these items
+-- what these items, in order, declare and ask for
 abbrev pub reading_of : List ℕ → List ItemTree → Reading
 reading_of text items = fold (with_item text) nothing items

@@ -1,4 +1,4 @@
--- Why an item is refused, against the items before it: the least kind of those whose tests it meets.
+-- Why an item is refused, after the items before it: the least kind of those whose tests it meets.
 use Rattle.std.specs.Prelude.{◌≡◌, ℕ, pos, List, [], ◌∷◌, ◌++◌, map, length, find, Bool, true, false, not, ◌&&◌, ◌||◌, nat_eq, nat_lt, is_some, is_none, Option, Some, None}
 use Rattle.std.specs.List.{list_any, list_all}
 use Rattle.std.specs.Ordering.{int_eq}
@@ -43,7 +43,7 @@ abbrev pub if_some : {A : Type 0} → (A → Bool) → Option A → Bool
 if_some test (Some x) = test x
 if_some test None = false
 
--- a boolean or an integer is of this type, or may stand in an array of such elements
+-- a boolean or an integer is of this type, or may be an entry of an array of such elements
 abbrev pub scalar_fits : Shape → Scalar → Bool
 scalar_fits Shape.Bool s = s.is_bool && is_constant s
 scalar_fits Shape.Int s = not s.is_bool && is_constant s
@@ -82,11 +82,11 @@ has_index_set text low high (Expr.One e) = false
 abbrev pub value_fits : List ℕ → Scope → (Meaning → Bool) → Expr → Bool
 value_fits text scope test e = if_some test (expr_meaning text scope e)
 
--- each argument stands for something
+-- each argument denotes something
 abbrev pub all_mean : List ℕ → Scope → List Expr → Bool
 all_mean text scope args = list_all (λ e. is_some (expr_meaning text scope e)) args
 
--- each argument stands for something, and together they fit a row of the constraint's
+-- each argument denotes something, and together they fit a row of the constraint's
 abbrev pub arguments_fit : List ℕ → Scope → List ℕ → List Expr → Bool
 arguments_fit text scope name args =
     all_mean text scope args && if_some (λ known. is_some (row_for known (meanings_of text scope args))) (named name)
@@ -135,14 +135,14 @@ is_too_large r = nat_lt most_vars (length r.vars) || nat_lt most_kernels r.kerne
 
 -- ---- the fault
 
--- the tests of an item by itself and against the declarations before it: those of its leaves, what doesn't fit, and
+-- the tests of an item by itself and by the declarations before it: those of its leaves, what doesn't fit, and
 -- its type
 abbrev pub own_tests : List ℕ → Scope → WhatTree → List (FaultKind × Bool)
 own_tests text scope what = map (leaf_test text scope) (leaves what)
     ++ (FaultKind.WrongArgument, not (is_unsupported what) && has_wrong_argument text scope what)
     ∷ (FaultKind.Unsupported, is_unsupported what) ∷ []
 
--- the tests of what an item adds, against all that stands before it
+-- the tests of what an item adds to what the items before it declare and ask for
 abbrev pub place_tests : Reading → Effect → List (FaultKind × Bool)
 place_tests before more =
     (FaultKind.TooMany, list_any has_long_row more.constraints || is_too_large (joined before more)) ∷ (FaultKind.AfterSolve, is_some before.solved) ∷ []
@@ -155,7 +155,7 @@ tells kind t = nat_eq (kind_number t.0) (kind_number kind) && t.1
 unfoldable pub least_kind : List (FaultKind × Bool) → Option FaultKind
 least_kind tests = find (λ kind. list_any (tells kind) tests) kinds
 
--- the least kind that an item has, against what stands before it
+-- the least kind of fault that an item has, after the items before it
 unfoldable pub fault_of : List ℕ → Reading → WhatTree → Option FaultKind
 fault_of text before what = least_kind (own_tests text before.scope what ++ place_tests before (effect_of text before.scope (length before.vars) what))
 

@@ -1,4 +1,4 @@
--- Hints of what names stand for, beside the declared names. A hint that is there says what these say; a name may lack one.
+-- Hints of what names denote, beside the declared names. A hint that is there says what these say; a name may lack one.
 use Rattle.std.specs.Prelude.{◌≡◌, ◌<◌, ℕ, List, take, All, Some}
 use Rattle.constraint_model.specs.declared.model.Term.{Term}
 use Rattle.constraint_model.specs.declared.meanings.Meaning.{Meaning}
@@ -11,10 +11,10 @@ name_in h = take h.length h.bytes
 abbrev pub meaning_in : Hint → Meaning
 meaning_in h = Meaning.One (record { is_bool = h.is_bool; term = Term.Var h.variable })
 
--- the hint's name, where it has one, stands for its variable
+-- the hint's name, where it has one, was declared and denotes the hint's variable
 abbrev pub IsRight : Scope → Hint → Type 0
 IsRight scope h = 0 < h.length → meaning_of scope (name_in h) ≡ Some (meaning_in h)
 
--- each of them is such a hint
+-- each of these hints is right
 abbrev pub AreRight : Scope → List Hint → Type 0
 AreRight scope hints = All (IsRight scope) hints

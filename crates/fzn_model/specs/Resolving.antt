@@ -11,7 +11,7 @@ use Rattle.fzn_model.specs.FaultKinds.{kind_number}
 use Rattle.fzn_model.specs.Effects.{Reading, reading_of}
 use Rattle.fzn_model.specs.Faults.{fault_of}
 
--- no item has a fault against the items before it
+-- no item has a fault after the items before it
 abbrev pub AreLawful : List ℕ → List ItemTree → Type 0
 AreLawful text items = (k : ℕ) (d : ItemTree) → k < length items → fault_of text (reading_of text (take k items)) (slice_index_or items k d).what ≡ None
 
@@ -40,7 +40,7 @@ pub record IsFirstFault (text : List ℕ) (items : List ItemTree) (kind at : ℕ
   pub is_kind : kind ≡ kind_number which
   pub first_byte : (d : ItemTree) → at ≡ (slice_index_or items place d).from
 
--- no item has a fault, and none is a solve item; the fault stands at the end of the text
+-- no item has a fault, and none is a solve item; the fault is at the end of the text
 pub record LacksSolve (text : List ℕ) (items : List ItemTree) (kind at : ℕ) : Type 0 where
   pub lawful : AreLawful text items
   pub unsolved : (reading_of text items).solved ≡ None

@@ -12,8 +12,8 @@ use Rattle.constraint_model.specs.Entries.{variables_in}
 use Rattle.fzn_model.specs.Scopes.{Scope, meaning_of}
 use Rattle.fzn_model.specs.Outputs.{is_spelled, both}
 
--- what a name among the variables stands for: one variable, or none where it is a constant or a set. An array, or a
--- name that wasn't declared, is no such name
+-- the variables that a name in an array of them denotes, by its meaning: one variable, or none where it is a constant or a set;
+-- no list where it is an array or wasn't declared
 abbrev pub variables_of_entry : Option Meaning → Option (List ℕ)
 variables_of_entry (Some (Meaning.One s)) = Some (variables_in (s ∷ []))
 variables_of_entry (Some (Meaning.Set ranges)) = Some []
@@ -56,7 +56,7 @@ val_sel_named word =
     else (if bytes_eq word (codes "indomain_reverse_split") then ValSel.ReverseSplit
     else ValSel.Min))
 
--- the selections by their names; whatever else stands there is read as any other name
+-- the selections by their names; anything else is read as an unknown name
 abbrev pub var_sel_of : List ℕ → ArgTree → VarSel
 var_sel_of text (note_arg (bare t)) = var_sel_named (spelling text t)
 var_sel_of text _ = VarSel.InputOrder

@@ -74,7 +74,8 @@ fn fits_type(shape: &Shape, meaning: &Option<Meaning>) -> bool
     }
 }
 
-/// What the value of an array stands for, and whether it is known that no entry passes a limit.
+/// What the value of an array denotes, and whether it is known that no entry passes a limit. Errors: the value doesn't fit the
+/// declaration; memory.
 fn read_row(
     alloc: Global,
     text: &[u8],
@@ -143,7 +144,7 @@ fn array_effect(
     Ok(())
 }
 
-/// Puts down what the declaration of an array adds, where its value fits; tells whether it is known that no entry passes a limit.
+/// Records what the declaration of an array adds, where its value fits; tells whether it is known that no entry passes a limit.
 pub(crate) fn read_array(
     alloc: Global,
     text: &[u8],

@@ -53,7 +53,7 @@ fn constraint_on(
     Ok(Constraint { name, operands })
 }
 
-/// What the arguments stand for, where each stands for something.
+/// What the arguments denote, where each denotes something.
 #[inline(always)]
 fn arguments(
     alloc: Global,
@@ -98,7 +98,7 @@ fn known_effect(
     one_constraint(alloc, constraint, effect)
 }
 
-/// Puts down what a constraint item adds, where its arguments fit.
+/// Records what a constraint item adds, where its arguments fit.
 #[inline(always)]
 pub(crate) fn read_constraint(
     alloc: Global,
@@ -177,7 +177,7 @@ fn read_goal(alloc: Global, text: &[u8], scope: &Scope, aim: &Aim) -> Result<Goa
     }
 }
 
-/// Puts down what the solve item adds, where its objective fits.
+/// Records what the solve item adds, where its objective fits.
 pub(crate) fn read_solve(
     alloc: Global,
     text: &[u8],

@@ -38,7 +38,7 @@ fn last_high(first: &(i64, i64), rest: &[(i64, i64)]) -> i64
     high
 }
 
-/// From the least to the greatest number of a set; 1 and 0 of the empty one.
+/// The least and the greatest number of a set; 1 and 0 for the empty one.
 fn hull(ranges: &[(i64, i64)]) -> (i64, i64)
     ensures { result ≡ effects.hull ranges.now }
 {

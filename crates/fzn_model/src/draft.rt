@@ -1,4 +1,4 @@
-//! What stands of a text after some of its items.
+//! The state of a model after some items of its text.
 
 ghost use Rattle.std.specs.Prelude.{◌≡◌, ◌+◌, ◌<◌, ◌≤◌, ◌++◌, cond, not, true, false, nat_lt, length, fold, flat_map, sum_by, option_to_list, MatchOption, IfOk, IfErr, None, OnOk, map};
 ghost use Rattle.std.specs.Option.{option_or};
@@ -32,7 +32,7 @@ use names::Name;
 use std::alloc::{AllocError, Global};
 use std::mem::replace;
 
-/// What stands of a text after some of its items.
+/// The state of a model after some items of its text: what these declare and ask for.
 #[derive(Drop)]
 pub(crate) struct Draft {
     /// The declared names.
@@ -45,7 +45,7 @@ pub(crate) struct Draft {
     pub(crate) output: ListOf<Output>,
     /// The phases of the search and the goal, behind the solve item.
     pub(crate) solved: Option<(ListOf<Phase>, Goal)>,
-    /// The numbers other than 1 that stand where variables may, and the terms of the declared arrays.
+    /// The numbers other than 1 that occur where a variable may be, and the terms of the declared arrays.
     pub(crate) constants: Constants,
     /// How many propagators the constraints are run as.
     pub(crate) kernels: u64,
@@ -154,7 +154,7 @@ fn declare(
     }
 }
 
-/// Puts a part at the end, where it is there.
+/// Appends a part, where there is one.
 #[inline(always)]
 fn push_part<T: Drop>(list: &mut ListOf<T>, part: &mut Option<T>) -> Result<(), AllocError>
     ensures { OnOk result (list.new ≡ list.old ++ option_to_list part.old) }
@@ -178,7 +178,7 @@ fn keep_solved(solved: &mut Option<(ListOf<Phase>, Goal)>, more: &mut Option<(Li
     }
 }
 
-/// Puts constraints behind others.
+/// Appends constraints to others.
 #[inline(always)]
 fn push_all(list: &mut ListOf<Constraint>, more: ListOf<Constraint>) -> Result<(), AllocError>
     ensures { OnOk result (list.new ≡ list.old ++ more) }
@@ -249,7 +249,7 @@ impl Draft {
         Ok(())
     }
 
-    /// Puts behind what stands what an item adds, which was counted, and tells whether it declares no name that was declared. A
+    /// Appends what an item adds, which was counted, and answers yes, where the item declares no name that was declared before. A
     /// declared array gets its number. Each part is taken where it is: an item lacks most of them, and these aren't moved.
     #[inline(always)]
     fn put(&mut self, alloc: Global, effect: &mut Effect) -> Result<bool, AllocError>
@@ -273,7 +273,7 @@ impl Draft {
         Ok(true)
     }
 
-    /// Counts what an item adds. Errors: the least fault of that against all that stands; memory.
+    /// Counts what an item adds. Errors: the least fault that this has after the items before; memory.
     #[inline(always)]
     fn place(&mut self, effect: &Effect) -> Result<(), Stop>
         requires vars { length self.old.vars ≤ limits.most_vars }
@@ -298,8 +298,8 @@ impl Draft {
         Ok(())
     }
 
-    /// Puts down what an item adds, and counts it. Errors: its least fault against what stands; memory. Where it has none but that it
-    /// declares a name again, that is left to be seen where the name is put.
+    /// Records what an item adds, and counts it. Errors: its least fault after the items before; memory. Where its only fault
+    /// is that it declares a name again, this is seen later, when the name is put.
     #[tactic(auto, unfolding(crate::specs::Faults::fault_of))]
     #[inline(always)]
     fn judge(
@@ -331,7 +331,7 @@ impl Draft {
         }
     }
 
-    /// Adds an item. Errors: its least fault against what stands; memory.
+    /// Adds an item. Errors: its least fault after the items before; memory.
     pub(crate) fn add(&mut self, alloc: Global, text: &[u8], item: &Item) -> Result<(), Stop>
         requires vars { length self.old.vars ≤ limits.most_vars }
         requires kernels { self.old.kernels ≤ limits.most_kernels }

@@ -7,7 +7,7 @@ use names::Name;
 /// What an item adds to the model.
 #[derive(Drop)]
 pub struct Effect {
-    /// The name that it declares, with what it stands for.
+    /// The name that it declares, with what it denotes.
     pub declared: Option<(Name, Meaning)>,
     /// The variable that it declares.
     pub var: Option<VarDecl>,

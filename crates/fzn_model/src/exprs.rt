@@ -1,4 +1,4 @@
-//! What expressions stand for, against the declarations before them.
+//! What expressions denote, by the declarations before them.
 
 ghost use Rattle.std.specs.Prelude.{◌≡◌, IfOk, IfSome, Some, true, false, map, option_map};
 ghost use Rattle.std.specs.List.{list_any};
@@ -95,7 +95,7 @@ fn integer(number: i64) -> Scalar
     }
 }
 
-/// What an array's entry stands for, where it is a boolean or an integer.
+/// What an array's entry denotes, where that is a boolean or an integer.
 #[inline(always)]
 fn entry_at(text: &[u8], scope: &Scope, entry: &Elem) -> Option<Scalar>
     ensures { result ≡ entry_at text.now scope.now entry.now }
@@ -109,7 +109,7 @@ fn entry_at(text: &[u8], scope: &Scope, entry: &Elem) -> Option<Scalar>
     }
 }
 
-/// What the entries of an array stand for, where each is a boolean or an integer.
+/// What the entries of an array denote, where each denotes a boolean or an integer.
 #[inline(always)]
 fn entries_at(
     alloc: Global,
@@ -155,7 +155,7 @@ fn row_at(
     }
 }
 
-/// What an array's entry stands for, where it is a boolean or an integer, and the profile has its literal.
+/// What an array's entry denotes, where that is a boolean or an integer, and the profile has its literal.
 #[inline(always)]
 fn sure_entry(text: &[u8], scope: &Scope, entry: &Elem) -> Option<Scalar>
     ensures { IfSome result (λ s. (entry_at text.now scope.now entry.now ≡ Some s)
@@ -171,7 +171,7 @@ fn sure_entry(text: &[u8], scope: &Scope, entry: &Elem) -> Option<Scalar>
     }
 }
 
-/// What the entries of an array stand for, where each is a boolean or an integer, and the profile has each literal.
+/// What the entries of an array denote, where each denotes a boolean or an integer, and the profile has each literal.
 #[inline(always)]
 fn sure_entries(
     alloc: Global,
@@ -191,8 +191,8 @@ fn sure_entries(
     Ok(Some(scalars))
 }
 
-/// What the value of an array stands for, and whether it is known that the profile has each literal of its entries: so they
-/// are read once.
+/// What the value of an array denotes, and whether it is known that the profile has each literal of its entries: so they are read
+/// once.
 #[tactic(auto, unfolding(crate::specs::Scopes::expr_meaning))]
 pub(crate) fn row_meaning(
     alloc: Global,
@@ -212,7 +212,7 @@ pub(crate) fn row_meaning(
     }
 }
 
-/// What a name stands for, where it was declared.
+/// What a name denotes, where it was declared.
 #[inline(always)]
 fn meaning_named(alloc: Global, scope: &Scope, name: &[u8]) -> Result<Option<Meaning>, AllocError>
     ensures { IfOk result (λ o. o ≡ meaning_of scope.now name.now) }
@@ -245,7 +245,7 @@ fn simple_at(
     }
 }
 
-/// What an expression stands for, where it is a boolean, an integer, an array of these or a set.
+/// What an expression denotes, where that is a boolean, an integer, an array of these or a set.
 #[tactic(auto, unfolding(crate::specs::Scopes::expr_meaning))]
 #[inline(always)]
 pub(crate) fn expr_meaning(

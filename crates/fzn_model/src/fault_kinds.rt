@@ -27,7 +27,7 @@ pub enum FaultKind {
     TooMany = 9,
     /// The text ends without a solve item.
     NoSolve = 10,
-    /// The item stands behind a solve item.
+    /// The item comes behind a solve item.
     AfterSolve = 11,
     /// The text is too long.
     TooLong = 12,

@@ -12,16 +12,16 @@ use std::alloc::{AllocError, Global};
 /// So many bytes a name with a hint may have.
 const MOST_BYTES: usize = 20;
 
-/// So many names there is room for at most.
+/// There is room for so many names at most.
 const MOST_NAMES: usize = 65_536;
 
-/// So many hints stand side by side, and so many of two such buckets may be the one of a name.
+/// So many hints lie side by side in a bucket; the hint of a name is in one of two buckets.
 const BUCKET: usize = 4;
 
 /// The golden ratio of 2 to the 64: numbers that lie side by side are far apart in the upper bits of their products with it.
 const SPREAD: u64 = 0x9e37_79b9_7f4a_7c15;
 
-/// A short name, and the variable that it stands for. Where the name has no bytes, it is the hint of none.
+/// A short name, and the variable that it denotes. Where the name has no bytes, it is the hint of none.
 #[derive(Clone, Copy)]
 pub(crate) struct Hint {
     bytes: [u8; MOST_BYTES],
@@ -78,7 +78,7 @@ impl Hint {
         }
     }
 
-    /// The hint of a name, where it is short and stands for a variable.
+    /// The hint of a name, where it is short and denotes a variable of a small enough number.
     pub(crate) fn of(name: &[u8], meaning: &Meaning) -> Option<Hint>
         ensures { IfSome result (λ h. (name_in h ≡ name.now) × (meaning_in h ≡ meaning.now)) }
     {
@@ -91,7 +91,7 @@ impl Hint {
         }
     }
 
-    /// The variable that its name stands for.
+    /// The variable that its name denotes.
     fn scalar(&self) -> Scalar
         ensures { Stands.One result ≡ meaning_in self.now }
     {
@@ -188,7 +188,7 @@ impl Hints {
         (bucket as usize ^ step) & self.room.wrapping_sub(1)
     }
 
-    /// The variable that a name stands for, where there is a hint.
+    /// The variable that a name denotes, where there is a hint.
     #[inline(always)]
     pub(crate) fn find(&self, name: &[u8]) -> Option<Scalar>
         ensures { (scope : Scope) → AreRight scope self.now.hints.items → IfSome result (λ s. meaning_of scope name.now ≡ Some (Stands.One s)) }

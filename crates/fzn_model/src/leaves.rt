@@ -32,7 +32,7 @@ pub enum Leaf {
     Entries(usize),
 }
 
-/// A kind of fault that is sought among the leaves of an item, against the declarations before it.
+/// A kind of fault that is sought among the leaves of an item, by the declarations before it.
 #[derive(Clone, Copy)]
 pub(crate) struct Sought<'a> {
     pub(crate) text: &'a [u8],

@@ -2,9 +2,9 @@
 //!
 //! Begin with `Resolver` (`src/taking.rt`), which takes the items one by one; `resolve` takes them whole and is used by laws
 //! and tests. Every list of items has one model or one fault, never both (`law_one_model`), and a model is well-formed
-//! (`law_well_formed`). `specs/Effects.antt` says what an item adds, `specs/Faults.antt` which faults it has. It stands on
-//! `fzn_parser` and `constraint_model`. How names are found is no matter of a contract: a body that never finds a hint is
-//! right, and slower.
+//! (`law_well_formed`). `specs/Effects.antt` says what an item adds, `specs/Faults.antt` which faults it has. It builds on
+//! `fzn_parser` and `constraint_model`. No contract says how fast names are found: a body that never finds a hint is right too,
+//! and slower.
 #![tactic(auto)]
 
 mod arrays;

@@ -15,7 +15,7 @@ pub const MOST_ENTRIES: usize = 65_536;
 /// The most propagators that the constraints of a model are run as.
 pub const MOST_KERNELS: u64 = 1_048_576;
 
-/// The most distinct numbers other than 1 that stand where variables may.
+/// The most distinct numbers other than 1 that occur where a variable may be.
 pub const MOST_CONSTANTS: usize = 131_072;
 
 /// Whether a constraint has a longer list than it may.

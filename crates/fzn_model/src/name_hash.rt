@@ -106,7 +106,7 @@ pub(crate) fn name_count(items: &[Item]) -> usize {
         .count()
 }
 
-/// The digest of all names that are declared. Behind each stands a blank, which no name has: where names could be cut in
+/// The digest of all names that are declared. A blank, which no name has, follows each: where names could be cut in
 /// another way for one digest, they could be cut so that they collide.
 fn names_digest(text: &[u8], items: &[Item]) -> [u8; 64] {
     let mut digest = Sha512::new();
@@ -124,7 +124,7 @@ pub(crate) fn name_hash(text: &[u8], items: &[Item]) -> NameHash {
     NameHash::of_digest(names_digest(text, items).as_slice())
 }
 
-/// The words of a text that stand where a name is declared, by which its names are hashed. No contract speaks of them.
+/// The words of a text in places where names are declared, by which its names are hashed. No contract speaks of them.
 #[derive(Drop)]
 pub struct Names {
     digest: Sha512,

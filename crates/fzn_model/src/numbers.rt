@@ -30,7 +30,7 @@ fn number_in(base: u32, digits: &[u8]) -> Option<u64>
     }
 }
 
-/// The number that decimal digits write; none where it may be long, or something else stands there.
+/// The number that decimal digits write; none where it may be above 999999999, there are no digits, or a byte is none.
 #[inline(always)]
 fn short_number(digits: &[u8]) -> Option<u64>
     ensures { IfSome result (λ n. (is_numeral 10 digits.now ≡ true) × (n ≡ digits_value 10 digits.now) × (n ≤ 999999999)) }

@@ -1,4 +1,4 @@
-//! What an item adds, where it has no fault against the declarations before it.
+//! What an item adds, where it has no fault by the declarations before it.
 
 ghost use Rattle.std.specs.Prelude.{◌≡◌, ◌≤◌, ◌&&◌, not, cond, true, false, length, is_none, None, Some, IfOk, IfErr, OnOk};
 ghost use Rattle.fzn_parser.specs.Items.{what_tree};
@@ -35,7 +35,7 @@ pub(crate) fn no_effect(alloc: Global) -> Effect
     }
 }
 
-/// Puts down what an item adds, where its arguments, its value or its objective fit; tells whether it is known that no entry of its
+/// Records what an item adds, where its arguments, its value or its objective fit; tells whether it is known that no entry of its
 /// array passes a limit.
 #[tactic(auto, unfolding(crate::specs::Effects::effect_of))]
 #[inline(always)]
@@ -174,7 +174,7 @@ fn declares_unseen(text: &[u8], scope: &Scope, what: &What, effect: &Effect) -> 
     effect.declared.is_none() && declares_again(text, scope, what)
 }
 
-/// Puts down what an item adds. Errors: its least fault against the declarations before it; memory. What fits uses nothing
+/// Records what an item adds. Errors: its least fault by the declarations before it; memory. What fits uses nothing
 /// that isn't known, so names are asked for once more only where something doesn't fit. Whether a name that it adds was declared is
 /// seen where the name is put, so it is looked up once.
 #[tactic(auto, using(crate::proofs::KnownLaws::fitting_names, crate::proofs::KnownLaws::fitting_constraint))]

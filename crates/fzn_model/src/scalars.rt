@@ -40,7 +40,7 @@ pub(crate) fn copy_name(alloc: Global, name: &[u8]) -> Result<ListOf<u8>, Stop>
     Ok(ListOf::from_vec(Vec::from_slice(alloc, name)?))
 }
 
-/// The term that something stands for, where it is a boolean or an integer.
+/// The term of a meaning that is a boolean or an integer.
 pub(crate) fn term_in(meaning: &Option<Meaning>) -> Option<Term>
     ensures { result ≡ effects.term_in meaning.now }
 {
@@ -59,7 +59,7 @@ fn fits_type(shape: &Shape, meaning: &Option<Meaning>) -> bool
     }
 }
 
-/// What the value of a declaration stands for.
+/// What the value of a declaration denotes, where there is one. Errors: it isn't of the declared type; memory.
 fn read_value(
     alloc: Global,
     text: &[u8],
@@ -129,7 +129,7 @@ fn variable(alloc: Global, text: &[u8], shape: &Shape, name: &[u8]) -> Result<Va
     })
 }
 
-/// Puts down what the declaration of a variable at this place adds.
+/// Records what the declaration of a variable at this place adds.
 fn variable_effect(
     alloc: Global,
     text: &[u8],
@@ -167,7 +167,7 @@ fn parameter_output(
     }
 }
 
-/// The name with what it stands for, where that is there.
+/// The name with its meaning, where there is one.
 pub(crate) fn named(
     alloc: Global,
     name: &[u8],
@@ -181,7 +181,7 @@ pub(crate) fn named(
     }
 }
 
-/// Puts down what the declaration of a parameter adds.
+/// Records what the declaration of a parameter adds.
 fn parameter_effect(
     alloc: Global,
     text: &[u8],
@@ -214,7 +214,7 @@ fn scalar_effect(
     }
 }
 
-/// Puts down what the declaration of a scalar adds, where its value fits.
+/// Records what the declaration of a scalar adds, where its value fits.
 pub(crate) fn read_scalar(
     alloc: Global,
     text: &[u8],

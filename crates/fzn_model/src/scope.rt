@@ -1,4 +1,4 @@
-//! What the declared names stand for.
+//! What the declared names denote.
 
 ghost use Rattle.std.specs.Prelude.{◌≡◌, [], ◌∷◌, ◌++◌, None, Some, true, is_none, is_some, option_and_then, IfOk, IfSome, OnErr};
 ghost use Rattle.std.specs.Option.{option_copied};
@@ -13,11 +13,11 @@ use names::Name;
 use std::alloc::{AllocError, Global};
 use std::marker::Model;
 
-/// The declared names, each with what it stands for. Contracts see them in the order of their declarations.
+/// The declared names, each with what it denotes. Contracts see them in the order of their declarations.
 #[derive(Drop)]
 pub(crate) struct Scope {
     entries: IndexMap<Name, Meaning, NameHash>,
-    /// What some of them stand for, once more: found faster, and asked first.
+    /// What some of them denote, once more: found faster, and asked first.
     hints: Hints,
 }
 
@@ -33,7 +33,7 @@ impl Model for Scope {
     ghost invariant = { λ s. AreRight s.entries.entries s.hints.hints.items };
 }
 
-/// The boolean or the integer that something stands for.
+/// The boolean or the integer that a meaning is.
 pub(crate) fn scalar_of(meaning: &Meaning) -> Option<Scalar>
     ensures { result ≡ scalar_of meaning.now }
 {
@@ -54,7 +54,7 @@ impl Scope {
         }
     }
 
-    /// The variable that `name` stands for, where there is a hint of it.
+    /// The variable that `name` denotes, where there is a hint of it.
     #[inline(always)]
     pub(crate) fn hinted(&self, name: &[u8]) -> Option<Scalar>
         ensures { IfSome result (λ s. meaning_of self.now name.now ≡ Some (Stands.One s)) }
@@ -62,7 +62,7 @@ impl Scope {
         self.hints.find(name)
     }
 
-    /// The boolean or the integer that `name` stands for.
+    /// The boolean or the integer that `name` denotes, where it was declared and denotes one.
     #[inline(always)]
     pub(crate) fn scalar(&self, name: &[u8]) -> Option<Scalar>
         ensures { result ≡ option_and_then scalar_of (meaning_of self.now name.now) }
@@ -73,7 +73,7 @@ impl Scope {
         }
     }
 
-    /// What `name` stands for, where it was declared.
+    /// What `name` denotes, where it was declared.
     pub(crate) fn meaning(&self, name: &[u8]) -> Option<&Meaning>
         ensures { option_copied result ≡ meaning_of self.now name.now }
     {
@@ -88,7 +88,8 @@ impl Scope {
         self.entries.contains_key(name)
     }
 
-    /// Adds a name, where it wasn't declared, and tells whether it wasn't. Where memory is refused, the names are as before.
+    /// Adds a name and answers yes, where it wasn't declared before. Where it was, it answers no, and nothing is said of what the
+    /// names denote then: the text has a fault. Errors: memory, and the names are as before.
     pub(crate) fn declare(&mut self, name: Name, meaning: Meaning) -> Result<bool, AllocError>
         ensures new { IfOk result (λ b. b ≡ is_none (meaning_of self.old name)) }
         ensures added { IfOk result (λ b. b ≡ true → self.new ≡ self.old ++ (name, meaning) ∷ []) }
@@ -98,7 +99,7 @@ impl Scope {
         self.hints.make()?;
         let before = self.entries.insert(name, meaning)?;
         if before.is_some() {
-            // The hint of the name may say what stood before. The text has a fault, and no hint is asked for any more.
+            // The name denotes the new meaning now, and its hint may say the old one. The text has a fault: no hint is needed.
             self.hints.clear();
             return Ok(false);
         }

@@ -18,7 +18,7 @@ use list_of::ListOf;
 use shared_list::SharedList;
 use std::alloc::{AllocError, Global};
 
-/// What one entry of an array literal adds to the variables, where it may stand there.
+/// What one entry of an array literal adds to the variables, where the entry is lawful there.
 fn entry_variable(text: &[u8], scope: &Scope, entry: &Arg) -> Option<Option<u32>>
     ensures { option_map option_to_list result ≡ entry_variables text.now scope.now (arg_tree entry.now) }
 {
@@ -33,7 +33,7 @@ fn entry_variable(text: &[u8], scope: &Scope, entry: &Arg) -> Option<Option<u32>
     }
 }
 
-/// The variables of an array literal, where each entry may stand there.
+/// The variables of an array literal, where each entry is lawful there.
 fn entries_variables(
     alloc: Global,
     text: &[u8],
@@ -298,7 +298,7 @@ fn numbers_below(alloc: Global, count: u32) -> Result<Vec<u32>, AllocError>
     Ok(numbers)
 }
 
-/// The phase of all declared variables, which stands last.
+/// The phase of all declared variables, which comes last.
 pub(crate) fn last_phase(alloc: Global, count: u32) -> Result<Phase, AllocError>
     ensures { IfOk result (λ phase. phase ≡ last_phase count) }
 {

@@ -13,7 +13,7 @@ use fzn_parser::tree::Item;
 use std::alloc::Global;
 use std::marker::Model;
 
-/// What stands of a text after those of its items that were taken. Contracts see what these items make.
+/// The state of a model after those items of its text that were taken. Contracts see what these items make.
 #[derive(Drop)]
 pub struct Resolver {
     draft: Draft,

@@ -17,7 +17,7 @@ use Rattle.fzn_print.specs.declared.marks.Mark.{Mark}
 abbrev pub line_end : List ℕ
 line_end = 10 ∷ []
 
--- what stands between the parts of a list
+-- the separator of the parts of a list
 abbrev pub comma : List ℕ
 comma = codes ", "
 

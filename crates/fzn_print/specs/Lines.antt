@@ -10,7 +10,7 @@ use Rattle.constraint_model.specs.Relations.{value}
 use Rattle.fzn_print.specs.AnswerText.{array_text, comma, joined, output_line, output_text, range_text, solution_text, term_text, value_text}
 use Rattle.fzn_print.specs.Reading.{AreValues, IsValue, terms_in}
 
--- a byte that may stand in a number
+-- a byte that may be part of a number
 abbrev pub is_number_byte : ℕ → Bool
 is_number_byte b = b == 45 || is_ascii_digit b
 
@@ -29,7 +29,7 @@ abbrev pub filled : List ℤ → List ℤ → List Term → List ℤ
 filled a values [] = values
 filled a values (t ∷ ts) = filled a (put_at values t (value a t)) ts
 
--- what stands before the entries of an array
+-- the text before the entries of an array
 abbrev pub head_text : List Range → List ℕ
 head_text ranges = codes "array" ++ decimal (length ranges) ++ codes "d(" ++ flat_map (λ range. range_text range ++ comma) ranges ++ codes "["
 

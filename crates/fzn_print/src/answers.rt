@@ -19,7 +19,7 @@ pub struct Answer {
     pub mark: Mark,
 }
 
-/// The text of an answer: its solutions, each with its end, and its mark.
+/// The text of an answer: its solutions, each with its end, and its mark. Errors: memory.
 pub fn print_answer(alloc: Global, model: &FznModel, answer: &Answer) -> Result<Vec<u8>, NoMemory>
     ensures { IfOk result (λ text. text.items ≡ answer_text model.now answer.now) }
 {

@@ -9,7 +9,7 @@ use constraint_model::Term;
 use itoa::Buffer;
 use std::alloc::AllocError;
 
-/// What stands between ranges and between entries.
+/// The separator between ranges and between entries.
 pub(crate) const COMMA: &[u8] = b", ";
 
 /// Adds an array.

@@ -1,7 +1,7 @@
 //! The text of an answer, the lines of its solutions and its mark; and from such a text back to the answer.
 //!
 //! `print_answer` writes exactly the text of the definition (`specs/AnswerText.antt`); `read_solutions` reads bytes as the one
-//! answer whose text they are, and refuses exactly those that are the text of none. It stands on `constraint_model` and
+//! answer whose text they are, and refuses exactly those that are the text of none. It builds on `constraint_model` and
 //! `interval`, and judges no solution.
 #![tactic(auto)]
 

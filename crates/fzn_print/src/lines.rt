@@ -22,7 +22,7 @@ fn put(values: &mut [i64], term: Term, number: i64)
     }
 }
 
-/// Reads the value of a term, and answers what stands behind it.
+/// Reads the value of a term into the values, where it is a variable, and answers the bytes behind it.
 fn read_term<'a>(is_bool: bool, term: Term, values: &mut [i64], rest: &'a [u8]) -> &'a [u8]
     ensures { ReadsTerm is_bool term rest.now result.now values.old values.new }
 {
@@ -55,7 +55,7 @@ fn read_entries<'a>(is_bool: bool, terms: &[Term], values: &mut [i64], rest: &'a
     }
 }
 
-/// What stands before the entries of an array.
+/// The text before the entries of an array.
 fn array_head(alloc: Global, ranges: &[(i64, i64)]) -> Result<Vec<u8>, AllocError>
     ensures { IfOk result (λ text. text.items ≡ head_text ranges.now) }
 {
@@ -84,7 +84,7 @@ fn read_array<'a>(
     Ok(behind(rest, b"])"))
 }
 
-/// Reads what stands behind the name of an output.
+/// Reads the value of an output behind its name, and answers the bytes behind that.
 fn read_output<'a>(
     alloc: Global,
     output: &Output,
@@ -111,7 +111,7 @@ fn read_output<'a>(
     }
 }
 
-/// What stands behind the name of an output, where it begins the bytes.
+/// The bytes behind the name of an output, where they begin with it.
 fn behind_name<'a>(output: &Output, rest: &'a [u8]) -> &'a [u8]
     ensures { (tail : List ℕ) → rest.now ≡ output_name output.now ++ tail → result.now ≡ tail }
 {

@@ -7,7 +7,7 @@ ghost use Rattle.fzn_print.specs.Lines.{ReadsNumber, ReadsValue, is_number_byte}
 
 use std::str;
 
-/// What stands behind the first `count` bytes.
+/// The bytes behind the first `count`; none where there are fewer.
 fn skip(rest: &[u8], count: usize) -> &[u8]
     ensures { result.now ≡ drop count rest.now }
 {
@@ -18,14 +18,14 @@ fn skip(rest: &[u8], count: usize) -> &[u8]
     }
 }
 
-/// What stands behind a text, where the bytes begin with it.
+/// The bytes behind a text, where they begin with it.
 pub(crate) fn behind<'a>(rest: &'a [u8], text: &[u8]) -> &'a [u8]
     ensures { (tail : List ℕ) → rest.now ≡ text.now ++ tail → result.now ≡ tail }
 {
     skip(rest, text.len())
 }
 
-/// What stands behind a text, or that the bytes don't begin with it.
+/// The bytes behind a text, or that they don't begin with it.
 pub(crate) fn strip<'a>(rest: &'a [u8], text: &[u8]) -> Option<&'a [u8]>
     ensures { MatchOption result ((tail : List ℕ) → rest.now ≡ text.now ++ tail → ⊥) (λ after. rest.now ≡ text.now ++ after.now) }
 {
@@ -36,14 +36,14 @@ pub(crate) fn strip<'a>(rest: &'a [u8], text: &[u8]) -> Option<&'a [u8]>
     if front == text { Some(after) } else { None }
 }
 
-/// Whether a byte may stand in a number.
+/// Whether a byte may be part of a number.
 fn is_number_byte(byte: u8) -> bool
     ensures { result ≡ is_number_byte byte }
 {
     byte == b'-' || byte.is_ascii_digit()
 }
 
-/// How many bytes at the front may stand in a number.
+/// How many bytes at the front may be part of a number.
 #[tactic(auto, using(std::proofs::lemmas::List::Sums::position_or_len_is))]
 fn number_len(rest: &[u8]) -> usize
     ensures value { result ≡ position_or_len (λ b. not (is_number_byte b)) rest.now }
@@ -70,7 +70,7 @@ fn number_in(piece: &[u8]) -> i64
     number
 }
 
-/// The number at the front, and what stands behind it.
+/// The number at the front, and the bytes behind it.
 fn read_number(rest: &[u8]) -> (i64, &[u8])
     ensures { ReadsNumber rest.now result.0 result.1.now }
 {
@@ -78,7 +78,7 @@ fn read_number(rest: &[u8]) -> (i64, &[u8])
     (number_in(piece), after)
 }
 
-/// The boolean at the front, and what stands behind it.
+/// The boolean at the front, and the bytes behind it.
 fn read_truth(rest: &[u8]) -> (i64, &[u8])
     ensures { ReadsValue true rest.now result.0 result.1.now }
 {
@@ -88,7 +88,7 @@ fn read_truth(rest: &[u8]) -> (i64, &[u8])
     }
 }
 
-/// The value at the front, and what stands behind it.
+/// The value at the front, and the bytes behind it.
 pub(crate) fn read_value(rest: &[u8], is_bool: bool) -> (i64, &[u8])
     ensures { ReadsValue is_bool rest.now result.0 result.1.now }
 {

@@ -74,7 +74,7 @@ fn is_mark(bytes: &[u8], mark: Mark) -> bool
     bytes == mark_text(mark).as_bytes()
 }
 
-/// A solution at the front of the bytes and what stands behind it, where there is one. `values` has room for a number of each
+/// A solution at the front of the bytes and the bytes behind it, where there is one. `values` has room for a number of each
 /// variable; what it holds makes no difference.
 fn read_solution<'a>(
     alloc: Global,

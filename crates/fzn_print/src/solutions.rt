@@ -12,7 +12,7 @@ use std::alloc::{AllocError, Global};
 /// What ends a solution.
 const SOLUTION_END: &[u8] = b"----------\n";
 
-/// The text of a solution: a line for each output of the model, and dashes.
+/// The text of a solution: a line for each output of the model, and dashes. Errors: memory.
 pub fn print_solution(
     alloc: Global,
     model: &FznModel,
@@ -49,7 +49,7 @@ fn push_line(text: &mut Vec<u8>, output: &Output, solution: &[i64]) -> Result<()
     text.extend_from_slice(b";\n")
 }
 
-/// Adds what stands behind the name of an output.
+/// Adds the value of an output, the text behind its name.
 fn push_output(text: &mut Vec<u8>, output: &Output, solution: &[i64]) -> Result<(), AllocError>
     ensures { OnOk result (text.new.items ≡ text.old.items ++ output_text solution.now output.now) }
 {

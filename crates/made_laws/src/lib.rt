@@ -1,6 +1,6 @@
 //! The made texts are models: each is read to the end, and what it means has a solution.
 //!
-//! Laws alone: `law_made_has_a_model`, for each number of variables from 2 to 2000. It stands on `made_model` and `fzn_model`.
+//! Laws alone: `law_made_has_a_model`, for each number of variables from 2 to 2000. It builds on `made_model` and `fzn_model`.
 #![tactic(auto)]
 
 ghost use Rattle.made_laws.specs.Models.{MadeHasModel};

@@ -2,7 +2,7 @@
 //! in that there is none. Each lane runs its share of the kernels, tells and drops, a round ends when all lanes are done, and
 //! propagation ends with a round in which no lane saw a number go, or in which some variable has no number left.
 //!
-//! Begin with `propagate_mix`. It stands on `mix_store`, `domain_drops`, `shared_lanes`, `fixpoint_laws` and `gate`.
+//! Begin with `propagate_mix`. It builds on `mix_store`, `domain_drops`, `shared_lanes`, `fixpoint_laws` and `gate`.
 #![tactic(auto)]
 
 mod asking;

@@ -125,7 +125,7 @@ fn settle<R: Threads + Sync, G: Gate + Sync>(
     }
 }
 
-/// The greatest closed mix inside a start, or that there is none.
+/// The greatest closed mix inside a start, or that there is none. Errors: memory.
 pub fn propagate_mix<R: Threads + Sync, G: Gate + Sync>(
     rt: &R,
     alloc: Global,

@@ -1,5 +1,5 @@
 -- What a text means: its model, or its first fault. Reading takes the whole text's tokens first, then its items, then
--- what they mean: a fault of an earlier step comes before one of a later step, wherever the two stand in the text.
+-- what they mean: a fault of an earlier step comes before one of a later step, wherever the two are in the text.
 use Rattle.std.specs.Prelude.{◌≡◌, ◌⊎◌, ◌≤◌, ◌<◌, ◌+◌, ◌==◌, ℕ, nat_eq, if◌then◌else◌, List, length, take, count_by}
 use Rattle.fzn_lexer.specs.declared.Token.{Token}
 use Rattle.fzn_lexer.specs.Lexing.{LexesAs, FaultsAt as IsNoToken}
@@ -43,13 +43,14 @@ pub record IsTooLong (text : List ℕ) (kind at : ℕ) : Type 0 where
   pub is_kind : kind ≡ too_long
   pub first : at ≡ 0
 
--- at this byte no token begins
+-- the text isn't too long; up to this byte it is cut into tokens, blanks and comments, and none of these begins there
 pub record LacksToken (text : List ℕ) (kind at : ℕ) : Type 0 where
   pub short : length text ≤ most_bytes
   pub fault : IsNoToken text at
   pub is_kind : kind ≡ no_token
 
--- at this byte no item begins
+-- the text isn't too long and is cut into tokens; after some items, maybe none, the stretch of these that begins at this byte
+-- reads as no item
 pub record LacksItem (text : List ℕ) (kind at : ℕ) : Type 0 where
   pub short : length text ≤ most_bytes
   pub tokens : List Token
@@ -57,7 +58,7 @@ pub record LacksItem (text : List ℕ) (kind at : ℕ) : Type 0 where
   pub fault : IsNoItem text tokens at
   pub is_kind : kind ≡ no_item
 
--- the items have no model
+-- the text isn't too long and reads as items, and these have this fault
 pub record LacksModel (text : List ℕ) (kind at : ℕ) : Type 0 where
   pub short : length text ≤ most_bytes
   pub items : List ItemTree

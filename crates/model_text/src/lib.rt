@@ -1,8 +1,8 @@
 //! The text of a file: its model, or its first fault and the line that says it.
 //!
-//! `read_model` is the one call: it goes over all tokens, then takes the items one by one, so neither stand in memory at once.
+//! `read_model` is the one call: it goes over all tokens, then takes the items one by one, so neither are in memory all at once.
 //! Every text has one model or one fault, never both (`law_one_text`). `line_of` and `print_refusal` say the fault's line. It
-//! stands on `fzn_model` and `fzn_io`. Begin with `specs/Texts.antt`.
+//! builds on `fzn_model` and `fzn_io`. Begin with `specs/Texts.antt`.
 #![tactic(auto)]
 
 mod laws;

@@ -17,7 +17,7 @@ fn name_of_kind(kind: u8) -> &'static str
     }
 }
 
-/// The line that says a fault of this kind, on this line of the text.
+/// The line that says a fault of this kind, on this line of the text. Errors: memory.
 pub fn print_refusal(alloc: Global, kind: u8, line: u64) -> Result<Vec<u8>, AllocError>
     ensures { IfOk result (λ bytes. bytes.items ≡ refusal_line kind line) }
 {

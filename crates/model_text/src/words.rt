@@ -1,4 +1,4 @@
-//! The words of a text that stand where a name may be declared.
+//! The words of a text in places where a name may be declared.
 //!
 //! They are found before the text is read, by its colons. Else nothing is looked at closer but comments and string literals,
 //! since a colon in them tells of no name. No contract speaks of these words, as none speaks of how names are hashed.
@@ -18,7 +18,7 @@ fn ended<'a>(text: &'a [u8], word: &Token) -> &'a [u8] {
     }
 }
 
-/// Keeps the word behind the colon that stands before `from`; gives the place behind what was seen.
+/// Keeps the word behind the colon before `from`; gives the place behind what was seen.
 fn behind_colon(text: &[u8], from: usize, names: &mut Names) -> usize
     requires { from ≤ length text.now }
     ensures { from ≤ result }

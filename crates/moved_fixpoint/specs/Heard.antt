@@ -39,7 +39,7 @@ pub record IsHeard (b : Bounds) (progress : Progress) (t : Tell) (after : Bounds
   pub put : GoesOn progress → Narrows b t →
       HasPut progress_after b t.var (told_low b t.side t.var t.bound) (told_high b t.side t.var t.bound) after
 
--- where the joining of tells stands: the box and the round's progress
+-- how far the joining of tells has come: the box and the round's progress
 pub record Joined : Type 0 where
   pub box : Bounds
   pub progress : Progress
@@ -47,6 +47,6 @@ pub record Joined : Type 0 where
 abbrev pub joined : Bounds → Progress → Joined
 joined b p = record { box = b; progress = p }
 
--- a tell is heard there
+-- a tell is heard in such a state
 abbrev pub Hears : Joined → Tell → Joined → Type 0
 Hears j t after = IsHeard j.box j.progress t after.box after.progress

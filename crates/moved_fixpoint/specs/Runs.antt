@@ -55,7 +55,7 @@ pub record HasVisited (kernels : List Kernel) (i : ℕ) (kernel : Kernel) (befor
   pub proper : GoesOn p_after → IsProper before → IsProper after
   pub crossed : p_after ≡ Crossed → (p ≡ Crossed) ⊎ IsCrossed after
 
--- the kernel at a place was
+-- the kernel at a place was run so
 abbrev pub KernelRuns : List Kernel → ℕ → Bounds → Set → Rests → Progress → Bounds → Set → Rests → Progress → Type 0
 KernelRuns kernels i before asked rests p after asked_after rests_after p_after =
     (k : Kernel) → HasVisited kernels i (slice_index_or kernels i k) before asked rests p after asked_after rests_after p_after

@@ -3,10 +3,10 @@
 //!
 //! `settle_proper` and `settle_moved` end as propagation by one thread does: with the greatest closed box inside, or that there
 //! is none, or after as many rounds as the limit says; where memory is refused the box holds every closed box that it held. A
-//! caller has to note what moved: each kernel that names no noted variable has to be quiet (`law_quiet_unless_moved`). Which
-//! kernels are passed over no clause says.
+//! caller has to note what moved: each kernel that names no noted variable has to be quiet (`law_quiet_unless_moved`). No
+//! clause says which kernels are passed over.
 //!
-//! It stands on `fixpoint_laws`, `trailed_box` and `moved_set`. It is no queue, and nothing is woken: a set says who may be
+//! It builds on `fixpoint_laws`, `trailed_box` and `moved_set`. There is no queue of woken kernels: sets say which ones may be
 //! passed over. Begin with `src/settle.rt`, then `src/round.rt` and `src/running.rt`.
 #![tactic(auto)]
 

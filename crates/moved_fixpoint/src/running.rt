@@ -95,8 +95,8 @@ pub(crate) fn run_kernel(
     }
 }
 
-/// The same of a kernel of which its shape doesn't say that it narrows nothing: it may say what its one tell is. This stands
-/// apart, so that a visit that narrows nothing keeps no room for it.
+/// The same of a kernel of which its shape doesn't say that it narrows nothing: it may say what its one tell is. It is a
+/// function of its own, so that a visit that narrows nothing keeps no room for it.
 #[inline(never)]
 fn run_told(
     kernels: &[Kernel],
@@ -126,8 +126,8 @@ fn run_told(
     }
 }
 
-/// The same of an equation of three terms. Its shape is written down anew, so that nothing that another may say is
-/// kept room for.
+/// The same of an equation of three terms. Its shape is made anew, so that no room is kept for what another may
+/// say.
 #[inline(never)]
 fn run_three(
     kernels: &[Kernel],

@@ -30,7 +30,7 @@ pub struct MovedSets {
 }
 
 impl MovedSets {
-    /// No variable of so many moved, no kernel of so many is asked, and none rests for good.
+    /// No variable of so many moved, no kernel of so many is asked, and none rests for good. Errors: memory.
     pub fn new(alloc: Global, count: u32, kernels: usize) -> Result<MovedSets, NoMemory>
         ensures moved { IfOk result (λ s. IsEmpty s.moved) }
         ensures asked { IfOk result (λ s. IsEmpty s.asking.asked) }

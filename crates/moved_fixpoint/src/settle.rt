@@ -110,7 +110,7 @@ fn run_rounds(
 /// variable moved since their last visit and that don't rest, until a round moves nothing. Where no closed box is inside, the
 /// box ends crossed. After `round_limit` rounds (0: no limit) it stops. Each kernel that names none of the variables of
 /// `sets.moved` has to be quiet on the box, and those that aren't open or alert to rest; that set is empty then, and no kernel
-/// is asked. The stacks stay as they are.
+/// is asked. The stacks stay as they are. Errors: memory.
 pub fn settle_proper(
     b: &mut TrailedBox,
     kernels: &[Kernel],
@@ -141,7 +141,7 @@ pub fn settle_proper(
     run_rounds(b, kernels, masks, &mut sets.asking, round_limit)
 }
 
-/// Narrows the box of `b` in the same way, which may be crossed.
+/// Narrows the box of `b` in the same way, which may be crossed. Errors: memory.
 pub fn settle_moved(
     b: &mut TrailedBox,
     kernels: &[Kernel],

@@ -1,4 +1,4 @@
--- Kernels' variables in two parts: a list that a kernel may have with others, and those before and behind it, its own.
+-- Kernels' variables in two parts: a list that a kernel may share with others, and its own, which are those before and behind it.
 use Rattle.std.specs.Prelude.{◌≡◌, ℕ, zero, suc, ◌<◌, ◌≤◌, ◌+◌, ◌-◌, ◌*◌, ◌⊎◌, ◌++◌, List, [], ◌∷◌, length, map, take, drop, cond, slice_index, slice_index_or, Contains}
 use Rattle.guarded_tell.specs.declared.kernel.Kernel.{Kernel}
 use Rattle.guarded_tell.specs.Words.{Side, Low, High}
@@ -18,13 +18,13 @@ list_at lists l = slice_index_or lists l []
 abbrev pub part_at : List Part → ℕ → Part
 part_at parts j = slice_index_or parts j (record { before = 0; list = 0 })
 
--- behind so many first variables stands the list, and there may be others behind it
+-- the list comes right behind the first `before` variables, and others may follow it
 pub record HasList (vars : List ℕ) (before : ℕ) (list : List ℕ) : Type 0 where
   pub within : before + length list ≤ length vars
   pub parted : vars ≡ take before vars ++ list ++ drop (before + length list) vars
 
--- the part's list is one of the lists, and stands right behind the first `before` of the variables. Where it is the empty
--- one, all variables are the kernel's own
+-- the part's list is one of the lists, and comes right behind the first `before` variables. Where it is the empty one, all
+-- variables are the kernel's own
 pub record IsPart (vars : List ℕ) (lists : List (List ℕ)) (part : Part) : Type 0 where
   pub there : part.list < length lists
   pub has : HasList vars part.before (list_at lists part.list)
@@ -73,10 +73,10 @@ own_keys_at kernels lists parts j = slice_index_or (map (own_keys lists (part_at
 
 -- ---- while they are built
 
--- the list is put behind the others, or they stay
+-- the list is appended to the lists, or they stay as they were
 abbrev pub Grows : List ℕ → List (List ℕ) → List (List ℕ) → Type 0
 Grows list old new = (new ≡ old) ⊎ (new ≡ old ++ list ∷ [])
 
--- a list that stands among the variables is put behind the others, or they stay
+-- a list of consecutive variables among these is appended to the lists, or they stay as they were
 abbrev pub GrowsBy : List ℕ → List (List ℕ) → List (List ℕ) → Type 0
 GrowsBy vars old new = (new ≡ old) ⊎ ((before : ℕ) × (list : List ℕ) × HasList vars before list × (new ≡ old ++ list ∷ []))

@@ -17,7 +17,7 @@ pub record AreRowsTo (keys : ℕ → List ℕ) (to count : ℕ) (rows : List (Ve
 
 -- ---- while they are built
 
--- the number is put behind the row, or it stands there already
+-- the number is appended to the row, or the row has it already and stays as it was
 abbrev pub PutsOnce : ℕ → List ℕ → List ℕ → Type 0
 PutsOnce j old new = (new ≡ old ++ j ∷ []) ⊎ ((new ≡ old) × Contains old j)
 

@@ -34,7 +34,7 @@ impl Model for AskedSet {
 }
 
 impl AskedSet {
-    /// The empty set of so many kernels. More than there can be in memory count as want of it.
+    /// The empty set of so many kernels. More than there can be in memory count as refused memory.
     pub fn new(alloc: Global, count: usize) -> Result<AskedSet, NoMemory>
         ensures { IfOk result (λ s. s ≡ replicate count false) }
     {
@@ -52,7 +52,7 @@ impl AskedSet {
         self.count
     }
 
-    /// Takes all kernels off.
+    /// Takes all kernels out of the set.
     pub fn clear(&mut self)
         ensures { self.new ≡ replicate (length self.old) false }
     {
@@ -66,7 +66,7 @@ impl AskedSet {
         self.words.as_mut_slice().fill(u32::MAX);
     }
 
-    /// Takes a kernel off.
+    /// Takes a kernel out of the set.
     pub fn forget(&mut self, j: usize)
         requires { j < length self.old }
         ensures { self.new ≡ slice_set self.old j false }

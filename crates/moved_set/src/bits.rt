@@ -156,7 +156,7 @@ fn greatest_at(bits: u32, place: usize) -> usize
     place * 32 + (32 - bits.leading_zeros() as usize)
 }
 
-/// Gives each word the bits of the masks of its place too.
+/// Adds to the words the numbers of the masks.
 pub(crate) fn unite_masks(words: &mut [u32], row: &[Mask])
     requires { All (λ m. m.place < length words.old) row.now }
     ensures { (j : ℕ) → has words.new j ≡ (has words.old j || names row.now j) }
@@ -166,7 +166,7 @@ pub(crate) fn unite_masks(words: &mut [u32], row: &[Mask])
     }
 }
 
-/// Gives each word the bits of the masks of its place too, as far as the other words have them.
+/// Adds to the words those numbers of the masks that the wanted words have.
 pub(crate) fn unite_masks_in(words: &mut [u32], row: &[Mask], wanted: &[u32])
     requires row { All (λ m. m.place < length words.old) row.now }
     requires wanted { All (λ m. m.place < length wanted.now) row.now }
@@ -177,7 +177,7 @@ pub(crate) fn unite_masks_in(words: &mut [u32], row: &[Mask], wanted: &[u32])
     }
 }
 
-/// Gives each word the bits of the masks of its place too, as far as both others have them.
+/// Adds to the words those numbers of the masks that both other lists of words have.
 pub(crate) fn unite_masks_in_both(words: &mut [u32], row: &[Mask], one: &[u32], other: &[u32])
     requires row { All (λ m. m.place < length words.old) row.now }
     requires one { All (λ m. m.place < length one.now) row.now }
@@ -209,7 +209,7 @@ pub(crate) fn has_bit_at(words: &[u32], j: usize) -> bool
     (words[j / 32] >> (j % 32)) & 1 == 1
 }
 
-/// Gives the word of a mask its bits too.
+/// Adds to the words the numbers of a mask.
 fn unite_mask(words: &mut [u32], mask: Mask)
     requires { mask.place < length words.old }
     ensures { (j : ℕ) → has words.new j ≡ (has words.old j || hits j mask) }

@@ -70,7 +70,7 @@ impl Groups {
         between(self.starts.as_slice(), self.masks.as_slice(), i, 3)
     }
 
-    /// Puts a list behind the others.
+    /// Appends a list to the others.
     pub(crate) fn push(&mut self, group: &[Mask]) -> Result<(), NoMemory>
         ensures { OnOk result (self.new ≡ self.old ++ group.now ∷ []) }
     {

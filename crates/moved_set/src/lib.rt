@@ -1,7 +1,7 @@
 //! Sets of variables and of kernels, and for each variable the kernels that name it.
 //!
 //! `Masks::ask` puts exactly the kernels that name a variable into a set besides those that it had; `AskedSet::next` finds
-//! exactly the next one. Contracts see sets as lists of booleans. It stands on `guarded_tell`. That a list which several
+//! exactly the next one. Contracts see sets as lists of booleans. It builds on `guarded_tell`. That a list which several
 //! kernels have is kept once, and how many words are looked at, isn't claimed. Begin with `src/masks.rt`.
 #![tactic(auto)]
 

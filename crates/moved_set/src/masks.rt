@@ -1,5 +1,5 @@
 //! For each variable the kernels that name it, as masks: those of which it is an own variable, by the bounds by which they are
-//! asked, and those that have a list that it is in, which stand once for each list.
+//! asked, and those that have a list that it is in, which are kept once for each list.
 
 ghost use Rattle.std.specs.Prelude.{◌≡◌, ◌<◌, ◌≤◌, ◌+◌, ◌*◌, ◌^◌, ◌&&◌, ◌||◌, ℕ, false, length, slice_index_or, All, IfOk};
 ghost use Rattle.std.specs.Bool.{OnTrue};
@@ -57,7 +57,7 @@ impl Model for Masks {
 
 impl Masks {
     /// The masks of these kernels, which name some of the first `count` variables. 2^32 kernels or 2^30
-    /// variables count as want of memory.
+    /// variables count as refused memory.
     pub fn new(alloc: Global, kernels: &[Kernel], count: u32) -> Result<Masks, NoMemory>
         requires { All (IsKernel count) kernels.now }
         ensures count { IfOk result (λ m. m.count ≡ count) }

@@ -1,4 +1,4 @@
-//! Kernels' variables in two parts: a list that a kernel may have with others, and those before and behind it, which are
+//! Kernels' variables in two parts: a list that a kernel may share with others, and those before and behind it, which are
 //! its own. What is kept for each variable of a list is then kept once, however many kernels have the list.
 
 ghost use Rattle.std.specs.Prelude.{ℕ, ◌≡◌, ◌≢◌, ◌<◌, ◌≤◌, ◌-◌, ◌++◌, [], ◌∷◌, drop, length, slice_index_or, All, IsTrue, IfOk, OnOk, IfSome};
@@ -12,17 +12,17 @@ use shared_list::SharedList;
 use std::alloc::{AllocError, Global};
 use std::collections::BTreeMap;
 
-/// Where a kernel's list stands: behind so many variables of its own. Those behind the list, up to the end, are its own too.
-/// The first list is empty, for kernels that have none with others.
+/// Where a kernel's list is: behind so many variables of its own. Those behind the list, up to the end, are its own too. The
+/// first list is empty, for kernels that share none with others.
 #[derive(Clone, Copy)]
 pub(crate) struct Part {
-    /// How many of the kernel's variables stand before the list.
+    /// How many of the kernel's variables come before the list.
     pub(crate) before: usize,
     /// The place of the list among the lists.
     pub(crate) list: usize,
 }
 
-/// Lists, and where the list of each mark stands.
+/// Lists, and the place of the list of each mark.
 #[derive(Drop)]
 struct Lists {
     items: Vec<SharedList<u32>>,
@@ -38,7 +38,7 @@ pub(crate) struct Parts {
     pub(crate) lists: Vec<SharedList<u32>>,
 }
 
-/// How many of a kernel's variables stand before the list that it may have with others, and this list.
+/// How many of a kernel's variables come before the list that it may share with others, and this list.
 #[tactic(auto, unfolding(guarded_tell::specs::Kernels::vars_of))]
 fn long_list(kernel: &Kernel) -> Option<(usize, &SharedList<u32>)>
     ensures { IfSome result (λ found. HasList (vars_of kernel.now) found.0 found.1.now) }
@@ -77,7 +77,7 @@ fn long_list_of_clause(lits: &Literals) -> Option<(usize, &SharedList<u32>)>
     }
 }
 
-/// Whether a list stands at a place.
+/// Whether this list is at this place.
 fn stands_at(lists: &[SharedList<u32>], place: usize, list: &SharedList<u32>) -> bool
     ensures { IsTrue result → (place < length lists.now) × (slice_index_or lists.now place [] ≡ list.now) }
 {
@@ -121,7 +121,7 @@ impl Lists {
         Ok(place)
     }
 
-    /// The part of a kernel. The list that it may have with others is one of the lists where it has another owner.
+    /// The part of a kernel. The list that it may share with others is one of the lists where it has another owner.
     fn part_of(&mut self, alloc: Global, kernel: &Kernel) -> Result<Part, AllocError>
         requires some { 0 < length self.old.items.items }
         requires empty { slice_index_or self.old.items.items 0 [] ≡ [] }
@@ -195,7 +195,7 @@ impl Parts {
     }
 }
 
-/// Puts the keys of a kernel's variables from one place up to another behind a list.
+/// Appends the keys of a kernel's variables from one place up to another to a list.
 fn push_keys(keys: &mut Vec<u32>, kernel: &Kernel, from: usize, to: usize) -> Result<(), AllocError>
     requires numbers { HasNumbers kernel.now }
     requires few { All (λ v. v < 1073741824) (vars_of kernel.now) }

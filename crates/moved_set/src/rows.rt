@@ -1,5 +1,5 @@
 //! For each variable the kernels that name it: a row of those of which it is an own variable, and a row of the lists that
-//! have it, each of which has a row of its kernels. A list's variables stand here once, however many kernels have it.
+//! have it, each of which has a row of its kernels. A list's variables are kept once, however many kernels have it.
 
 ghost use Rattle.std.specs.Prelude.{◌≡◌, ◌<◌, ◌*◌, ◌^◌, [], ◌∷◌, ℕ, List, length, All, IfOk, OnOk};
 ghost use Rattle.guarded_tell.specs.Kernels.{IsKernel};
@@ -73,7 +73,7 @@ fn empty_rows(alloc: Global, count: usize) -> Result<Vec<Vec<u32>>, AllocError>
     Ok(rows)
 }
 
-/// Puts `j` behind a row, unless it stands there last: so a list that has a variable many times stands once in its row.
+/// Appends `j` to a row, unless it is the last there: so a list that has a variable many times is once in its row.
 fn put_once(row: &mut Vec<u32>, j: u32) -> Result<(), AllocError>
     ensures { OnOk result (PutsOnce j row.old.items row.new.items) }
 {

@@ -32,7 +32,7 @@ impl Model for MovedSet {
 }
 
 impl MovedSet {
-    /// The empty set of so many variables.
+    /// The empty set of so many variables. Errors: memory.
     pub fn new(alloc: Global, count: u32) -> Result<MovedSet, NoMemory>
         ensures { IfOk result (λ s. s ≡ replicate count false) }
     {
@@ -66,7 +66,7 @@ impl MovedSet {
         self.words[v as usize / 32] |= 1 << (v % 32);
     }
 
-    /// Takes all variables off.
+    /// Takes all variables out of the set.
     pub fn clear(&mut self)
         ensures { self.new ≡ replicate (length self.old) false }
     {
@@ -95,7 +95,7 @@ impl MovedSet {
     }
 }
 
-/// Takes all numbers off the words. While they are few, and all are listed, no other words are looked at.
+/// Takes all numbers out of the words. While they are few, and all are listed, no other words are looked at.
 fn empty(words: &mut [u32], few: &Few)
     requires listed { few.now.whole ≡ true → All (λ v. v / 32 < length words.old) few.now.variables }
     ensures len { length words.new ≡ length words.old }

@@ -35,7 +35,7 @@ impl Model for TrailedSet {
 }
 
 impl TrailedSet {
-    /// The empty set of so many kernels, with none left. 2^32 kernels or more count as want of memory.
+    /// The empty set of so many kernels, with none left. 2^32 kernels or more count as refused memory.
     pub fn new(alloc: Global, count: usize) -> Result<TrailedSet, NoMemory>
         ensures current { IfOk result (λ s. s.current ≡ replicate count false) }
         ensures stack { IfOk result (λ s. s.stack ≡ []) }
@@ -75,7 +75,7 @@ impl TrailedSet {
         self.words.as_slice()
     }
 
-    /// Puts a kernel into the set.
+    /// Puts a kernel into the set. Errors: memory.
     #[inline(always)]
     pub fn put(&mut self, j: usize) -> Result<(), NoMemory>
         requires { j < length self.old.current }
@@ -101,7 +101,7 @@ impl TrailedSet {
         write(self.words.as_mut_slice(), &mut self.trail, j / 32, word)
     }
 
-    /// Takes a kernel off.
+    /// Takes a kernel out of the set. Errors: memory.
     #[inline(always)]
     pub fn remove(&mut self, j: usize) -> Result<(), NoMemory>
         requires { j < length self.old.current }
@@ -127,7 +127,7 @@ impl TrailedSet {
         write(self.words.as_mut_slice(), &mut self.trail, j / 32, word)
     }
 
-    /// Leaves the set as it is, to go back to it.
+    /// Leaves the set as it is, to go back to it. Errors: memory.
     pub fn push(&mut self) -> Result<(), NoMemory>
         ensures current { OnOk result (self.new.current ≡ self.old.current) }
         ensures stack { OnOk result (self.new.stack ≡ self.old.stack ++ self.old.current ∷ []) }
@@ -151,7 +151,7 @@ impl TrailedSet {
         }
     }
 
-    /// Takes all kernels off, and forgets what was left.
+    /// Takes all kernels out of the set, and forgets what was left.
     pub fn clear(&mut self)
         ensures current { self.new.current ≡ replicate (length self.old.current) false }
         ensures stack { self.new.stack ≡ [] }
@@ -193,7 +193,7 @@ fn write(words: &mut [u32], trail: &mut Vec<Mask>, place: usize, word: u32) -> R
     write_growing(words, trail, place, word)
 }
 
-/// The same where the trail has to grow. It stands apart, so that nothing is kept for it where the trail hasn't to.
+/// The same where the trail has to grow. It is a function of its own, so that no room is kept for it where the trail needn't.
 #[inline(never)]
 fn write_growing(
     words: &mut [u32],

@@ -72,7 +72,7 @@ fn take_bounds(b: &mut TrailedBox, other: &BoxOf) -> Result<(), NoMemory>
 }
 
 impl Lanes {
-    /// So many lanes for these kernels and boxes of so many variables. More than 2^32 kernels count as want of memory.
+    /// So many lanes for these kernels and boxes of so many variables. More than 2^32 kernels count as refused memory.
     pub(crate) fn new(
         alloc: Global,
         kernels: &[Kernel],

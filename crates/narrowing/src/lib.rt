@@ -3,7 +3,8 @@
 //!
 //! `Narrower::narrow` ends with that box, or that there is none, or as many rounds as the limit led to a box that holds every
 //! closed box inside; the boxes left for later stay. Whoever puts a bound notes its variable (`note`); of a new box that
-//! one alone by which it was made (`note_alone`), or all (`note_all`). It stands on `moved_fixpoint` and `rounds`, and parts no box: `search` does.
+//! one alone by which it was made (`note_alone`), or all (`note_all`). It builds on `moved_fixpoint` and
+//! `rounds`, and parts no box: `search` does.
 #![tactic(auto)]
 
 mod alone;

@@ -37,7 +37,7 @@ pub enum Narrower {
 
 impl Narrower {
     /// A narrower of so many lanes for these kernels and boxes of so many variables; without kernels it has one lane. No
-    /// variable is noted. More than 2^32 kernels of several lanes count as want of memory.
+    /// variable is noted. More than 2^32 kernels of several lanes count as refused memory.
     pub fn new(
         alloc: Global,
         kernels: &[Kernel],
@@ -122,7 +122,7 @@ impl Narrower {
         }
     }
 
-    /// Keeps which kernels rest where a box is left for later, to go back to it.
+    /// Keeps which kernels rest where a box is left for later, to go back to it. Errors: memory.
     pub fn leave(&mut self) -> Result<(), NoMemory>
         ensures fits { OnOk result ((kernels : List Kernel) (count : ℕ) → Fits self.old kernels count → Fits self.new kernels count) }
         ensures lanes { OnOk result (lanes_of self.new ≡ lanes_of self.old) }

@@ -100,7 +100,7 @@ fn different_from_itself(alloc: Global) -> Result<Kernel, AllocError>
     Ok(Kernel::AllDiff { xs })
 }
 
-/// Bounds of the two, and all after the tells: a variable that stands twice takes two numbers until it is fixed.
+/// Bounds of the two, and all after the tells: a variable that occurs twice takes two numbers until it is fixed.
 static TWICE_BOUNDS: [(&Pairs, &Pairs); 2] = [
     (
         &[(1, 2), (2, 5), (0, 0), (0, 0)],

@@ -47,7 +47,7 @@ pub(crate) struct Apart {
     vars: bool,
 }
 
-/// Each way in which the lists of an equation may stand. In the first they are in one piece.
+/// Each way in which the lists of an equation may be kept. In the first they are in one piece.
 pub(crate) static WAYS: [Apart; 4] = [
     Apart {
         coeffs: false,
@@ -67,7 +67,7 @@ pub(crate) static WAYS: [Apart; 4] = [
     },
 ];
 
-/// The ways in which the lists of a sum may stand. Those of an inequality are in one piece.
+/// The ways in which the lists of a sum may be kept. Those of an inequality are in one piece.
 fn ways(relation: Relation) -> &'static [Apart] {
     match relation {
         AtMost => &WAYS[..1],
@@ -110,7 +110,7 @@ fn parted<T: Copy + Drop>(
     }
 }
 
-/// The kernel of the sum, where the lists of an equation stand in this way.
+/// The kernel of the sum, where the lists of an equation are kept in this way.
 #[tactic(auto, unfolding(guarded_tell::specs::Kernels::vars_of, guarded_tell::specs::Kernels::HasNumbers))]
 pub(crate) fn linear(
     rt: &impl Abort,
@@ -382,7 +382,7 @@ fn a_difference_is_seen_in_either_order(rt: HostRuntime) -> Result<(), Fail> {
 }
 
 /// Asserts that the kernels of these sums give just these tells on the boxes of these bounds, in this order, in whichever
-/// way their lists stand.
+/// way their lists are kept.
 fn expect_linear_tells(
     rt: &impl Abort,
     alloc: Global,
@@ -397,7 +397,7 @@ fn expect_linear_tells(
     Ok(())
 }
 
-/// Asserts of the kernels of these sums, in whichever way their lists stand, that these are the bounds once the kernel has
+/// Asserts of the kernels of these sums, in whichever way their lists are kept, that these are the bounds once the kernel has
 /// told.
 fn expect_linear_bounds(
     rt: &impl Abort,

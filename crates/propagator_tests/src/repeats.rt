@@ -1,4 +1,4 @@
-//! Kernels in which one variable stands twice.
+//! Kernels in which one variable occurs twice.
 
 ghost use Rattle.std.specs.Prelude.{◌≡◌, ◌<◌, ◌≤◌, ◌∷◌, ℕ, IfOk, pos, length, slice_index};
 ghost use Rattle.std.specs.Bool.{OnTrue};

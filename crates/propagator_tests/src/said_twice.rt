@@ -1,4 +1,4 @@
-//! What a kernel's shape has to say of a visit, where one variable stands twice.
+//! What a kernel's shape has to say of a visit, where one variable occurs twice.
 
 ghost use Rattle.guarded_tell.specs.Kernels.{IsKernel};
 
@@ -17,7 +17,7 @@ use std::test::Fail;
 /// Bounds of variables 0, 1 and 2, what is said there, and the tells that are said.
 type Row = ([(i64, i64); 3], Way, &'static [Told]);
 
-/// Kernels in which a variable stands twice.
+/// Kernels in which a variable occurs twice.
 static REPEATS: [(Repeated, &[Row]); 7] = [
     // The greater of itself and variable 1.
     (

@@ -20,7 +20,7 @@ pub struct Cache {
 }
 
 impl Cache {
-    /// The cache of a lane that has made no pass, for boxes of the length of `start`.
+    /// The cache of a lane that has made no pass, for boxes of the length of `start`. Errors: memory.
     pub fn new(alloc: Global, lane: u32, start: &BoxOf) -> Result<Cache, NoMemory>
         ensures lane { IfOk result (λ c. c.lane ≡ lane) }
         ensures turn { IfOk result (λ c. c.turn ≡ 0) }

@@ -41,7 +41,7 @@ fn deal_all(alloc: Global, count: u32, lanes: u32) -> Result<Vec<Vec<u32>>, Allo
     Ok(shares)
 }
 
-/// The kernels dealt to so many lanes in turn: share i lists, rising, the numbers that leave the rest i.
+/// The kernels dealt to so many lanes in turn: share i lists, rising, the numbers that leave the rest i. Errors: memory.
 pub fn even_cut(alloc: Global, kernels: &[Kernel], lanes: u32) -> Result<Vec<Vec<u32>>, NoMemory>
     requires kernels { length kernels.now < 2 ^ 32 }
     requires some { 1 ≤ lanes }

@@ -98,7 +98,7 @@ impl Engine {
     ghost use Rattle.rounds.specs.Ends.{HasEnded};
     ghost use Rattle.rounds.specs.Engines.{engine_len, engine_shares, engine_epoch};
 
-    /// An engine for boxes of this length and cuts of at most so many shares.
+    /// An engine for boxes of this length and cuts of at most so many shares. Errors: memory.
     pub fn new(alloc: Global, len: u32, shares: u32) -> Result<Engine, NoMemory>
         requires { len ≤ box_limit }
         ensures len { IfOk result (λ e. engine_len e ≡ len) }

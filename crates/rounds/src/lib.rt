@@ -2,7 +2,7 @@
 //! Each lane runs its share of the kernels, a round ends when all lanes are done, and propagation ends with a round in which no
 //! lane saw a bound move, or in which some variable has no number left.
 //!
-//! `Engine::propagate` keeps its store from box to box; with one share and an epoch left it takes no memory. It stands on
+//! `Engine::propagate` keeps its store from box to box; with one share and an epoch left it takes no memory. It builds on
 //! `lattice_store`, `shared_lanes`, `fixpoint_laws` and `gate`. Each lane visits all its kernels in each round, unlike
 //! `moved_fixpoint`. That lanes run at once isn't claimed. Begin with `src/engine.rt`.
 #![tactic(auto)]

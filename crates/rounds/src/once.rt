@@ -32,7 +32,7 @@ pub enum Propagated {
     },
 }
 
-/// The greatest closed box inside a start, or that there is none, by an engine that is used once.
+/// The greatest closed box inside a start, or that there is none, by an engine that is used once. Errors: memory.
 pub fn propagate<R: Threads + Sync, G: Gate + Sync>(
     rt: &R,
     alloc: Global,

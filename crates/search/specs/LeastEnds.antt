@@ -35,7 +35,7 @@ pub record IsCost (model : FznModel) (cost : ℤ) : Type 0 where
   pub solves : IsSolution model assignment
   pub costs : cost_of model.goal assignment ≡ Some cost
 
--- the costs of what was recorded were posted, one after the other; the last stands first
+-- the costs of what was recorded were posted, one after the other, so that the last is the first of the list
 pub record PostsCosts (goal : Goal) (found : List (List ℤ)) (before after : List ℤ) : Type 0 where
   pub costs : List ℤ
   pub each : map (cost_of goal) found ≡ map (λ (cost : ℤ). Some cost) (reverse costs)

@@ -92,7 +92,7 @@ fn all_end(closing: Closing) -> AllEnd
     }
 }
 
-/// Searches a box for all its solutions in the order of the search tree.
+/// Searches a box for all its solutions in the order of the search tree. Errors: memory.
 pub fn run_all<R: Threads + Sync, L: Gate + Sync>(
     rt: &R,
     alloc: Global,
@@ -113,7 +113,7 @@ pub fn run_all<R: Threads + Sync, L: Gate + Sync>(
 }
 
 /// The same in place, where it is known of what the box was made, and by a worker that has made other runs of as many
-/// variables.
+/// variables. Errors: memory.
 pub fn run_all_from<R: Threads + Sync, L: Gate + Sync>(
     rt: &R,
     alloc: Global,

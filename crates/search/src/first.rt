@@ -155,7 +155,7 @@ fn run_unposted<R: Threads + Sync, L: Gate + Sync, N: Numbers>(
 
 /// Searches a box, the subproblem `number`, for its first solution in the order of the search tree. It looks at `found`
 /// before each node, and is cut where a lesser number is there: at once where the seat has seen one before. Where it has a
-/// solution it posts its number.
+/// solution it posts its number. Errors: memory.
 pub fn run_first<R: Threads + Sync, L: Gate + Sync, N: Numbers>(
     rt: &R,
     alloc: Global,
@@ -194,7 +194,7 @@ pub fn run_first<R: Threads + Sync, L: Gate + Sync, N: Numbers>(
 }
 
 /// The same in place, where it is known of what the box was made, and by a worker that has made other runs of as many
-/// variables.
+/// variables. Errors: memory.
 pub fn run_first_from<R: Threads + Sync, L: Gate + Sync, N: Numbers>(
     rt: &R,
     alloc: Global,

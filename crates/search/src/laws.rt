@@ -62,7 +62,7 @@ pub fn law_costs_fall()
     law_point_solves();
 }
 
-/// Where each phase takes its variables as they stand, each solution in the box that precedes a recorded one costs more.
+/// Where each phase takes its variables as they are listed, each solution in the box that precedes a recorded one costs more.
 pub fn law_finds_first()
     ensures { FindsFirst }
 {

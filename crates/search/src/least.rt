@@ -197,7 +197,7 @@ pub fn run_least<R: Threads + Sync, L: Gate + Sync, C: Costs>(
 }
 
 /// The same in place, where it is known of what the box was made, and by a worker that has made other runs of as many
-/// variables.
+/// variables. Errors: memory.
 pub fn run_least_from<R: Threads + Sync, L: Gate + Sync, C: Costs>(
     rt: &R,
     alloc: Global,

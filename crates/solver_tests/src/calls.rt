@@ -55,7 +55,7 @@ pub(crate) fn run_source<S: Source, C: Gate + Sync, L: Gate + Sync>(
     Ok(Outcome { status, out, err })
 }
 
-/// These words, which stand with a blank between each two.
+/// These words, which are written with a blank between each two.
 fn words_of(alloc: Global, words: &str) -> Result<Vec<String>, AllocError> {
     let mut list = Vec::new(alloc);
     for word in words.split(' ') {

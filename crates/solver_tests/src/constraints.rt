@@ -357,7 +357,7 @@ const DIFFERENT_AND_TASKS: &[(&str, &str)] = &[
         "var 0..2: t; constraint pccp_cumulative([0, t], [3, 2], [2, 2], 3); solve satisfy;",
         "=====UNSATISFIABLE=====\n",
     ),
-    // a variable that stands twice never differs, and a task may run beside itself where both fit
+    // a variable that occurs twice never differs, and a task may run beside itself where both fit
     (
         "var 1..9: x; constraint pccp_all_different([x, x]); solve satisfy;",
         "=====UNSATISFIABLE=====\n",

@@ -113,7 +113,7 @@ fn propagators_are_1048576_at_most(rt: HostRuntime) -> Result<(), Fail> {
     Ok(())
 }
 
-/// What stands before and after so many times the same word, and how the call ends.
+/// The text before and after a word that is repeated so many times, and how the call ends.
 type Repeated = (
     &'static str,
     &'static str,

@@ -1,4 +1,4 @@
-//! Long lists that several constraints name stand once in a program: each propagator has one of their owners. A list's mark
+//! Long lists that several constraints name are once in a program: each propagator has one of their owners. A list's mark
 //! tells which of the program's shared lists it is, counted from 1; one that a propagator has alone tells none.
 
 ghost use Rattle.std.specs.Prelude.{◌≡◌};
@@ -32,7 +32,7 @@ fn add_row(text: &mut String, entry: &str) -> Result<(), AllocError> {
     text.push_str(entry)
 }
 
-/// The text that is written so, where `#` stands before and after an entry that is to stand 100 times.
+/// The text that is written so, where `#` is written before and after an entry that is to come 100 times.
 fn text_of(alloc: Global, written: &str) -> Result<String, AllocError> {
     let mut text = String::from_str(alloc, DECLARATIONS)?;
     for (place, part) in written.split('#').enumerate() {

@@ -1,6 +1,6 @@
 //! The propagators of each row of the table of constraints, worked out by hand. The variables x, y, z, a, b and r are
 //! declared, so that they are the variables 1 to 6; the constant 1 is variable 0, and the other constants of a text are
-//! the variables from 7 on, in the order in which they stand.
+//! the variables from 7 on, in their order.
 
 use crate::programs::program_of;
 use guarded_tell::{Extended, Kernel, Lit, Literals};
@@ -161,7 +161,7 @@ pub(crate) fn are_kernels(kernels: &[Kernel], shapes: &[Shape]) -> bool {
             .all(|(kernel, shape)| is_kernel(kernel, shape))
 }
 
-/// What stands before each constraint.
+/// The declarations before each constraint.
 pub(crate) const DECLARATIONS: &str =
     "var 0..9: x; var 0..9: y; var 0..9: z; var bool: a; var bool: b; var bool: r; ";
 

@@ -1,4 +1,4 @@
--- What the top call owes: its statuses, each with its cause, and what it writes.
+-- What the top call promises: its statuses, each with its cause, and what it writes.
 --
 -- The statuses and their lines are this program's own.
 use Rattle.std.specs.Prelude.{◌≡◌, ℕ, ◌≤◌, List, [], ◌∷◌, ◌++◌, length, take, codes, Bool, true, false, Option, Some, None, String}

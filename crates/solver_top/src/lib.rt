@@ -3,7 +3,7 @@
 //! `solve_main` is the program `turbofzn` but for its arguments, files and streams, for every way in which threads may run:
 //! what is written at status 0 is the text of an answer of the text's model, each other status has its cause, and nothing else
 //! is written. Where no limit is set a text has one answer, whichever workers, lanes and parts search for it
-//! (`law_one_answer`). It stands on `answer`, `model_text`, `command_line` and `made_laws`.
+//! (`law_one_answer`). It builds on `answer`, `model_text`, `command_line` and `made_laws`.
 //!
 //! Begin with the contract in `src/top.rt`, then `specs/Answers.antt`; `docs/DEFINITIONS.md` lists all that it cites.
 #![tactic(auto)]

@@ -50,12 +50,12 @@ IsEnd model kernels b End.Failed = Fails b kernels
 IsEnd model kernels b End.Fixed = (closed : Bounds) × IsSolvedBy model kernels b closed
 IsEnd model kernels b (End.Beaten cost) = IsBeaten model kernels cost b
 
--- what the walk knows of its way stands on a stack
+-- what the walk knows of its way is true of these boxes on a stack
 pub record StandsOn (model : FznModel) (kernels : List Kernel) (start : Bounds) (walk : Walk) (way : List Left) : Type 0 where
   pub steps : AreSteps model kernels start walk.turns.items way
   pub end : IsEnd model kernels (end_of start way) walk.end
 
--- so it does on that of the walk's box, whatever is left above it
+-- so it is of the stack of the walk's box, whatever is left above it
 pub record IsOnWay (model : FznModel) (kernels : List Kernel) (start : Bounds) (walk : Walk) (boxes : Trailed) : Type 0 where
   pub way : List Left
   pub stands : StandsOn model kernels start walk way
@@ -80,7 +80,7 @@ IsMadeFrom kernels found = IfSome found (λ sub. IsMadeBy sub.changed kernels su
 abbrev pub IsTold : Option Subproblem → Type 0
 IsTold found = IfSome found (λ sub. sub.changed ≢ None)
 
--- what the walk knows of its way stands on the stack of the box that is given out, or of its own where none is
+-- what the walk knows of its way is true of the stack of the box that is given out, or of its own where none is
 abbrev pub StandsUnder : FznModel → List Kernel → Bounds → Walk → Option Subproblem → Type 0
 StandsUnder model kernels start walk None = MatchOption walk.boxes ⊥ (λ boxes. IsOnWay model kernels start walk boxes)
 StandsUnder model kernels start walk (Some sub) = StandsOn model kernels start walk sub.boxes.stack

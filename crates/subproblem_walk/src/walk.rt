@@ -209,7 +209,7 @@ impl Walk {
 
     /// The box that the number leads to from the walk's start, if there is one, and by which pair it differs from a closed
     /// one. The box is the walk's own, and it is to be given back by `take_back`. The way to it stays known, so that the next
-    /// number's boxes are cut only from where the two ways part.
+    /// number's boxes are cut only from where the two ways part. Errors: memory.
     pub fn path_box(
         &mut self,
         alloc: Global,
@@ -237,7 +237,7 @@ impl Walk {
         self.go(alloc, tree, number, None)
     }
 
-    /// The same where so much is the best cost: nothing too where that is known to beat what the number leads to.
+    /// The same where so much is the best cost: nothing too where that is known to beat what the number leads to. Errors: memory.
     pub fn path_box_below(
         &mut self,
         alloc: Global,

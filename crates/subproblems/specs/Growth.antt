@@ -5,7 +5,7 @@ use Rattle.guarded_tell.specs.declared.kernel.Kernel.{Kernel}
 use Rattle.constraint_model.specs.declared.model.FznModel.{FznModel}
 use Rattle.subproblems.specs.Subproblems.{AreSubproblems}
 
--- the subproblems of the box stand behind the others
+-- the subproblems of the box are appended to the others
 pub record IsMore (model : FznModel) (kernels : List Kernel) (depth : ℕ) (b : Bounds) (before after : List Bounds) : Type 0 where
   pub subs : List Bounds
   pub are_subs : AreSubproblems model kernels depth b subs

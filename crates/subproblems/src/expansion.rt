@@ -15,7 +15,7 @@ use guarded_tell::Kernel;
 use interval::{BoxOf, NoMemory};
 use std::alloc::{AllocError, Global};
 
-/// The subproblems into which a box is cut to a depth, in the order of the search tree.
+/// The subproblems into which a box is cut to a depth, in the order of the search tree. Errors: memory.
 pub fn expand(
     alloc: Global,
     model: &FznModel,
@@ -44,7 +44,7 @@ pub fn expand(
     Ok(subs)
 }
 
-/// Puts a box behind others.
+/// Appends a box to others.
 fn put(subs: &mut Vec<BoxOf>, b: BoxOf) -> Result<(), AllocError>
     ensures { OnOk result (subs.new.items ≡ subs.old.items ++ b ∷ []) }
 {
@@ -52,7 +52,7 @@ fn put(subs: &mut Vec<BoxOf>, b: BoxOf) -> Result<(), AllocError>
     Ok(())
 }
 
-/// Puts the subproblems of a box behind others.
+/// Appends the subproblems of a box to others.
 fn add_below(
     alloc: Global,
     model: &FznModel,

@@ -15,7 +15,7 @@ use guarded_tell::Kernel;
 use interval::{BoxOf, NoMemory};
 use std::alloc::Global;
 
-/// The box that the number leads to from a start, if there is one.
+/// The box that the number leads to from a start, if there is one. Errors: memory.
 pub fn path_box(
     alloc: Global,
     model: &FznModel,

@@ -11,14 +11,14 @@ const YES: Term = Term::Number(1);
 
 const NO: Term = Term::Number(0);
 
-/// What stands behind a name: a value, or index sets with entries.
+/// The value that an answer gives a name: one, or index sets with entries.
 #[derive(Clone, Copy)]
 enum Value {
     One(Term),
     Row(&'static [(i64, i64)], &'static [Term]),
 }
 
-/// An output: its name, whether it is written in booleans, and what stands behind its name.
+/// An output: its name, whether it is written in booleans, and the value behind its name.
 type Line = (&'static str, bool, Value);
 
 /// A list of these.

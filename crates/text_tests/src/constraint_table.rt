@@ -131,7 +131,7 @@ fn array(alloc: Global, entries: &[Scalar]) -> Result<Array, AllocError> {
     })
 }
 
-/// What an argument stands for.
+/// The meaning of an argument.
 fn meaning(alloc: Global, argument: &Argument) -> Result<Meaning, AllocError> {
     match argument {
         Argument::One(scalar) => Ok(Meaning::One(*scalar)),
@@ -139,7 +139,7 @@ fn meaning(alloc: Global, argument: &Argument) -> Result<Meaning, AllocError> {
     }
 }
 
-/// What arguments stand for.
+/// The meanings of arguments.
 fn meanings(alloc: Global, arguments: &[Argument]) -> Result<Vec<Meaning>, AllocError> {
     let mut meanings = Vec::new(alloc);
     for argument in arguments {

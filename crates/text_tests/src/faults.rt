@@ -81,7 +81,7 @@ const ARGUMENTS_AND_TYPES: &[Case] = &[
     (8, "", "solve minimize 140737488355328;"),
 ];
 
-/// Faults of numbers, and of what stands at the end.
+/// Faults of numbers, and of what comes at the end.
 const NUMBERS_AND_ENDS: &[Case] = &[
     (8, "", "var 0..140737488355328: x; solve satisfy;"),
     (8, "", "int: a = -0x800000000000; solve satisfy;"),

@@ -1,4 +1,4 @@
-//! Small texts whose words stand apart by blanks, so that places can be counted. What is expected was worked out by hand
+//! Small texts whose words are separated by blanks, so that places can be counted. What is expected was worked out by hand
 //! from the grammar.
 
 use fzn_lexer::{Token, lex};
@@ -183,7 +183,7 @@ const PARENS: Nest = Nest {
     answer: Ok(1),
 };
 
-/// One more bracket stands around these, and the innermost hold braces, which don't count.
+/// One more bracket is around these, and the innermost hold braces, which don't count.
 const BRACES: Nest = Nest {
     before: "solve :: a ( ",
     opening: "[ ",

@@ -1,5 +1,5 @@
 //! Tests of the crates between the words of the command line and a model, and of those that write an answer's text. They
-//! stand apart so that each of those crates is proved once.
+//! are a crate of their own, so that each of those crates is proved once.
 #![tactic(auto)]
 
 #[cfg(test)]

@@ -4,8 +4,8 @@ use crate::resolved::fault_of;
 use std::alloc::{AllocError, Global};
 use std::test::Fail;
 
-/// A text in which a word stands many times, between what stands before it in its item and what stands behind it. The
-/// item has a fault of this kind, or none.
+/// A text with an item in which a word is repeated many times between a beginning and an end. The item has a fault of this
+/// kind, or none.
 type Case = (
     Option<u8>,
     &'static str,
@@ -14,7 +14,7 @@ type Case = (
     &'static str,
 );
 
-/// So many further entries may a list have.
+/// A list may have so many further entries.
 const MOST: (&str, usize) = (",1", 65_535);
 
 /// One more than that.
@@ -138,7 +138,7 @@ const CASES: &[Case] = &[
     ),
 ];
 
-/// The item in which a word stands so many times.
+/// The item in which a word occurs so many times.
 fn item_of(
     alloc: Global,
     item: &str,
@@ -153,7 +153,7 @@ fn item_of(
     Ok(text)
 }
 
-/// The kind of the fault of an item behind a front, where it stands at the item, or none.
+/// The kind of the fault of an item behind a front, where the fault is at the item, or none.
 fn kind_of(alloc: Global, front: &str, item: &str) -> Result<Option<u8>, AllocError> {
     match fault_of(alloc, front, item)? {
         Some((kind, at)) if at == front.len() => Ok(Some(kind)),

@@ -18,7 +18,7 @@ fn a_list_is_filled_read_and_given_back(rt: HostRuntime) -> Result<(), Fail> {
     Ok(())
 }
 
-/// Names around the length from which on they stand apart.
+/// Names around the length from which on their bytes are kept apart.
 const NAMES: [&[u8]; 5] = [
     b"",
     b"x",

@@ -222,7 +222,7 @@ const CONSTRAINTS: &[Case] = &[Case {
                     int_lin_le [ ] [ ] 0 \n",
 }];
 
-/// Arrays have their places in the order of their declarations, whatever stands between, also one that no constraint names;
+/// Arrays have their places in the order of their declarations, whatever comes between, also one that no constraint names;
 /// of two that are alike each has its own, and one that is written out has none.
 const ARRAYS: &[Case] = &[
     Case {
@@ -290,7 +290,7 @@ const ADDED: &[Case] = &[
     },
 ];
 
-/// Outputs stand in the order of the declarations, and are found by the shape of their annotations.
+/// Outputs are in the order of the declarations, and are found by the shape of their annotations.
 const OUTPUTS: &[Case] = &[
     Case {
         part: Part::Outputs,
@@ -359,7 +359,7 @@ const OUTPUTS: &[Case] = &[
     },
 ];
 
-/// The phases stand in the order of the text, and the last is one of all variables.
+/// The phases are in the order of the text, and the last is one of all variables.
 const SEARCHES: &[Case] = &[
     Case {
         part: Part::Search,

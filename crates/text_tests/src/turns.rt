@@ -5,7 +5,7 @@ use fzn_parser::tree::{Item, SetLit, Shape, What};
 use fzn_parser::{ItemError, ParseError, Room, next_item, parse};
 use std::test::Fail;
 
-/// What stands behind a byte of a text: a token as (kind, from, to), no token, or a byte at which none begins.
+/// What comes behind a byte of a text: a token as (kind, from, to), no token, or a byte at which none begins.
 struct TokenCase {
     text: &'static [u8],
     from: usize,
@@ -230,7 +230,7 @@ enum Next {
 /// A text, a place in it, and what is read behind it.
 type ItemCase = (&'static str, usize, Next);
 
-/// The words of these texts stand apart by blanks.
+/// The words of these texts are separated by blanks.
 const ITEMS: &[ItemCase] = &[
     ("", 0, Next::End),
     (" % only ; ", 0, Next::End),

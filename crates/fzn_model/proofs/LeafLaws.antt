@@ -1,5 +1,5 @@
 -- Which parts of an item may have a fault of a kind.
-use Rattle.std.proofs.Common.{◌≡◌, ℕ, List, [], ◌∷◌, ◌++◌, map, length, Bool, true, false, not, ◌||◌, cond, nat_lt, is_some, Option, Some, None, refl, sym, ap, ◌∙◌}
+use Rattle.std.proofs.Common.{◌≡◌, ℕ, List, [], ◌∷◌, ◌++◌, map, length, Bool, false, ◌||◌, nat_lt, refl, ap, ◌∙◌}
 use Rattle.std.specs.Prelude.{flat_map, option_to_list}
 use Rattle.std.specs.List.{list_any}
 use Rattle.std.proofs.Math.Bool.{or-false}
@@ -14,7 +14,7 @@ use Rattle.fzn_parser.specs.Items.{WhatTree, predicate_item, scalar_item, array_
 use Rattle.fzn_model.specs.declared.fault_kinds.FaultKind.{FaultKind}
 use Rattle.fzn_model.specs.declared.leaves.Leaf.{Leaf}
 use Rattle.constraint_model.specs.Limits.{most_entries}
-use Rattle.fzn_model.specs.Leaves.{set_leaves, elem_leaves, expr_leaves, type_leaves, aim_leaves, leaves}
+use Rattle.fzn_model.specs.Leaves.{set_leaves, elem_leaves, expr_leaves, type_leaves, aim_leaves}
 use Rattle.fzn_model.specs.Scopes.{Scope}
 use Rattle.fzn_model.specs.Faults.{is_declared}
 use Rattle.fzn_model.specs.Drafts.{has_kind, has_leaf, declares_again}

@@ -18,7 +18,6 @@ use crate::declaring::declares_again;
 use crate::effect::Effect;
 use crate::fault_kinds::FaultKind;
 use crate::limits::{MOST_CONSTANTS, MOST_KERNELS, MOST_VARS, has_long_rows};
-use crate::name_hash::NameHash;
 use crate::reads::{no_effect, read_item};
 use crate::scope::Scope;
 use crate::stop::Stop;
@@ -148,7 +147,7 @@ fn declare(
     match declared.take() {
         Some((name, meaning)) => {
             let meaning = numbered(alloc, constants, meaning)?;
-            scope.declare(name, meaning)
+            scope.declare(alloc, name, meaning)
         }
         None => Ok(true),
     }
@@ -202,12 +201,12 @@ fn misplaced(text: &[u8], scope: &Scope, what: &What, stop: Stop) -> Stop
 }
 
 impl Draft {
-    /// Before the first item. So many names are to be declared.
-    pub(crate) fn new(alloc: Global, hash: NameHash, names: usize) -> Draft
+    /// Before the first item. There is room for hints of so many names.
+    pub(crate) fn new(alloc: Global, names: usize) -> Draft
         ensures { seen result ≡ effects.nothing }
     {
         Draft {
-            scope: Scope::new(alloc, hash, names),
+            scope: Scope::new(alloc, names),
             vars: ListOf::new(alloc),
             constraints: ListOf::new(alloc),
             output: ListOf::new(alloc),

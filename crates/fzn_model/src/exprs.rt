@@ -9,7 +9,7 @@ ghost use Rattle.fzn_parser.specs.Texts.{spelling};
 ghost use Rattle.fzn_model.specs.Scopes.{number_at, set_at, boolean, integer, entry_at, all_some, array_literal, meaning_of, simple_at, expr_meaning};
 
 use crate::numbers::number_of;
-use crate::scope::Scope;
+use crate::scope::{Denoted, Scope};
 use constraint_model::{Array, Entries, Meaning, Scalar, Term, range_of, ranges_of};
 use fzn_lexer::Token;
 use fzn_parser::tree::{Elem, Expr, SetLit};
@@ -217,11 +217,9 @@ pub(crate) fn row_meaning(
 fn meaning_named(alloc: Global, scope: &Scope, name: &[u8]) -> Result<Option<Meaning>, AllocError>
     ensures { IfOk result (λ o. o ≡ meaning_of scope.now name.now) }
 {
-    if let Some(scalar) = scope.hinted(name) {
-        return Ok(Some(Meaning::One(scalar)));
-    }
     match scope.meaning(name) {
-        Some(meaning) => Ok(Some(share_meaning(alloc, meaning)?)),
+        Some(Denoted::Variable(scalar)) => Ok(Some(Meaning::One(scalar))),
+        Some(Denoted::Other(meaning)) => Ok(Some(share_meaning(alloc, meaning)?)),
         None => Ok(None),
     }
 }

@@ -3,8 +3,8 @@
 //! Begin with `Resolver` (`src/taking.rt`), which takes the items one by one; `resolve` takes them whole and is used by laws
 //! and tests. Every list of items has one model or one fault, never both (`law_one_model`), and a model is well-formed
 //! (`law_well_formed`). `specs/Effects.antt` says what an item adds, `specs/Faults.antt` which faults it has. It builds on
-//! `fzn_parser` and `constraint_model`. No contract says how fast names are found: a body that never finds a hint is right too,
-//! and slower.
+//! `fzn_parser` and `constraint_model`. No contract says how fast names are found: a body that keeps no
+//! hints is right too, and slower.
 #![tactic(auto)]
 
 mod arrays;
@@ -18,7 +18,7 @@ pub mod fault_kinds;
 mod hints;
 mod leaves;
 mod limits;
-mod name_hash;
+mod lookup;
 mod numbers;
 mod outputs;
 mod reads;
@@ -35,6 +35,5 @@ pub use constraint_model::{
     VarSel, kernel_count,
 };
 pub use fault_kinds::FaultKind;
-pub use name_hash::Names;
 pub use resolving::{ModelError, law_one_model, law_well_formed, resolve};
 pub use taking::Resolver;

@@ -12,7 +12,6 @@ ghost use Rattle.constraint_model.specs.WellFormed.{IsWellFormed};
 
 use crate::draft::Draft;
 use crate::fault_kinds::FaultKind;
-use crate::name_hash::{name_count, name_hash};
 use crate::stop::Stop;
 use constraint_model::{FznModel, law_ranges};
 use fzn_parser::tree::Item;
@@ -48,7 +47,7 @@ pub(crate) fn stopped(stop: Stop, at: usize) -> ModelError
 pub fn resolve(alloc: Global, text: &[u8], items: &[Item]) -> Result<FznModel, ModelError>
     ensures { MatchResult result (λ m. IsModelOf text.now (map item_tree items.now) m) (λ e. IsCause text.now (map item_tree items.now) e) }
 {
-    let mut draft = Draft::new(alloc, name_hash(text, items), name_count(items));
+    let mut draft = Draft::new(alloc, items.len());
     for item in items {
         match draft.add(alloc, text, item) {
             Ok(()) => {}

@@ -6,7 +6,6 @@ ghost use Rattle.fzn_model.specs.Resolving.{IsModelOf, IsCause};
 ghost use Rattle.fzn_model.specs.Taking.{AreTaken, CanTake};
 
 use crate::draft::Draft;
-use crate::name_hash::Names;
 use crate::resolving::{ModelError, finished, stopped};
 use constraint_model::FznModel;
 use fzn_parser::tree::Item;
@@ -29,13 +28,12 @@ impl Model for Resolver {
 }
 
 impl Resolver {
-    /// Before the first item of a text in which these words may be names.
-    pub fn new(alloc: Global, names: Names) -> Resolver
+    /// Before the first item of a text that declares so many names or fewer: of more, some are found more slowly. It takes no memory.
+    pub fn new(alloc: Global, names: usize) -> Resolver
         ensures { (text : List ℕ) → AreTaken text [] result }
     {
-        let count = names.count();
         Resolver {
-            draft: Draft::new(alloc, names.hash(), count),
+            draft: Draft::new(alloc, names),
         }
     }
 

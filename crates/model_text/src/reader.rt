@@ -5,7 +5,6 @@ ghost use Rattle.constraint_model.specs.declared.model.FznModel.{FznModel};
 ghost use Rattle.model_text.specs.Texts.{IsTextOf, IsFaultOf, IsCause, fault_line, line_at};
 
 use crate::turns::model_of;
-use crate::words::words_of;
 use fzn_model::{FaultKind, FznModel};
 use std::alloc::Global;
 use thiserror::Error;
@@ -34,7 +33,7 @@ pub fn read_model(alloc: Global, text: &[u8]) -> Result<FznModel, TextError>
             at: 0,
         });
     }
-    model_of(alloc, text, words_of(text))
+    model_of(alloc, text)
 }
 
 /// How many bytes end a line.

@@ -10,7 +10,7 @@ ghost use Rattle.model_text.specs.Turns.{IsPassed, IsTakenTo, IsTakenOn, IsUnrea
 
 use crate::reader::TextError;
 use fzn_lexer::{NoToken, law_tokens_in_turn, next_token};
-use fzn_model::{FaultKind, FznModel, ModelError, Names, Resolver};
+use fzn_model::{FaultKind, FznModel, ModelError, Resolver};
 use fzn_parser::tree::Item;
 use fzn_parser::{ItemError, Room, next_item};
 use std::alloc::Global;
@@ -170,13 +170,24 @@ fn finished(text: &[u8], resolver: Resolver) -> Result<FznModel, TextError>
     }
 }
 
-/// The model of a text that isn't too long, in which these words may be names.
-pub(crate) fn model_of(alloc: Global, text: &[u8], names: Names) -> Result<FznModel, TextError>
+/// How many colons a text has. Each declaration has one, so no more names are declared.
+fn colons(text: &[u8]) -> usize {
+    let mut count: usize = 0;
+    for byte in text {
+        if *byte == b':' {
+            count += 1;
+        }
+    }
+    count
+}
+
+/// The model of a text that isn't too long.
+pub(crate) fn model_of(alloc: Global, text: &[u8]) -> Result<FznModel, TextError>
     requires { length text.now ≤ most_bytes }
     ensures { MatchResult result (λ m. IsTextOf text.now m) (λ e. IsCause text.now e) }
 {
     law_tokens_in_turn();
-    let mut resolver = Resolver::new(alloc, names);
+    let mut resolver = Resolver::new(alloc, colons(text));
     let mut room = Room::new(alloc);
     let mut at = 0;
     while at < text.len() {

@@ -1,15 +1,12 @@
 //! The name of what a text declares, seen by contracts as the list of its bytes.
 //!
-//! Most names are short: such a one takes no memory of its own. It stands on `indexmap` alone, in whose maps a name is found by its
-//! bytes. Begin with `Name::new`.
+//! Most names are short: such a one takes no memory of its own. It builds on no other crate. Begin with `Name::new`.
 #![tactic(auto)]
 
 ghost use Rattle.std.specs.Prelude.{◌≡◌, ◌≤◌, IfOk, IsOk, length};
 ghost use Rattle.names.specs.Letters.{spelled, AreLetters};
 
-use indexmap::Equivalent;
 use std::alloc::{AllocError, Global};
-use std::hash::{Hash, Hasher};
 use std::marker::Model;
 
 /// A name of at most so many bytes takes no memory of its own.
@@ -79,55 +76,4 @@ fn short(bytes: &[u8]) -> Letters
     let (first, _) = room.as_mut_slice().split_at_mut(bytes.len());
     first.copy_from_slice(bytes);
     Letters::Short(bytes.len() as u8, room)
-}
-
-impl PartialEq for Name {
-    ghost use Rattle.std.specs.Str.{bytes_eq};
-    ghost use Rattle.std.specs.Cmp as cmp;
-    ghost use Rattle.std.specs.Cmp.Lexicographic.{nat_list_eq_equiv};
-
-    ghost eq = { bytes_eq };
-
-    ghost laws = { cmp.partial_equiv_from_equiv nat_list_eq_equiv };
-
-    fn eq(&self, other: &Self) -> bool {
-        self.as_slice() == other.as_slice()
-    }
-}
-
-impl Eq for Name {
-    ghost use Rattle.std.specs.Cmp.Lexicographic.{nat_list_eq_equiv};
-
-    ghost laws = { nat_list_eq_equiv };
-}
-
-impl Hash for Name {
-    ghost use Rattle.std.specs.Hash as fed;
-    ghost use Rattle.std.proofs.Common.{ap};
-    ghost use Rattle.std.specs.Cmp.Lexicographic.{bytes_decides};
-
-    ghost hash_input = { λ n. fed.slice fed.u8 n };
-
-    ghost respects_eq = { λ x y h. ap (fed.slice fed.u8) ((bytes_decides x y).0 h) };
-
-    fn hash<H: Hasher>(&self, state: &mut H) {
-        self.as_slice().hash(state);
-    }
-}
-
-impl Equivalent<Name> for &[u8] {
-    ghost use Rattle.std.specs.Hash as fed;
-    ghost use Rattle.std.proofs.Common.{ap};
-    ghost use Rattle.std.specs.Str.{bytes_eq};
-    ghost use Rattle.std.specs.Cmp.Lexicographic.{bytes_decides, nat_list_eq_equiv};
-
-    ghost equivalent = { λ q k. bytes_eq q.now k };
-
-    ghost respects_hash = { λ q k h. ap (fed.slice fed.u8) ((bytes_decides q.now k).0 h) };
-
-    ghost respects_eq = { λ q x y. nat_list_eq_equiv.congr q.now x y };
-
-    fn equivalent(&self, key: &Name) -> bool {
-        *self == key.as_slice()
-    }
 }

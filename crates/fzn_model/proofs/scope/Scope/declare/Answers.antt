@@ -1,40 +1,36 @@
-use Rattle.std.proofs.Common.{◌≡◌, [], ◌∷◌, ◌++◌, is_none, ap, ◌∙◌, sym, subst}
-use Rattle.std.specs.Option.{IfSome}
+use Rattle.std.proofs.Common.{◌≡◌, ◌∷◌, [], ◌++◌, length, ap, ◌∙◌, sym, subst, is_some}
 use Rattle.fzn_model.specs.Scopes.{meaning_of}
-use Rattle.fzn_model.specs.Hints.{name_in, meaning_in, AreRight, IsRight}
-use Rattle.fzn_model.proofs.ScopeLaws.{declared_last, looked_up, lacks, has}
-use Rattle.fzn_model.proofs.HintLaws.{hints_stay, hint_right}
+use Rattle.fzn_model.specs.Lookups.{found, Puts, IsOf}
+use Rattle.fzn_model.specs.Denotes.{found_at}
+use Rattle.fzn_model.proofs.LookupLaws.{is_found, declared, stays, lacks, has}
 use Rattle.fzn_model.proofs.scope.Scope.declare.Goals as goal
 
 pub returns-then-is_some-clause-new : goal.returns-then-is_some-clause-new
 returns-then-is_some-clause-new c =
+    let scope = c.self.inside in
     let name = c.args.name in
-    let found = sym (looked_up name c.self.inside.entries.entries) ∙ sym c.in_ok-before.ensures.old in
-    let here = ap (λ s. meaning_of s name) (sym c.self.view_is) ∙ found in
-    sym (ap is_none here ∙ has c.in_ok-before.before (sym c.is_some.ensures ∙ c.if-is_some.true))
+    let here = ap (λ n. is_some (found scope.lookup n)) (sym c.as_slice.ensures) ∙ ap is_some (sym c.find.ensures) ∙ sym c.is_some.ensures ∙ c.if-is_some.true in
+    let known = sym (is_found scope.entries.items scope.lookup name c.self.invariant) ∙ here in
+    sym (has (meaning_of c.args.self.now name) (ap (λ s. is_some (meaning_of s name)) (sym c.self.view_is) ∙ known))
 
-pub returns-clause-new : goal.returns-clause-new
-returns-clause-new c =
-    let name = c.args.name in
-    let absent = sym (looked_up name c.self.inside.entries.entries) ∙ (sym c.in_ok-before.ensures.old ∙ lacks c.in_ok-before.before (sym c.is_some.ensures ∙ c.if-is_some.false)) in
-    sym (ap is_none (ap (λ s. meaning_of s name) (sym c.self.view_is) ∙ absent))
-
-pub returns-clause-added : goal.returns-clause-added
-returns-clause-added c =
-    let entries = c.self.inside.entries.entries in
-    let absent = sym (looked_up c.args.name entries) ∙ (sym c.in_ok-before.ensures.old ∙ lacks c.in_ok-before.before (sym c.is_some.ensures ∙ c.if-is_some.false)) in
-    λ _. c.in_ok-before.ensures.entries
-    ∙ declared_last c.self.inside.entries c.args.name c.args.meaning absent
-    ∙ ap (λ s. s ++ (c.args.name, c.args.meaning) ∷ []) c.self.view_is
+pub invariant_of-self-in_err-put : goal.invariant_of-self-in_err-put
+invariant_of-self-in_err-put c =
+    let scope = c.self.inside in
+    subst (λ s. IsOf s c.put.new.self) (sym c.reserve.ensures.items)
+    (stays scope.entries.items scope.lookup c.put.new.self c.self.invariant c.in_err-put.ensures.stays c.put.ensures.kept)
 
 pub invariant_of-self-2 : goal.invariant_of-self-2
 invariant_of-self-2 c =
-    let scope = c.self.inside.entries.entries in
+    let scope = c.self.inside in
     let name = c.args.name in
-    let absent = sym (looked_up name c.self.inside.entries.entries) ∙ (sym c.in_ok-before.ensures.old ∙ lacks c.in_ok-before.before (sym c.is_some.ensures ∙ c.if-is_some.false)) in
-    let more = c.in_ok-before.ensures.entries ∙ declared_last c.self.inside.entries c.args.name c.args.meaning absent in
-    let hints = c.make.new.self.hints.items in
-    let named = subst (λ n. IfSome c.of-hint.result (λ h. (name_in h ≡ n) × (meaning_in h ≡ c.args.meaning))) c.as_slice.ensures c.of-hint.ensures in
-    c.put.ensures c.insert.new.self.entries
-    (subst (λ s. AreRight s hints) (sym more) (hints_stay scope (name, c.args.meaning) hints (c.make.ensures scope c.self.invariant)))
-    (subst (λ s. IfSome c.of-hint.result (IsRight s)) (sym more) (hint_right scope name c.args.meaning c.of-hint.result absent named))
+    let here = ap (λ n. is_some (found scope.lookup n)) (sym c.as_slice.ensures) ∙ ap is_some (sym c.find.ensures) ∙ sym c.is_some.ensures ∙ c.if-is_some.false in
+    let new = lacks (meaning_of scope.entries.items name) (sym (is_found scope.entries.items scope.lookup name c.self.invariant) ∙ here) in
+    let count : c.len.result ≡ length scope.entries.items = c.len.ensures ∙ c.reserve.ensures.len ∙ scope.entries.ok.0 in
+    let puts : Puts scope.lookup name (found_at (length scope.entries.items) c.args.meaning) c.put.new.self =
+    subst (λ n. Puts scope.lookup n (found_at (length scope.entries.items) c.args.meaning) c.put.new.self) c.as_slice-2.ensures
+    (subst (λ p. Puts scope.lookup c.as_slice-2.result.now p c.put.new.self) (c.found_at-found.ensures ∙ ap (λ k. found_at k c.args.meaning) count) c.in_ok-put.ensures.put) in
+    subst (λ s. IsOf s c.put.new.self) (sym (c.push_reserved.ensures.items ∙ ap (λ s. s ++ (name, c.args.meaning) ∷ []) c.reserve.ensures.items))
+    (declared scope.entries.items scope.lookup c.put.new.self name c.args.meaning c.self.invariant new puts c.put.ensures.kept)
+
+pub invariant_of-self : goal.invariant_of-self
+invariant_of-self c = subst (λ s. IsOf s c.self.inside.lookup) (sym c.reserve.ensures.items) c.self.invariant

@@ -7,7 +7,8 @@ The orders: the text's own solve item; the most constrained variables first; who
 another one each round. Each is the text with another solve item. Round after round each order is given four times as many nodes;
 the first order of that list that ends in a round is taken, so -j (how many run at a time, 2 if left out) changes no byte while
 no --time is spent. The cost of the best plan is handed on between rounds, as one constraint more. When time is up, or on Ctrl-C,
-the best plan that was found is written without the mark `==========`.
+or where a signal asks to end (TERM, HUP), all that was started ends, and the best plan that was found is written without the mark
+`==========`.
 
 Standard output has the answer; standard error the solve item that won, and what the answer is proved of. --write FOLDER writes the
 four texts in place of solving them. Exit status: 0 with an answer, that of turbofzn where it refuses, 70 where an answer is wrong.
@@ -18,6 +19,7 @@ import argparse
 import os
 import random
 import re
+import signal
 import subprocess
 import sys
 import tempfile
@@ -202,34 +204,44 @@ def bound_constraint(plan, bound):
 
 
 class Race:
-    """One round: which processes run, and the first order of the list that has ended."""
+    """Which processes run, the first order of the list that has ended in a round, and whether all has to end."""
 
     def __init__(self):
-        self.lock, self.running, self.ended, self.is_stopped = threading.Lock(), {}, None, False
+        # A signal is handled in the main thread, wherever that is.
+        self.lock, self.running, self.ended, self.is_stopped = threading.RLock(), {}, None, False
 
-    def start(self, index, words):
+    def begin(self):
+        """Begins a round."""
+        self.running, self.ended = {}, None
+
+    def start(self, index, words, **streams):
         with self.lock:
             if self.is_stopped or (self.ended is not None and self.ended < index):
                 return None
-            streams = {"stdout": subprocess.PIPE, "stderr": subprocess.PIPE}
             self.running[index] = subprocess.Popen(words, text=True, **streams)
             return self.running[index]
 
     def stop(self, beyond=-1):
-        """Ends the processes of the orders behind this one."""
+        """Ends the processes of the orders behind this one. The launcher ends what it started, too."""
         for index, process in self.running.items():
             if index > beyond and process.poll() is None:
-                process.kill()
+                process.terminate()
 
     def end(self, index):
         with self.lock:
             self.ended = index if self.ended is None else min(index, self.ended)
             self.stop(self.ended)
 
-    def stop_all(self):
+    def stop_all(self, *_):
         with self.lock:
             self.is_stopped = True
             self.stop()
+
+    def stop_on_signals(self):
+        """Ends all where a signal asks for it, unless whoever started this has it ignored."""
+        for number in (signal.SIGINT, signal.SIGTERM, signal.SIGHUP):
+            if signal.getsignal(number) != signal.SIG_IGN:
+                signal.signal(number, self.stop_all)
 
 
 def is_whole(plan, answer):
@@ -238,7 +250,7 @@ def is_whole(plan, answer):
 
 def run_order(race, index, words, plan, deadline):
     """Runs one order in a round; returns its status and what it wrote, or nothing where it was stopped."""
-    process = race.start(index, words)
+    process = race.start(index, words, stdout=subprocess.PIPE, stderr=subprocess.PIPE)
     if process is None:
         return None
     try:
@@ -248,7 +260,7 @@ def run_order(race, index, words, plan, deadline):
         process.kill()
         process.communicate()
         return None
-    if process.returncode < 0:
+    if process.returncode < 0 or (race.is_stopped and process.returncode != 0):
         return None
     if process.returncode != 0 or is_whole(plan, answer):
         race.end(index)
@@ -301,19 +313,16 @@ def write_texts(plan, known, bound, folder):
 
 
 def run_round(race, plan, files, nodes, asked, deadline):
-    """Runs all orders with so many nodes; returns how each ended, or nothing for those that were stopped."""
+    """Runs all orders with so many nodes; returns how each ended, with nothing for those that were stopped."""
+    race.begin()
     with ThreadPoolExecutor(asked.j) as pool:
         ways = [asked.program, "--depth", "0", "--node-limit", str(nodes)]
         jobs = [pool.submit(run_order, race, index, [*ways, file], plan, deadline) for index, file in enumerate(files)]
-        try:
-            return [it.result() for it in jobs]
-        except KeyboardInterrupt:
-            race.stop_all()
-            return None
+        return [it.result() for it in jobs]
 
 
 def give_best(plan, best):
-    """Writes the best plan that was found before time was up, without the mark."""
+    """Writes the best plan that was found before all had to end, without the mark."""
     say("no order ended")
     if best is None:
         print("=====UNKNOWN=====")
@@ -336,15 +345,13 @@ def give_whole(plan, order, ended, bound):
     return give(plan, order, answer, bound)
 
 
-def solve(plan, asked, folder):
+def solve(race, plan, asked, folder):
     """The rounds; returns the exit status."""
     deadline = None if asked.time is None else time.monotonic() + asked.time
     best, nodes, seed = None, asked.nodes, 1
-    while deadline is None or time.monotonic() < deadline:
-        bound, known, race = (best[0] if best else None), orders(plan, seed), Race()
+    while not race.is_stopped and (deadline is None or time.monotonic() < deadline):
+        bound, known = (best[0] if best else None), orders(plan, seed)
         ended = run_round(race, plan, write_texts(plan, known, bound, folder), nodes, asked, deadline)
-        if ended is None:
-            break
         if race.ended is not None:
             return give_whole(plan, known[race.ended], ended[race.ended], bound)
         for order, row in zip(known, ended):
@@ -353,6 +360,12 @@ def solve(plan, asked, folder):
                 best = cost, order, row[1]
         nodes, seed = nodes * 4, seed + 1
     return give_best(plan, best)
+
+
+def build(race):
+    """Has the launcher build the program where it isn't built, or is older than its sources; returns its status."""
+    process = race.start(0, [f"{ROOT}/bin/turbofzn", "--make", "2"], stdout=subprocess.DEVNULL)
+    return 0 if process is None else process.wait()
 
 
 def main():
@@ -373,12 +386,15 @@ def main():
     if asked.write:
         write_texts(plan, orders(plan, 1), None, asked.write)
         return 0
+    race = Race()
+    race.stop_on_signals()
     if asked.program is None:
-        # The launcher builds the program where it isn't, or is older than its sources.
-        subprocess.run([f"{ROOT}/bin/turbofzn", "--make", "2"], check=True, stdout=subprocess.DEVNULL)
         asked.program = BUILT
+        status = build(race)
+        if status != 0 and not race.is_stopped:
+            return status
     with tempfile.TemporaryDirectory() as folder:
-        return solve(plan, asked, folder)
+        return solve(race, plan, asked, folder)
 
 
 if __name__ == "__main__":

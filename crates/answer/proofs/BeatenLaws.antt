@@ -1,11 +1,11 @@
 -- A number whose box the best cost beats: its search drops the box, and is at its end.
-use Rattle.std.proofs.Common.{◌≡◌, ◌≢◌, ℕ, zero, suc, ◌+◌, ◌^◌, ◌<◌, ℤ, pos, neg_ℤ, ◌-ℤ◌, ◌≤ℤ◌, List, [], ◌∷◌, ◌++◌, length, Any, Contains, Bool, true, false, cond, Option, None, Some, refl, sym, subst, ◌∙◌, ◌⊎◌, inl, inr, arith}
+use Rattle.std.proofs.Common.{◌≡◌, ◌≢◌, ℕ, zero, suc, ◌+◌, ◌^◌, ◌<◌, ℤ, pos, neg_ℤ, ◌-ℤ◌, ◌≤ℤ◌, ◌<ℤ◌, List, [], ◌∷◌, ◌++◌, length, Any, Contains, Bool, true, false, cond, Option, None, Some, refl, sym, subst, ◌∙◌, ◌⊎◌, inl, inr, arith}
 use Rattle.std.proofs.lemmas.Int.{ints}
+use Rattle.std.proofs.lemmas.List.{length-set}
 use Rattle.std.specs.Prelude.{slice_index_or, int_le, IfSome, MatchOption}
 use Rattle.std.specs.Int.{int_min, int_max}
-use Rattle.interval.specs.Boxes.{Bounds, low_of, high_of, put_of, IsInside, IsInRange, InsideOrder}
+use Rattle.interval.specs.Boxes.{Bounds, low_of, high_of, put_of, IsInside, IsInRange, IsCrossed, InsideOrder}
 use Rattle.guarded_tell.specs.declared.kernel.Kernel.{Kernel}
-use Rattle.fixpoint_laws.specs.Fixpoints.{IsClosed, Fails}
 use Rattle.constraint_model.specs.declared.model.Term.{Term}
 use Rattle.constraint_model.specs.declared.model.VarDecl.{VarDecl}
 use Rattle.constraint_model.specs.declared.model.Goal.{Goal}
@@ -14,14 +14,14 @@ use Rattle.constraint_model.specs.Relations.{cost_of}
 use Rattle.constraint_model.specs.WellFormed.{IsGoalOf}
 use Rattle.decompose.specs.Kernels.{kernels_of}
 use Rattle.solution_lists.specs.Solutions.{LiesIn, SolvesInside}
-use Rattle.best_bound.specs.Lists.{Among, with_seen, IsLeastCost}
+use Rattle.best_bound.specs.Lists.{Among, with_seen, IsLeastCost, IsCostBelow}
 use Rattle.subproblems.specs.Cuts.{CanBeCut, CutLaws}
 use Rattle.subproblems.specs.Paths.{LeadsTo, PathLaws}
-use Rattle.subproblem_walk.specs.Beaten.{CostsFrom, IsBeaten, LeadsToBeaten, LeadsBelow}
+use Rattle.subproblem_walk.specs.Beaten.{CostsFrom, LeadsToBeaten, LeadsBelow}
 use Rattle.search.specs.declared.kind.Kind.{Kind}
 use Rattle.search.specs.declared.ends.LeastEnd.{LeastEnd}
 use Rattle.search.specs.Costs.{up_to, from_on, at_most, IsAtMost}
-use Rattle.search.specs.Machine.{Search, State, Step, Reached, cut_by, best_after}
+use Rattle.search.specs.Machine.{Search, State, MayFall, Step, Reached, cut_by, best_after}
 use Rattle.search.specs.Machine.Node.{is_dropped}
 use Rattle.search.specs.Machine.Reached.{begun, stepped}
 use Rattle.search.specs.Ends.{EndsDone}
@@ -30,9 +30,10 @@ use Rattle.search.specs.LeastEnds.{EndsLeast, CostAtLeast}
 use Rattle.answer.specs.declared.plan.Plan.{Plan}
 use Rattle.answer.specs.Places.{HasResult}
 use Rattle.answer.specs.Plans.{IsPlan, model_of, kernels_in}
-use Rattle.answer.specs.Results.{program_of}
+use Rattle.answer.specs.Results.{program_of, IsResultFrom}
 use Rattle.answer.specs.Runs.{IsLeastRun, AreLeastRuns}
-use Rattle.answer.proofs.ObjectiveLaws.{low_put, high_put, put_inside, least_le, least_le_right, greatest_le, greatest_le_right}
+use Rattle.answer.proofs.ObjectiveLaws.{low_put, high_put, least_le_right, greatest_le_right}
+use Rattle.answer.proofs.SweepLaws.{crossed_fails, crossed_spends_nothing}
 use Rattle.answer.proofs.ListedLaws.{is_program, can_be_cut}
 use Rattle.answer.proofs.PathBoxes.{path_can}
 use Rattle.answer.proofs.RunLists.{AllAmong, nothing_there}
@@ -48,43 +49,37 @@ where_some (Some x) p = p
 itself : (z : ℤ) → z ≤ℤ z
 itself z = omega (arith, ints)
 
-crossed_up : (cost low high cut h : ℤ) → cost ≤ℤ low → low ≤ℤ high → high ≤ℤ cut → cut ≡ int_min h (cost -ℤ pos 1) → ⊥
-crossed_up cost low high cut h a b d e = let k = least_le_right h (cost -ℤ pos 1) in omega (arith, ints)
+crossed_up : (cost low high cut : ℤ) → cost ≤ℤ low → high ≡ cut → cut ≤ℤ (cost -ℤ pos 1) → high <ℤ low
+crossed_up cost low high cut a e d = omega (arith, ints)
 
-crossed_down : (cost low high cut l : ℤ) → cost ≤ℤ neg_ℤ high → low ≤ℤ high → cut ≤ℤ low → cut ≡ int_max l (neg_ℤ (cost -ℤ pos 1)) → ⊥
-crossed_down cost low high cut l a b d e = let k = greatest_le_right l (neg_ℤ (cost -ℤ pos 1)) in omega (arith, ints)
+crossed_down : (cost low high cut : ℤ) → cost ≤ℤ neg_ℤ high → low ≡ cut → neg_ℤ (cost -ℤ pos 1) ≤ℤ cut → high <ℤ low
+crossed_down cost low high cut a e d = omega (arith, ints)
 
-module _ (order : InsideOrder) (vars : List VarDecl) (kernels : List Kernel) (cost : ℤ) (b : Bounds) (long : length vars < length b) where
-  up_to_inside : (p : ℕ) (z : ℤ) → IsInside (up_to b p z) b
-  up_to_inside p z = put_inside b p (low_of b p) (int_min (high_of b p) z) (itself (low_of b p)) (least_le (high_of b p) z)
-
-  number_fails : (t : Bool) → ((c : Bounds) → IsClosed c kernels → IsInside c b → ⊥) → Fails (cond t b (up_to b 0 (pos 0))) kernels
-  number_fails true none = none
-  number_fails false none = λ c closed inside. none c closed (order.through c (up_to b 0 (pos 0)) b inside (up_to_inside 0 (pos 0)))
-
-  cut_fails : (goal : Goal) → IsGoalOf vars goal → ((c : Bounds) → IsClosed c kernels → IsInside c b → CostsFrom goal cost c) → Fails (at_most goal (cost -ℤ pos 1) b) kernels
-  cut_fails Goal.Satisfy is beaten = λ c closed inside. beaten c closed inside
-  cut_fails (Goal.Minimize (Term.Number n)) is beaten = number_fails (int_le n (cost -ℤ pos 1)) beaten
-  cut_fails (Goal.Maximize (Term.Number n)) is beaten = number_fails (int_le (neg_ℤ n) (cost -ℤ pos 1)) beaten
-  cut_fails (Goal.Minimize (Term.Var v)) is beaten = λ c closed inside.
-      let there = is.inside in
-      let k : suc v < length b = omega (arith, there, long) in
-      let most = cost -ℤ pos 1 in
-      let in_b = order.through c (up_to b (suc v) most) b inside (up_to_inside (suc v) most) in
-      let same = in_b.same_length in
-      let same_cut = inside.same_length in
-      crossed_up cost (low_of c (suc v)) (high_of c (suc v)) (high_of (up_to b (suc v) most) (suc v)) (high_of b (suc v)) (beaten c closed in_b) (closed.proper (suc v) (omega (arith, k, same)))
-      (inside.highs (suc v) (omega (arith, k, same, same_cut))) (high_put b (suc v) (low_of b (suc v)) (int_min (high_of b (suc v)) most) k)
-  cut_fails (Goal.Maximize (Term.Var v)) is beaten = λ c closed inside.
-      let there = is.inside in
-      let k : suc v < length b = omega (arith, there, long) in
-      let least = neg_ℤ (cost -ℤ pos 1) in
-      let in_b = order.through c (from_on b (suc v) least) b inside
-      (put_inside b (suc v) (int_max (low_of b (suc v)) least) (high_of b (suc v)) (greatest_le (low_of b (suc v)) least) (itself (high_of b (suc v)))) in
-      let same = in_b.same_length in
-      let same_cut = inside.same_length in
-      crossed_down cost (low_of c (suc v)) (high_of c (suc v)) (low_of (from_on b (suc v) least) (suc v)) (low_of b (suc v)) (beaten c closed in_b) (closed.proper (suc v) (omega (arith, k, same)))
-      (inside.lows (suc v) (omega (arith, k, same, same_cut))) (low_put b (suc v) (int_max (low_of b (suc v)) least) (high_of b (suc v)) k)
+-- there some variable has no number left: the objective
+cut_crossed : (vars : List VarDecl) (cost : ℤ) (b : Bounds) → length vars < length b → (goal : Goal) → IsGoalOf vars goal → CostsFrom goal cost b → IsCrossed (at_most goal (cost -ℤ pos 1) b)
+cut_crossed vars cost b long Goal.Satisfy is beaten = absurd beaten
+cut_crossed vars cost b long (Goal.Minimize (Term.Number n)) is beaten = absurd beaten
+cut_crossed vars cost b long (Goal.Maximize (Term.Number n)) is beaten = absurd beaten
+cut_crossed vars cost b long (Goal.Minimize (Term.Var v)) is beaten =
+    let there = is.inside in
+    let k : suc v < length b = omega (arith, there, long) in
+    let most = cost -ℤ pos 1 in
+    let same = low_put b (suc v) (low_of b (suc v)) (int_min (high_of b (suc v)) most) k in (
+      suc v,
+      (let e = length-set b (suc v) (low_of b (suc v), int_min (high_of b (suc v)) most) in omega (arith, e, k)),
+      crossed_up cost (low_of (up_to b (suc v) most) (suc v)) (high_of (up_to b (suc v) most) (suc v)) (int_min (high_of b (suc v)) most)
+          (subst (λ (z : ℤ). cost ≤ℤ z) (sym same) beaten) (high_put b (suc v) (low_of b (suc v)) (int_min (high_of b (suc v)) most) k) (least_le_right (high_of b (suc v)) most),
+    )
+cut_crossed vars cost b long (Goal.Maximize (Term.Var v)) is beaten =
+    let there = is.inside in
+    let k : suc v < length b = omega (arith, there, long) in
+    let least = neg_ℤ (cost -ℤ pos 1) in
+    let same = high_put b (suc v) (int_max (low_of b (suc v)) least) (high_of b (suc v)) k in (
+      suc v,
+      (let e = length-set b (suc v) (int_max (low_of b (suc v)) least, high_of b (suc v)) in omega (arith, e, k)),
+      crossed_down cost (low_of (from_on b (suc v) least) (suc v)) (high_of (from_on b (suc v) least) (suc v)) (int_max (low_of b (suc v)) least)
+          (subst (λ (z : ℤ). cost ≤ℤ neg_ℤ z) (sym same) beaten) (low_put b (suc v) (int_max (low_of b (suc v)) least) (high_of b (suc v)) k) (greatest_le_right (low_of b (suc v)) least),
+    )
 
 -- ---- its search
 
@@ -92,12 +87,15 @@ none_or_some : (limit : ℕ) → (limit ≡ 0) ⊎ (0 < limit)
 none_or_some zero = inl refl
 none_or_some (suc n) = inr (omega arith)
 
-module _ (s : Search) (least : s.kind ≡ Kind.Least) (cost : ℤ) (posted : Contains s.posted cost) (fails : Fails (at_most s.model.goal (cost -ℤ pos 1) s.sub) s.kernels) where
+module _ (s : Search) (least : s.kind ≡ Kind.Least) (cost : ℤ) (falls : MayFall s.posted s.known (Some cost)) (crossed : IsCrossed (at_most s.model.goal (cost -ℤ pos 1) s.sub)) where
   abbrev first_state : State
-  first_state = record { stack = s.sub ∷ []; best = Some cost; count = 0; found = [] }
+  first_state = record { stack = s.sub ∷ []; best = s.known; count = 0; found = [] }
 
   abbrev last_state : State
   last_state = record { stack = []; best = Some cost; count = 1; found = [] }
+
+  cut_is_crossed : IsCrossed (cut_by s.kind s.model.goal (Some cost) s.sub)
+  cut_is_crossed = subst (λ (k : Kind). IsCrossed (cut_by k s.model.goal (Some cost) s.sub)) (sym least) crossed
 
   one_step : Step s first_state last_state
   one_step = record {
@@ -106,8 +104,9 @@ module _ (s : Search) (least : s.kind ≡ Kind.Least) (cost : ℤ) (posted : Con
     top = s.sub;
     back = [];
     recorded = [];
-    takes = record { falls = inl refl; taken = refl };
-    node = is_dropped s.model s.kernels s.round_limit (cut_by s.kind s.model.goal (Some cost) s.sub) [] [] (subst (λ (k : Kind). Fails (cut_by k s.model.goal (Some cost) s.sub) s.kernels) (sym least) fails) refl refl;
+    takes = record { falls = falls; taken = refl };
+    node = is_dropped s.model s.kernels s.round_limit (cut_by s.kind s.model.goal (Some cost) s.sub) [] [] (crossed_fails (cut_by s.kind s.model.goal (Some cost) s.sub) s.kernels cut_is_crossed) refl refl;
+    unspent = λ one. crossed_spends_nothing s.kernels s.round_limit (cut_by s.kind s.model.goal (Some cost) s.sub) cut_is_crossed;
     stack = refl;
     falls = subst (λ (k : Kind). ◌≡◌ {A = Option ℤ} (Some cost) (best_after k s.model.goal (Some cost) [])) (sym least) refl;
     count = refl;
@@ -116,13 +115,13 @@ module _ (s : Search) (least : s.kind ≡ Kind.Least) (cost : ℤ) (posted : Con
 
   -- one node, which drops the box
   pub dropped : Reached s last_state
-  dropped = stepped s first_state last_state (begun s first_state refl (inr (cost, (posted, (tt, refl)))) refl refl) (record { below = none_or_some s.node_limit; sought = λ first. refl }) one_step
+  dropped = stepped s first_state last_state (begun s first_state refl refl refl refl) (record { below = none_or_some s.node_limit; sought = λ first. refl }) one_step
 
   pub drop_ends : EndsDone s []
   drop_ends = record { state = last_state; reached = dropped; done = inl refl; is_found = refl }
 
-  pub drop_covers : FindsLeast → IsInsideStart s → CostAtLeast s.model s.sub s.posted
-  drop_covers law inside a other solves costs = elim ((law s last_state least inside dropped).covers a other solves costs) [
+  pub drop_covers : FindsLeast → IsInsideStart s → Contains s.posted cost → CostAtLeast s.model s.sub s.posted
+  drop_covers law inside posted a other solves costs = elim ((law s last_state least inside dropped).covers a other solves costs) [
     | inl less ↦ (posted.0, cost, posted.1, posted.2, less)
     | inr any ↦ let l = any.2 in absurd (omega arith)
   ]
@@ -138,47 +137,74 @@ module _ (more : MorePosted) (fall : CostsFall) (finds : FindsLeast) (order : In
   can = can_be_cut order model is.run.model.search (is_program model plan.run.now.program.now is.run.program) plan.start.now
       (subst (λ (b : Bounds). IsInside plan.start.now b) is.run.program.start is.inside) range
 
+  -- the number has no solution that costs less: so it is where the best cost is seen, and where it is known
+  record HasNothing (seen : List ℤ) (number : ℕ) (best : Option ℤ) : Type 0 where
+    of_seen : HasResult model plan.options.depth plan.start.now (IsLeastRun model plan.options seen) number ([], LeastEnd.Done None)
+    of_known : HasResult model plan.options.depth plan.start.now (IsResultFrom model plan.options best) number ([], LeastEnd.Done None)
+
+  leads_nowhere : (seen : List ℤ) (number : ℕ) (best : Option ℤ) → LeadsTo model (kernels_of model) plan.options.depth plan.start.now number None → HasNothing seen number best
+  leads_nowhere seen number best leads = record {
+    of_seen = record { path = None; leads = leads; is_result = (refl, tt) };
+    of_known = record { path = None; leads = leads; is_result = refl };
+  }
+
   dropped_result : (seen : List ℤ) (number : ℕ) (cost : ℤ) (sub : Bounds) → Among seen cost → LeadsTo model (kernels_of model) plan.options.depth plan.start.now number (Some sub) →
-      IsBeaten model (kernels_of model) cost sub → HasResult model plan.options.depth plan.start.now (IsLeastRun model plan.options seen) number ([], LeastEnd.Done None)
+      CostsFrom model.goal cost sub → HasNothing seen number (Some cost)
   dropped_result seen number cost sub there leads beaten =
-      let s = search more fall plan is objective seen sub in
+      let s = search more fall plan is objective None seen sub in
+      let alone = search more fall plan is objective (Some cost) [] sub in
       let can_sub = path_can cuts model (kernels_of model) plan.options.depth plan.start.now number sub can leads in
       let inside = order.through sub plan.start.now plan.run.now.program.now.start (paths.inside model (kernels_of model) plan.options.depth plan.start.now number sub can leads) is.inside in
       let posted = among_contains seen cost there in
-      let fails = cut_fails order model.vars (kernels_of model) cost sub can_sub.long model.goal is.run.model.objective beaten in
+      let crossed = cut_crossed model.vars cost sub can_sub.long model.goal is.run.model.objective beaten in
+      let falls : MayFall seen None (Some cost) = inr (cost, (posted, (tt, refl))) in
+      let stays : MayFall [] (Some cost) (Some cost) = inl refl in
       record {
-        path = Some sub;
-        leads = leads;
-        is_result = ((drop_ends s refl cost posted fails, refl), drop_covers s refl cost posted fails finds (inside_start more fall plan is objective seen sub inside can_sub.in_range));
+        of_seen = record {
+          path = Some sub;
+          leads = leads;
+          is_result = ((drop_ends s refl cost falls crossed, refl), drop_covers s refl cost falls crossed finds (inside_start more fall plan is objective None seen sub inside can_sub.in_range) posted);
+        };
+        of_known = record { path = Some sub; leads = leads; is_result = (drop_ends alone refl cost stays crossed, refl) };
       }
 
   result_at : (seen : List ℤ) (number : ℕ) (cost : ℤ) (path : Option Bounds) → Among seen cost → LeadsTo model (kernels_of model) plan.options.depth plan.start.now number path →
-      LeadsToBeaten model (kernels_of model) plan.options.depth plan.start.now number cost → HasResult model plan.options.depth plan.start.now (IsLeastRun model plan.options seen) number ([], LeastEnd.Done None)
-  result_at seen number cost None there leads beaten = record { path = None; leads = leads; is_result = (refl, tt) }
+      LeadsToBeaten model (kernels_of model) plan.options.depth plan.start.now number cost → HasNothing seen number (Some cost)
+  result_at seen number cost None there leads beaten = leads_nowhere seen number (Some cost) leads
   result_at seen number cost (Some sub) there leads beaten = dropped_result seen number cost sub there leads (beaten sub leads)
 
   result_below : (seen : List ℤ) (number : ℕ) (best : Option ℤ) → number < 2 ^ plan.options.depth → IfSome best (λ cost. Among seen cost) →
-      MatchOption best ⊥ (λ cost. LeadsToBeaten model (kernels_of model) plan.options.depth plan.start.now number cost) →
-      HasResult model plan.options.depth plan.start.now (IsLeastRun model plan.options seen) number ([], LeastEnd.Done None)
+      MatchOption best ⊥ (λ cost. LeadsToBeaten model (kernels_of model) plan.options.depth plan.start.now number cost) → HasNothing seen number best
   result_below seen number None below there beaten = absurd beaten
   result_below seen number (Some cost) below there beaten =
       let all = paths.every model (kernels_of model) plan.options.depth plan.start.now can in
       result_at seen number cost (slice_index_or all.0 number None) there (all.1.each number below) beaten
 
-  pub least_run_past : (seen posted : List ℤ) (number : ℕ) (best : Option ℤ) (runs : List (ℕ × LeastEnd)) → number < 2 ^ plan.options.depth → IfSome best (λ cost. Among seen cost) →
-      LeadsBelow model (kernels_in plan) plan.options.depth plan.start.now number best None → AreLeastRuns model plan.options plan.start.now seen posted runs →
-      AreLeastRuns model plan.options plan.start.now seen posted (runs ++ (number, LeastEnd.Done None) ∷ [])
-  least_run_past seen posted number best runs below there leads k =
-      least_run_more more model plan.options plan.start.now seen seen posted posted runs number ([], LeastEnd.Done None) k (λ x h. h)
-      (elim (subst (λ (ks : List Kernel). LeadsBelow model ks plan.options.depth plan.start.now number best None) is.run.program.kernels leads) [
-        | inl nowhere ↦ record { path = None; leads = nowhere; is_result = (refl, tt) }
+  has_nothing : (seen : List ℤ) (number : ℕ) (best : Option ℤ) → number < 2 ^ plan.options.depth → IfSome best (λ cost. Among seen cost) →
+      LeadsBelow model (kernels_in plan) plan.options.depth plan.start.now number best None → HasNothing seen number best
+  has_nothing seen number best below there leads =
+      elim (subst (λ (ks : List Kernel). LeadsBelow model ks plan.options.depth plan.start.now number best None) is.run.program.kernels leads) [
+        | inl nowhere ↦ leads_nowhere seen number best nowhere
         | inr beaten ↦ result_below seen number best below there beaten.1
-      ]) (λ cost h. inl h)
+      ]
+
+  pub least_run_past : (seen posted : List ℤ) (number : ℕ) (best : Option ℤ) (runs : List (ℕ × LeastEnd)) → number < 2 ^ plan.options.depth → IfSome best (λ cost. Among seen cost) →
+      (plan.options.workers ≡ 1 → IsLeastCost posted best) → LeadsBelow model (kernels_in plan) plan.options.depth plan.start.now number best None →
+      AreLeastRuns model plan.options plan.start.now seen posted runs → AreLeastRuns model plan.options plan.start.now seen posted (runs ++ (number, LeastEnd.Done None) ∷ [])
+  least_run_past seen posted number best runs below there least leads k =
+      let nothing = has_nothing seen number best below there leads in
+      least_run_more more model plan.options plan.start.now objective seen seen posted posted runs number ([], LeastEnd.Done None) k (λ x h. h) (λ x h. h) nothing.of_seen (λ cost h. inl h)
+      (λ a cost h costs. absurd (nothing_there a h)) (λ one. (best, least one, nothing.of_known))
 
 -- what a look saw is among what was seen, and so is what was seen before
 pub looked_at : (best : Option ℤ) (seen : List ℤ) → IsLeastCost seen best → IfSome best (λ cost. Among seen cost)
 looked_at None seen h = tt
 looked_at (Some cost) seen h = h.0
+
+-- where all that was seen was posted, a look sees the least cost that was posted
+pub least_posted : (best : Option ℤ) (seen posted : List ℤ) → IsLeastCost seen best → IsCostBelow posted best → AllAmong seen posted → IsLeastCost posted best
+least_posted None seen posted least below all = below
+least_posted (Some cost) seen posted least below all = (all cost least.0, below)
 
 pub seen_before : (best : Option ℤ) (before after : List ℤ) → after ≡ with_seen best before → AllAmong before after
 seen_before best before after e x h = subst (λ (xs : List ℤ). Among xs x) (sym e) (still best)

@@ -10,7 +10,7 @@ use Rattle.answer.specs.Lists.{Assignment}
 use Rattle.search.specs.declared.ends.LeastEnd.{LeastEnd}
 use Rattle.answer.specs.Results.{listed, least_collected}
 use Rattle.answer.specs.Unfinished.{CostsMore, CostsAsMuch, IsFirstLeast, IsBestOf}
-use Rattle.answer.proofs.CoverLaws.{has_cost}
+use Rattle.answer.proofs.ObjectiveLaws.{has_cost}
 
 lower : (p q r : ℤ) → p <ℤ q → q ≤ℤ r → p <ℤ r
 lower p q r h k = omega (arith, ints)

@@ -1,6 +1,8 @@
 -- Each solution of the model lies in what some number leads to, so that the searches of all numbers reach its cost.
-use Rattle.std.proofs.Common.{◌≡◌, ◌≢◌, ℕ, zero, suc, ℤ, ◌<◌, ◌^◌, ◌≤ℤ◌, ◌<ℤ◌, List, [], ◌∷◌, ◌++◌, length, get_or, slice_get, flat_map, All, Any, Contains, Option, None, Some, refl, sym, ap, subst, ◌∙◌, inl, inr, arith}
+use Rattle.std.proofs.Common.{◌≡◌, ◌≢◌, ℕ, zero, suc, ℤ, ◌<◌, ◌^◌, ◌≤ℤ◌, ◌<ℤ◌, List, [], ◌∷◌, ◌++◌, length, map, take, get_or, slice_get, flat_map, All, Any, Contains, Option, None, Some, refl, sym, ap, subst, ◌∙◌, inl, inr, arith}
+use Rattle.std.specs.List.{range_with_len}
 use Rattle.std.proofs.lemmas.Int.{ints}
+use Rattle.std.proofs.lemmas.List.{take-map}
 use Rattle.std.proofs.lemmas.Option.{slice_get_within, get_or_from_slice_get, slice_get-get_or}
 use Rattle.std.proofs.lemmas.List.Elements.{Contains-append_left, Contains-append_right, Contains-append_cases}
 use Rattle.interval.specs.Boxes.{Bounds, InsideOrder}
@@ -22,12 +24,15 @@ use Rattle.crew.specs.Ends.{numbers_of, AreInOrder}
 use Rattle.answer.specs.declared.options.Options.{Options}
 use Rattle.answer.specs.Lists.{Assignment}
 use Rattle.answer.specs.Least.{IsLeastCost}
-use Rattle.answer.specs.Results.{program_of, LeastResult, IsLeastResult, least_collected, collected_in, IsLeastSpent, CostsAtMost, AreLeastResults}
+use Rattle.answer.specs.Places.{StandsAt}
+use Rattle.answer.specs.Results.{program_of, LeastResult, IsLeastResult, ComesInTurn, AreInTurn, least_collected, collected_in, IsLeastSpent, CostsAtMost, AreLeastResults}
 use Rattle.answer.specs.Runs.{IsCovered, IsLeastRun, AreLeastRuns, ReachAll, AreWholeResults, AreWholeEnds}
 use Rattle.answer.specs.Unfinished.{CostsMore, CostsAsMuch, IsFirstLeast}
 use Rattle.answer.proofs.RunLists.{AllAmong, nothing_there, result_kept, results_of}
 use Rattle.answer.proofs.LeastRunLists.{contains_among}
-use Rattle.answer.proofs.Chosen.{chosen, chosen_images, same_numbers}
+use Rattle.answer.proofs.Chosen.{mapped_at, chosen, chosen_images, same_numbers}
+use Rattle.answer.proofs.TurnLaws.{number_at, same_results}
+use Rattle.answer.proofs.ObjectiveLaws.{has_cost}
 use Rattle.answer.proofs.ListedLaws.{lies_in_start, start_can_be_cut}
 use Rattle.answer.proofs.PathBoxes.{path_can}
 
@@ -98,7 +103,7 @@ module _ (order : InsideOrder) (every : EveryList) (laws : PathLaws) (cuts : Cut
 
   -- the results of the runs of all numbers, where all costs that were seen were posted
   module _ (seen posted : List ℤ) (runs : List (ℕ × LeastEnd)) (h : AreLeastRuns model options (start_of model) seen posted runs) (all : AllAmong seen posted) (results : List LeastResult)
-      (in_order : AreInOrder (2 ^ options.depth) h.results results) where
+      (in_order : AreInOrder (2 ^ options.depth) h.results results) (rising : options.workers ≡ 1 → numbers_of h.results ≡ range_with_len 0 (2 ^ options.depth)) where
     given : (cost : ℤ) → Among seen cost → Any (CostsAtMost model.goal cost) (collected_in results)
     given cost there =
         let r = h.reached cost (all cost there) in
@@ -111,12 +116,24 @@ module _ (order : InsideOrder) (every : EveryList) (laws : PathLaws) (cuts : Cut
         let place = (in_order.places r.number r.result).0 r.there in
         (r.number, r.result, slice_get_within results r.number r.result place, get_or_from_slice_get results r.number r.result r.result place, r.recorded)
 
+    -- one worker's results are those of its runs, in turn
+    in_turn : options.workers ≡ 1 → numbers_of h.results ≡ range_with_len 0 (2 ^ options.depth) → AreInTurn model options results
+    in_turn one rise number result there =
+        let same = same_results (2 ^ options.depth) h.results results in_order rise in
+        let from = mapped_at (λ (run : ℕ × LeastResult). run.1) h.results number result (subst (λ (rs : List LeastResult). StandsAt rs number result) (sym same) there) in
+        let place = number_at (2 ^ options.depth) h.results results in_order rise number from.0 from.1 in
+        let earlier = sym (take-map (λ (run : ℕ × LeastResult). run.1) number h.results) ∙ ap (take number) same in
+        subst (λ (n : ℕ). ComesInTurn model options (start_of model) (take number results) n result) place
+        (subst (λ (r : LeastResult). ComesInTurn model options (start_of model) (take number results) from.0.0 r) from.2
+        (subst (λ (rs : List LeastResult). ComesInTurn model options (start_of model) rs from.0.0 from.0.1) earlier (h.in_turn one number from.0 from.1)))
+
     are_results : AreLeastResults model options results
     are_results = record {
       posted = seen;
       recorded = λ cost there. recorded cost (contains_among seen cost there);
       are = results_of model options.depth (start_of model) (IsLeastResult model options seen) h.results results in_order
           (λ number result there. result_kept model options.depth (start_of model) (IsLeastRun model options seen) (IsLeastResult model options seen) (λ n p r k. k.0) number result (h.each number result there));
+      in_turn = λ one. in_turn one (rising one);
     }
 
     lower : (cost other : ℤ) (a : Assignment) → other ≤ℤ cost → CostsAtMost model.goal other a → CostsAtMost model.goal cost a
@@ -149,22 +166,17 @@ module _ (order : InsideOrder) (every : EveryList) (laws : PathLaws) (cuts : Cut
 
   -- so it is of the ends of all numbers: one of what the runs recorded is chosen for each
   pub whole_ends : CountingLaws → (seen posted : List ℤ) (runs : List (ℕ × LeastEnd)) (ends : List LeastEnd) → AreLeastRuns model options (start_of model) seen posted runs → AllAmong seen posted →
-      AreInOrder (2 ^ options.depth) runs ends → AreWholeEnds model options ends
-  whole_ends counting seen posted runs ends h all order =
+      AreInOrder (2 ^ options.depth) runs ends → (options.workers ≡ 1 → numbers_of runs ≡ range_with_len 0 (2 ^ options.depth)) → AreWholeEnds model options ends
+  whole_ends counting seen posted runs ends h all order rising =
       let numbers : numbers_of h.results ≡ numbers_of runs = sym (same_numbers end_of h.results) ∙ ap (λ (rs : List (ℕ × LeastEnd)). numbers_of rs) h.of_runs in
       let these = chosen counting (2 ^ options.depth) h.results (subst (IsEachOnce (2 ^ options.depth)) (sym numbers) order.each_once) in
       record {
         results = these.0;
         of_results = chosen_images counting end_of (2 ^ options.depth) h.results these.0 runs ends these.1 h.of_runs order;
-        whole = whole_results seen posted runs h all these.0 these.1;
+        whole = whole_results seen posted runs h all these.0 these.1 (λ one. numbers ∙ rising one);
       }
 
 -- ---- the best of what was collected costs least
-
-pub has_cost : (goal : Goal) (a : Assignment) → goal ≢ Goal.Satisfy → (cost : ℤ) × (cost_of goal a ≡ Some cost)
-has_cost Goal.Satisfy a h = absurd (h refl)
-has_cost (Goal.Minimize t) a h = (_, refl)
-has_cost (Goal.Maximize t) a h = (_, refl)
 
 pub least_is_best : (model : FznModel) (collected : List Assignment) (a : Assignment) (cost : ℤ) → All (IsSolution model) collected → ReachAll model collected → IsFirstLeast model.goal collected a →
     cost_of model.goal a ≡ Some cost → IsLeastCost model cost

@@ -31,7 +31,7 @@ use Rattle.answer.specs.Cuts.{cut_to}
 use Rattle.answer.specs.Lists.{Assignment, ListsSolutions, IsSolutionAt}
 use Rattle.answer.specs.Finished.{IsFinished, IsOptimal, Gives}
 use Rattle.answer.specs.Places.{AreResults}
-use Rattle.answer.specs.Results.{program_of, listed, IsFirstResult, AreFirstResults, first_collected, IsFirstSpent, IsAllResult, AreAllResults, all_collected, IsAllSpent, LeastResult, IsLeastResult, least_collected, collected_in, IsLeastSpent}
+use Rattle.answer.specs.Results.{program_of, listed, IsFirstResult, AreFirstResults, first_collected, IsOpen, IsAllResult, AreAllResults, all_collected, IsAllSpent, LeastResult, IsLeastResult, least_collected, collected_in, IsLeastSpent}
 use Rattle.answer.specs.Unfinished.{mark_where, IsFirstLeast, IsBestOf, FindsBest, IsBestCollected, IsLeastCollected, GivesCollected}
 use Rattle.answer.specs.Unspent.{IsUnspentFirst, IsUnspentLeast, IsUnspentFor, IsUnspentSearch}
 use Rattle.answer.specs.Runs.{AreWholeResults, AreWholeEnds}
@@ -49,11 +49,14 @@ limited s Why.Nodes nodes found n r h = h.out.limited n
 limited s Why.Rounds nodes found n r h = h.out.given_up.limited r
 
 module _ (model : FznModel) (options : Options) (n : options.node_limit ≡ 0) (r : options.round_limit ≡ 0) where
-  pub first_unlimited : (results : List FirstEnd) (number : ℕ) (path : Option Bounds) (end : FirstEnd) → IsFirstResult model options results number path end → IsFirstSpent end → ⊥
-  first_unlimited results number path (FirstEnd.Done answer) h s = s
-  first_unlimited results number path (FirstEnd.Cut lesser) h s = s
-  first_unlimited results number None (FirstEnd.Spent nodes why) h s = h
-  first_unlimited results number (Some sub) (FirstEnd.Spent nodes why) h s = limited _ why nodes [] n r h
+  first_unlimited : (results : List FirstEnd) (number : ℕ) (path : Option Bounds) (nodes : ℕ) (why : Why) → IsFirstResult model options results number path (FirstEnd.Spent nodes why) → ⊥
+  first_unlimited results number None nodes why h = h
+  first_unlimited results number (Some sub) nodes why h = limited _ why nodes [] n r h
+
+  pub none_open : (b : Bounds) (results : List FirstEnd) → AreFirstResults model options b results → IsOpen results → ⊥
+  none_open b results are (number, h) =
+      let own = are.each number (FirstEnd.Spent h.nodes h.why) h.stopped in
+      first_unlimited results number own.path h.nodes h.why own.is_result
 
   pub all_unlimited : (number : ℕ) (path : Option Bounds) (end : AllEnd) → IsAllResult model options number path end → IsAllSpent end → ⊥
   all_unlimited number path (AllEnd.Done found) h s = s
@@ -65,7 +68,7 @@ module _ (model : FznModel) (options : Options) (n : options.node_limit ≡ 0) (
   end_unlimited posted number None found (LeastEnd.Spent nodes why so_far) h s = let e : LeastEnd.Spent nodes why so_far ≡ LeastEnd.Done None = ap (λ (r : LeastResult). r.1) h in absurd cc
   end_unlimited posted number (Some sub) found (LeastEnd.Spent nodes why so_far) h s = limited _ why nodes found n r h.0
 
-  least_unlimited : (posted : List ℤ) (number : ℕ) (path : Option Bounds) (result : LeastResult) → IsLeastResult model options posted number path result → IsLeastSpent result.1 → ⊥
+  pub least_unlimited : (posted : List ℤ) (number : ℕ) (path : Option Bounds) (result : LeastResult) → IsLeastResult model options posted number path result → IsLeastSpent result.1 → ⊥
   least_unlimited posted number path result h s = end_unlimited posted number path result.0 result.1 h s
 
 -- ---- ends, and what was recorded beside them
@@ -147,10 +150,10 @@ module _ (order : InsideOrder) (one : OneList) (every : EveryList) (laws : PathL
         subst (All (IsSolution model)) (sym e)
         (first_of_list (IsSolution model) (flat_map first_collected results) (firsts_solve order laws cuts records model rule goal f options start can (order.itself start) results h))
 
-    pub first_spent : Any IsFirstSpent results → answer.mark ≡ mark_where answer.solutions → IsGiven model options answer
-    first_spent spent m = record {
-      is_answer = inr (subst₂ (λ (g : Goal) (b : Bool). GivesCollected g b model options answer) (sym satisfy) (sym first) (record { results = results; are = h; spent = spent; solutions = e; mark = m }));
-      whole = λ n r. absurd (none_spent model options.depth start (IsFirstResult model options results) IsFirstSpent results h (first_unlimited model options n r results) spent);
+    pub first_open : IsOpen results → answer.mark ≡ mark_where answer.solutions → IsGiven model options answer
+    first_open part m = record {
+      is_answer = inr (subst₂ (λ (g : Goal) (b : Bool). GivesCollected g b model options answer) (sym satisfy) (sym first) (record { results = results; are = h; is_open = part; solutions = e; mark = m }));
+      whole = λ n r. absurd (none_open model options n r start results h part);
       solve = first_solve;
     }
 
@@ -166,13 +169,13 @@ module _ (order : InsideOrder) (one : OneList) (every : EveryList) (laws : PathL
           mark = same_mark false false answer.solutions (a ∷ []) Mark.Plain answer.mark refl (e ∙ t) m;
         }))
 
-    pub first_unspent : All (λ end. IsFirstSpent end → ⊥) results → answer.mark ≡ mark_for false answer.solutions Mark.Plain → IsGiven model options answer
-    first_unspent unspent m =
-        let done = finished all_list.0 all_list.1 (first_of_all one laws model options start results all_list.0 can h unspent all_list.1) m in
+    pub first_closed : (IsOpen results → ⊥) → answer.mark ≡ mark_for false answer.solutions Mark.Plain → IsGiven model options answer
+    first_closed closed m =
+        let done = finished all_list.0 all_list.1 (first_of_all one laws model options start results all_list.0 can h closed all_list.1) m in
         record { is_answer = inl (record { finished = done; unspent = λ limit. searched }); whole = λ n r. done; solve = first_solve }
       where
         searched : IsUnspentSearch model options
-        searched = subst₂ (λ (g : Goal) (b : Bool). IsUnspentFor g b model options) (sym satisfy) (sym first) (record { results = results; are = h; unspent = unspent })
+        searched = subst₂ (λ (g : Goal) (b : Bool). IsUnspentFor g b model options) (sym satisfy) (sym first) (record { results = results; are = h; none_open = closed })
 
   -- ---- all solutions
 
@@ -277,10 +280,10 @@ module _ (order : InsideOrder) (one : OneList) (every : EveryList) (laws : PathL
       second_solve : All (IsSolution model) answer.solutions
       second_solve = subst (All (IsSolution model)) (sym e) (first_of_list (IsSolution model) (flat_map first_collected results ++ best ∷ []) both_solve)
 
-      pub second_spent : Any IsFirstSpent results → answer.mark ≡ Mark.Plain → IsGiven model options answer
-      second_spent spent m = record {
-        is_answer = inr (collected_given model.goal options.all objective (inr (record { cost = cost; least = least; best = best; found = finds; results = results; are = h; spent = spent; solutions = e; mark = m })));
-        whole = λ n r. absurd (none_spent model options.depth cut (IsFirstResult model options results) IsFirstSpent results h (first_unlimited model options n r results) spent);
+      pub second_open : IsOpen results → answer.mark ≡ Mark.Plain → IsGiven model options answer
+      second_open part m = record {
+        is_answer = inr (collected_given model.goal options.all objective (inr (record { cost = cost; least = least; best = best; found = finds; results = results; are = h; is_open = part; solutions = e; mark = m })));
+        whole = λ n r. absurd (none_open model options n r cut results h part);
         solve = second_solve;
       }
 
@@ -300,27 +303,27 @@ module _ (order : InsideOrder) (one : OneList) (every : EveryList) (laws : PathL
         mark = m;
       }
 
-      pub second_unspent : All (λ end. IsFirstSpent end → ⊥) results → answer.mark ≡ Mark.Complete → IsGiven model options answer
-      second_unspent unspent m =
+      pub second_closed : (IsOpen results → ⊥) → answer.mark ≡ Mark.Complete → IsGiven model options answer
+      second_closed closed m =
           let list = every model (kernels_of model) cut rule cut_can.long cut_can.in_range cut_can.fit in
           let done : IsFinished model options.all answer =
-          inr (optimal_given model answer model.goal options.all objective (optimum list.0 list.1 (first_of_all one laws model options cut results list.0 cut_can h unspent list.1) m)) in
+          inr (optimal_given model answer model.goal options.all objective (optimum list.0 list.1 (first_of_all one laws model options cut results list.0 cut_can h closed list.1) m)) in
           let searched : IsUnspentLeast model options = record {
             results = finds.results;
             are = finds.are;
             unspent = finds.unspent;
-            second = λ other k. subst (λ (c : ℤ). IsUnspentFirst model options (cut_to model.goal c start)) (same_cost model cost other least k) (record { results = results; are = h; unspent = unspent });
+            second = λ other k. subst (λ (c : ℤ). IsUnspentFirst model options (cut_to model.goal c start)) (same_cost model cost other least k) (record { results = results; are = h; none_open = closed });
           } in
           record { is_answer = inl (record { finished = done; unspent = λ limit. least_unspent model.goal options.all objective searched }); whole = λ n r. done; solve = second_solve }
 
 module _ (order : InsideOrder) (one : OneList) (every : EveryList) (laws : PathLaws) (cuts : CutLaws) (are : SolutionsAreListed) (declared : InDeclarationOrder) (records : RecordsSolutions)
     (model : FznModel) (rule : IsSearchOf model) (goal : IsGoalOf model.vars model.goal) (f : IsProgramOf model (program_of model)) (options : Options) (answer : Answer) where
   pub first_given : (results slice : List FirstEnd) → AreFirstResults model options (start_of model) results → model.goal ≡ Goal.Satisfy → options.all ≡ false → answer.solutions ≡ take 1 (flat_map first_collected results) →
-      slice ≡ results → (spent : Bool) → OnTrue spent (Any IsFirstSpent slice) → OnFalse spent (All (λ end. IsFirstSpent end → ⊥) slice) → answer.mark ≡ mark_for spent answer.solutions Mark.Plain → IsGiven model options answer
+      slice ≡ results → (open_part : Bool) → OnTrue open_part (IsOpen slice) → OnFalse open_part (IsOpen slice → ⊥) → answer.mark ≡ mark_for open_part answer.solutions Mark.Plain → IsGiven model options answer
   first_given results slice h satisfy first e same true s u m =
-      first_spent order one every laws cuts are declared records model rule goal f options answer results h satisfy first e (subst (λ (rs : List FirstEnd). Any IsFirstSpent rs) same s) m
+      first_open order one every laws cuts are declared records model rule goal f options answer results h satisfy first e (subst (λ (rs : List FirstEnd). IsOpen rs) same s) m
   first_given results slice h satisfy first e same false s u m =
-      first_unspent order one every laws cuts are declared records model rule goal f options answer results h satisfy first e (subst (λ (rs : List FirstEnd). All (λ end. IsFirstSpent end → ⊥) rs) same u) m
+      first_closed order one every laws cuts are declared records model rule goal f options answer results h satisfy first e (subst (λ (rs : List FirstEnd). IsOpen rs → ⊥) same u) m
 
   pub all_given : (results slice : List AllEnd) → AreAllResults model options results → model.goal ≡ Goal.Satisfy → options.all ≡ true → answer.solutions ≡ flat_map all_collected results →
       slice ≡ results → (spent : Bool) → OnTrue spent (Any IsAllSpent slice) → OnFalse spent (All (λ end. IsAllSpent end → ⊥) slice) → answer.mark ≡ mark_for spent answer.solutions Mark.Complete → IsGiven model options answer
@@ -363,14 +366,14 @@ module _ (order : InsideOrder) (one : OneList) (every : EveryList) (laws : PathL
       (of_results_best ends h (Some best) is_best)
 
   pub second_given : (objective : model.goal ≢ Goal.Satisfy) (cost : ℤ) (best : Assignment) → IsBestKnown model options best → cost_of model.goal best ≡ Some cost → (results slice : List FirstEnd) →
-      AreFirstResults model options (cut_to model.goal cost (start_of model)) results → answer.solutions ≡ take 1 (flat_map first_collected results ++ best ∷ []) → slice ≡ results → (spent : Bool) →
-      OnTrue spent (Any IsFirstSpent slice) → OnFalse spent (All (λ end. IsFirstSpent end → ⊥) slice) → OnTrue spent (answer.mark ≡ Mark.Plain) → OnFalse spent (answer.mark ≡ Mark.Complete) → IsGiven model options answer
+      AreFirstResults model options (cut_to model.goal cost (start_of model)) results → answer.solutions ≡ take 1 (flat_map first_collected results ++ best ∷ []) → slice ≡ results → (open_part : Bool) →
+      OnTrue open_part (IsOpen slice) → OnFalse open_part (IsOpen slice → ⊥) → OnTrue open_part (answer.mark ≡ Mark.Plain) → OnFalse open_part (answer.mark ≡ Mark.Complete) → IsGiven model options answer
   second_given objective cost best known costs results slice h e same true s u plain complete =
-      second_spent order one every laws cuts are declared records model rule goal f options answer objective cost (known.least cost costs) best known.found (record { solves = known.solves; costs = costs }) results h e
-      (subst (λ (rs : List FirstEnd). Any IsFirstSpent rs) same s) plain
+      second_open order one every laws cuts are declared records model rule goal f options answer objective cost (known.least cost costs) best known.found (record { solves = known.solves; costs = costs }) results h e
+      (subst (λ (rs : List FirstEnd). IsOpen rs) same s) plain
   second_given objective cost best known costs results slice h e same false s u plain complete =
-      second_unspent order one every laws cuts are declared records model rule goal f options answer objective cost (known.least cost costs) best known.found (record { solves = known.solves; costs = costs }) results h e
-      (subst (λ (rs : List FirstEnd). All (λ end. IsFirstSpent end → ⊥) rs) same u) complete
+      second_closed order one every laws cuts are declared records model rule goal f options answer objective cost (known.least cost costs) best known.found (record { solves = known.solves; costs = costs }) results h e
+      (subst (λ (rs : List FirstEnd). IsOpen rs → ⊥) same u) complete
 
   pub whole_solve : (ends : List LeastEnd) → AreWholeEnds model options ends → All (IsSolution model) (flat_map least_collected ends)
   whole_solve ends h =

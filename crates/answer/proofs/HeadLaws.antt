@@ -1,5 +1,5 @@
--- With no search stopped, what the searches for the first solution collect first is the first of all solutions, and what those
--- for all solutions collect is all of them.
+-- With no part open, what the searches for the first solution collect first is the first of all solutions; and with none
+-- stopped, what those for all solutions collect is all of them.
 use Rattle.std.proofs.Common.{◌≡◌, ℕ, suc, ◌+◌, ◌<◌, List, [], ◌∷◌, ◌++◌, take, All, flat_map, Option, None, Some, refl, sym, ap, subst, ◌∙◌, inl, inr, arith}
 use Rattle.std.proofs.lemmas.Bool.{cases_lt}
 use Rattle.std.proofs.lemmas.List.Elements.{All-head, All-tail}
@@ -16,7 +16,7 @@ use Rattle.search.specs.Ends.{head_of}
 use Rattle.answer.specs.declared.options.Options.{Options}
 use Rattle.answer.specs.Lists.{Assignment}
 use Rattle.answer.specs.Places.{StandsAt, AreResults}
-use Rattle.answer.specs.Results.{IsFirstResult, AreFirstResults, first_collected, IsFirstSpent, IsAllResult, all_collected, IsAllSpent}
+use Rattle.answer.specs.Results.{IsFirstResult, AreFirstResults, first_collected, IsOpen, IsAllResult, all_collected, IsAllSpent}
 use Rattle.answer.proofs.AlongLaws.{Along, one_entry, stands_first, stands_later, results_along}
 
 no_head : (xs : List Assignment) → None ≡ head_of xs → xs ≡ []
@@ -27,7 +27,7 @@ a_head : (a : Assignment) (xs : List Assignment) → Some a ≡ head_of xs → (
 a_head a [] e = absurd cc
 a_head a (x ∷ xs) e = (xs, (let same : a ≡ x = cc in ap (λ (y : Assignment). y ∷ xs) (sym same)))
 
-module _ (one : OneList) (model : FznModel) (rule : IsSearchOf model) (options : Options) (results : List FirstEnd) where
+module _ (one : OneList) (model : FznModel) (rule : IsSearchOf model) (options : Options) (results : List FirstEnd) (closed : IsOpen results → ⊥) where
   abbrev Is : ℕ → Option Bounds → FirstEnd → Type 0
   Is = IsFirstResult model options results
 
@@ -52,6 +52,9 @@ module _ (one : OneList) (model : FznModel) (rule : IsSearchOf model) (options :
       let same : number + suc j ≡ suc number + j = omega arith in
       subst (λ (n : ℕ). StandsAt results n s) same (rest (suc j) s (stands_later r rs j s h))
 
+  first_there : (number : ℕ) (r : FirstEnd) (rs : List FirstEnd) → AreRest number (r ∷ rs) → StandsAt results number r
+  first_there number r rs rest = let same : number + 0 ≡ number = omega arith in subst (λ (n : ℕ). StandsAt results n r) same (rest 0 r (stands_first r rs))
+
   none_after : (number : ℕ) (rs : List FirstEnd) → AreRest number (FirstEnd.Done None ∷ rs) → NoneBefore number → NoneBefore (suc number)
   none_after number rs rest none j a below h = elim (cases_lt j number) [
     | inl l ↦ none j a l h
@@ -62,32 +65,32 @@ module _ (one : OneList) (model : FznModel) (rule : IsSearchOf model) (options :
   ]
 
   heads : (number : ℕ) (paths : List (Option Bounds)) (rs : List FirstEnd) (found : List Assignment) → Along Is number paths rs →
-      SolutionsOfAll model (kernels_of model) paths found → All (λ r. IsFirstSpent r → ⊥) rs → AreRest number rs → NoneBefore number →
+      SolutionsOfAll model (kernels_of model) paths found → AreRest number rs → NoneBefore number →
       take 1 (flat_map first_collected rs) ≡ take 1 found
-  heads number [] [] found h s unspent rest none = ap (take 1) (sym s)
-  heads number [] (r ∷ rs) found h s unspent rest none = absurd h
-  heads number (p ∷ ps) [] found h s unspent rest none = absurd h
-  heads number (p ∷ ps) (FirstEnd.Spent nodes why ∷ rs) found h s unspent rest none =
-      absurd (All-head (λ r. IsFirstSpent r → ⊥) (FirstEnd.Spent nodes why) rs unspent tt)
-  heads number (p ∷ ps) (FirstEnd.Cut lesser ∷ rs) found h s unspent rest none = absurd (not_cut number p lesser none h.0)
-  heads number (p ∷ ps) (FirstEnd.Done None ∷ rs) found h (own, others, is_own, are_others, e) unspent rest none =
+  heads number [] [] found h s rest none = ap (take 1) (sym s)
+  heads number [] (r ∷ rs) found h s rest none = absurd h
+  heads number (p ∷ ps) [] found h s rest none = absurd h
+  heads number (p ∷ ps) (FirstEnd.Spent nodes why ∷ rs) found h s rest none =
+      absurd (closed (number, record { nodes = nodes; why = why; stopped = first_there number (FirstEnd.Spent nodes why) rs rest; none_before = none }))
+  heads number (p ∷ ps) (FirstEnd.Cut lesser ∷ rs) found h s rest none = absurd (not_cut number p lesser none h.0)
+  heads number (p ∷ ps) (FirstEnd.Done None ∷ rs) found h (own, others, is_own, are_others, e) rest none =
       let empty = no_head own (done_head number p None own h.0 is_own) in
-      heads (suc number) ps rs others h.1 are_others (All-tail (λ r. IsFirstSpent r → ⊥) (FirstEnd.Done None) rs unspent)
+      heads (suc number) ps rs others h.1 are_others
       (rest_after number (FirstEnd.Done None) rs rest) (none_after number rs rest none)
       ∙ ap (take 1) (sym (e ∙ ap (λ (xs : List Assignment). xs ++ others) empty))
-  heads number (p ∷ ps) (FirstEnd.Done (Some a) ∷ rs) found h (own, others, is_own, are_others, e) unspent rest none =
+  heads number (p ∷ ps) (FirstEnd.Done (Some a) ∷ rs) found h (own, others, is_own, are_others, e) rest none =
       let head = a_head a own (done_head number p (Some a) own h.0 is_own) in
       ap (take 1) (sym (e ∙ ap (λ (xs : List Assignment). xs ++ others) head.1))
 
 -- the first of all solutions
 pub first_of_all : (one : OneList) (laws : PathLaws) (model : FznModel) (options : Options) (b : Bounds) (results : List FirstEnd) (found : List Assignment) →
-    CanBeCut model (kernels_of model) b → AreFirstResults model options b results → All (λ r. IsFirstSpent r → ⊥) results → SolutionsIn model (kernels_of model) b found →
+    CanBeCut model (kernels_of model) b → AreFirstResults model options b results → (IsOpen results → ⊥) → SolutionsIn model (kernels_of model) b found →
     take 1 (flat_map first_collected results) ≡ take 1 found
-first_of_all one laws model options b results found can are unspent s =
+first_of_all one laws model options b results found can are closed s =
     let paths = laws.every model (kernels_of model) options.depth b can in
-    heads one model can.search options results 0 paths.0 results found
+    heads one model can.search options results closed 0 paths.0 results found
     (results_along laws model can.search options.depth b paths.0 paths.1 (IsFirstResult model options results) results are)
-    (laws.solutions_back model (kernels_of model) options.depth b paths.0 found can paths.1 s) unspent
+    (laws.solutions_back model (kernels_of model) options.depth b paths.0 found can paths.1 s)
     (λ (j : ℕ) (r : FirstEnd) (h : StandsAt results j r). let same : j ≡ 0 + j = omega arith in subst (λ (n : ℕ). StandsAt results n r) same h)
     (λ (j : ℕ) (a : Assignment) (below : j < 0) (h : StandsAt results j (FirstEnd.Done (Some a))). omega arith)
 

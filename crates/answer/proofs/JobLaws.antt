@@ -36,10 +36,40 @@ module _ {L : Type 0} (plan : Plan L) (is : IsPlan plan) where
   plan_leads number path h = subst (λ (ks : List Kernel). LeadsTo model ks plan.options.depth plan.start.now number path) is.run.program.kernels h
 
   -- the search of a run, as the definitions name it
-  pub plan_search : (kind : Kind) (posted : List ℤ) (sub : Bounds) →
-      ◌≡◌ {A = Search} (record { model = model; kernels = kernels_in plan; sub = sub; kind = kind; node_limit = plan.run.now.node_limit; round_limit = plan.run.now.round_limit; posted = posted })
-      (record { model = model; kernels = kernels_of model; sub = sub; kind = kind; node_limit = plan.options.node_limit; round_limit = plan.options.round_limit; posted = posted })
-  plan_search kind posted sub = λ i. record { model = model; kernels = is.run.program.kernels i; sub = sub; kind = kind; node_limit = is.node_limit i; round_limit = is.round_limit i; posted = posted }
+  pub plan_search : (kind : Kind) (known : Option ℤ) (posted : List ℤ) (sub : Bounds) →
+      ◌≡◌ {A = Search} (record {
+        model = model;
+        kernels = kernels_in plan;
+        sub = sub;
+        kind = kind;
+        node_limit = plan.run.now.node_limit;
+        round_limit = plan.run.now.round_limit;
+        lanes = plan.run.now.lanes;
+        known = known;
+        posted = posted;
+      })
+      (record {
+        model = model;
+        kernels = kernels_of model;
+        sub = sub;
+        kind = kind;
+        node_limit = plan.options.node_limit;
+        round_limit = plan.options.round_limit;
+        lanes = plan.options.lanes;
+        known = known;
+        posted = posted;
+      })
+  plan_search kind known posted sub = λ i. record {
+    model = model;
+    kernels = is.run.program.kernels i;
+    sub = sub;
+    kind = kind;
+    node_limit = is.node_limit i;
+    round_limit = is.round_limit i;
+    lanes = is.lanes i;
+    known = known;
+    posted = posted;
+  }
 
   first_none : (number : ℕ) (seen : List ℕ) → LeadsTo model (kernels_in plan) plan.options.depth plan.start.now number None →
       HasResult model plan.options.depth plan.start.now (IsFirstRun model plan.options seen) number (FirstEnd.Done None)
@@ -52,12 +82,12 @@ module _ {L : Type 0} (plan : Plan L) (is : IsPlan plan) where
   first_ends_run number seen sub (FirstEnd.Cut lesser) h = (h.0, h.1.0)
 
   first_some : (number : ℕ) (seen : List ℕ) (sub : Bounds) (end : FirstEnd) → LeadsTo model (kernels_in plan) plan.options.depth plan.start.now number (Some sub) →
-      IsFirstEnd (search_of model plan.run.now.program.now plan.run.now.node_limit plan.run.now.round_limit Kind.First sub) number seen end →
+      IsFirstEnd (search_of model plan.run.now.program.now plan.run.now.node_limit plan.run.now.round_limit plan.run.now.lanes Kind.First sub) number seen end →
       HasResult model plan.options.depth plan.start.now (IsFirstRun model plan.options seen) number end
   first_some number seen sub end h k = record {
     path = Some sub;
     leads = plan_leads number (Some sub) h;
-    is_result = first_ends_run number seen sub end (subst (λ (s : Search). IsFirstEnd s number seen end) (plan_search Kind.First [] sub) k);
+    is_result = first_ends_run number seen sub end (subst (λ (s : Search). IsFirstEnd s number seen end) (plan_search Kind.First None [] sub) k);
   }
 
   -- a number that leads to nothing has no solution
@@ -69,7 +99,7 @@ module _ {L : Type 0} (plan : Plan L) (is : IsPlan plan) where
   -- the run of a subproblem
   pub first_run_some : (seen after posted posts : List ℕ) (number : ℕ) (sub : Bounds) (end : FirstEnd) (runs : List (ℕ × FirstEnd)) →
       LeadsTo model (kernels_in plan) plan.options.depth plan.start.now number (Some sub) → AllAmong seen after →
-      IsFirstEnd (search_of model plan.run.now.program.now plan.run.now.node_limit plan.run.now.round_limit Kind.First sub) number after end →
+      IsFirstEnd (search_of model plan.run.now.program.now plan.run.now.node_limit plan.run.now.round_limit plan.run.now.lanes Kind.First sub) number after end →
       posts ≡ posts_of number posted end → AreFirstRuns model plan.options plan.start.now seen posted runs →
       AreFirstRuns model plan.options plan.start.now after posts (runs ++ (number, end) ∷ [])
   first_run_some seen after posted posts number sub end runs h all is_end e k =
@@ -96,13 +126,13 @@ module _ {L : Type 0} (plan : Plan L) (is : IsPlan plan) where
       all_run_more model plan.options plan.start.now runs number (AllEnd.Done []) k (record { path = None; leads = plan_leads number None h; is_result = refl })
 
   pub all_run_some : (number : ℕ) (sub : Bounds) (end : AllEnd) (runs : List (ℕ × AllEnd)) → LeadsTo model (kernels_in plan) plan.options.depth plan.start.now number (Some sub) →
-      IsAllEnd (search_of model plan.run.now.program.now plan.run.now.node_limit plan.run.now.round_limit Kind.All sub) end →
+      IsAllEnd (search_of model plan.run.now.program.now plan.run.now.node_limit plan.run.now.round_limit plan.run.now.lanes Kind.All sub) end →
       AreAllRuns model plan.options plan.start.now runs → AreAllRuns model plan.options plan.start.now (runs ++ (number, end) ∷ [])
   all_run_some number sub end runs h is_end k =
       all_run_more model plan.options plan.start.now runs number end k (record {
         path = Some sub;
         leads = plan_leads number (Some sub) h;
-        is_result = subst (λ (s : Search). IsAllEnd s end) (plan_search Kind.All [] sub) is_end;
+        is_result = subst (λ (s : Search). IsAllEnd s end) (plan_search Kind.All None [] sub) is_end;
       })
 
 -- what a seat had seen was posted, if all that it has seen after a look was
@@ -115,11 +145,11 @@ seen_was_posted {A} o seen after posted posts e p all x h =
     still (Some y) = inr h
 
 -- what is kept for boxes of a start's variables is kept for those of a box inside, and the other way round
-pub kept_inside : (kernels : List Kernel) (b start : Bounds) (kept : Kept) → IsInside b start → IsKeptFor kernels (length start) kept → IsKeptFor kernels (length b) kept
-kept_inside kernels b start kept inside h = subst (λ (n : ℕ). IsKeptFor kernels n kept) (sym inside.same_length) h
+pub kept_inside : (kernels : List Kernel) (lanes : ℕ) (b start : Bounds) (kept : Kept) → IsInside b start → IsKeptFor kernels lanes (length start) kept → IsKeptFor kernels lanes (length b) kept
+kept_inside kernels lanes b start kept inside h = subst (λ (n : ℕ). IsKeptFor kernels lanes n kept) (sym inside.same_length) h
 
-pub kept_around : (kernels : List Kernel) (b start : Bounds) (kept : Kept) → IsInside b start → IsKeptFor kernels (length b) kept → IsKeptFor kernels (length start) kept
-kept_around kernels b start kept inside h = subst (λ (n : ℕ). IsKeptFor kernels n kept) inside.same_length h
+pub kept_around : (kernels : List Kernel) (lanes : ℕ) (b start : Bounds) (kept : Kept) → IsInside b start → IsKeptFor kernels lanes (length b) kept → IsKeptFor kernels lanes (length start) kept
+kept_around kernels lanes b start kept inside h = subst (λ (n : ℕ). IsKeptFor kernels lanes n kept) inside.same_length h
 
 -- a walk takes the box back that it gave out, whatever was left above the way
 pub taken_back : {L : Type 0} (plan : Plan L) → IsPlan plan → (walk : Walk) (found : Subproblem) (boxes : Trailed) →

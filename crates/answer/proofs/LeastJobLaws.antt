@@ -1,11 +1,14 @@
 -- One run for the least cost.
+use mathlib.Core.Logic.{dite}
+use native.Mathlib.Decide.{ℕ_discrete}
+use Rattle.std.specs.Prelude.{IfSome}
 use Rattle.std.proofs.Common.{◌≡◌, ◌≢◌, ℕ, ℤ, ◌-◌, ◌<◌, List, [], ◌∷◌, ◌++◌, length, reverse, get_or, Any, Contains, Option, None, Some, refl, sym, ap, subst, ◌∙◌, ◌⊎◌, inl, inr, arith}
 use Rattle.std.proofs.lemmas.List.{get_or-reverse, length-reverse}
 use Rattle.interval.specs.Boxes.{Bounds, IsInside, IsInRange}
 use Rattle.constraint_model.specs.declared.model.Goal.{Goal}
 use Rattle.constraint_model.specs.declared.model.FznModel.{FznModel}
 use Rattle.constraint_model.specs.Relations.{cost_of}
-use Rattle.best_bound.specs.Lists.{Among}
+use Rattle.best_bound.specs.Lists.{Among, IsLeastCost}
 use Rattle.subproblems.specs.Paths.{LeadsTo}
 use Rattle.search.specs.declared.kind.Kind.{Kind}
 use Rattle.search.specs.declared.ends.Why.{Why}
@@ -13,16 +16,17 @@ use Rattle.search.specs.declared.ends.LeastEnd.{LeastEnd}
 use Rattle.search.specs.Machine.{Search, State, Reached}
 use Rattle.search.specs.Ends.{EndsSpent}
 use Rattle.search.specs.Laws.{IsInsideStart, MorePosted, CostsFall}
-use Rattle.search.specs.LeastEnds.{least_of, last_of, EndsLeast, IsLeastEnd, CostAtLeast, OnDone}
+use Rattle.search.specs.LeastEnds.{least_of, least_in, least_alone, last_of, PostsCosts, EndsLeast, IsLeastEnd, CostAtLeast, OnDone}
 use Rattle.answer.specs.declared.plan.Plan.{Plan}
 use Rattle.answer.specs.Lists.{Assignment}
 use Rattle.answer.specs.Plans.{IsPlan, model_of, kernels_in}
 use Rattle.answer.specs.Results.{program_of, listed, least_collected, CostsAtMost}
 use Rattle.answer.specs.Runs.{AreLeastRuns}
-use Rattle.answer.proofs.RunLists.{AllAmong, among_cases}
-use Rattle.answer.proofs.LeastRunLists.{among_contains, least_run_more, Falls, last_least, cost_there}
+use Rattle.answer.proofs.RunLists.{AllAmong, among_left, among_right, among_cases}
+use Rattle.answer.proofs.LeastRunLists.{among_contains, contains_among, least_run_more, Falls, last_least, cost_there, entry_costs}
+use Rattle.answer.proofs.KnownLaws.{ends_too}
 use Rattle.answer.proofs.ListedLaws.{is_program}
-use Rattle.answer.proofs.CoverLaws.{has_cost}
+use Rattle.answer.proofs.ObjectiveLaws.{has_cost}
 use Rattle.answer.proofs.JobLaws.{plan_leads, plan_search}
 
 turned_round : (xs : List ℤ) (x : ℤ) → Contains xs x → Contains (reverse xs) x
@@ -31,6 +35,13 @@ turned_round xs x (k, l, e) =
     let below : j < length xs = omega arith in
     let same : length xs - 1 - j ≡ k = omega arith in
     (j, (let n = length-reverse xs in omega arith), get_or-reverse xs j x below ∙ ap (λ (i : ℕ). get_or xs i x) same ∙ e)
+
+turned_back : (xs : List ℤ) (x : ℤ) → Contains (reverse xs) x → Contains xs x
+turned_back xs x (k, l, e) =
+    let j = length xs - 1 - k in
+    let n = length-reverse xs in
+    let below : k < length xs = omega (arith, l, n) in
+    (j, omega (arith, below), sym (get_or-reverse xs k x below) ∙ e)
 
 some_there : (xs : List Assignment) (a : Assignment) (P : Assignment → Type 0) → Contains xs a → P a → Any P xs
 some_there xs a P (k, l, e) h = (k, a, l, e, h)
@@ -68,11 +79,11 @@ module _ (more : MorePosted) (fall : CostsFall) {L : Type 0} (plan : Plan L) (is
   abbrev model : FznModel
   model = model_of plan
 
-  abbrev pub search : List ℤ → Bounds → Search
-  search posted sub = least_of model (program_of model) plan.options.node_limit plan.options.round_limit posted sub
+  abbrev pub search : Option ℤ → List ℤ → Bounds → Search
+  search known posted sub = least_of model (program_of model) plan.options.node_limit plan.options.round_limit plan.options.lanes known posted sub
 
-  pub inside_start : (posted : List ℤ) (sub : Bounds) → IsInside sub plan.run.now.program.now.start → IsInRange sub → IsInsideStart (search posted sub)
-  inside_start posted sub i range = record {
+  pub inside_start : (known : Option ℤ) (posted : List ℤ) (sub : Bounds) → IsInside sub plan.run.now.program.now.start → IsInRange sub → IsInsideStart (search known posted sub)
+  inside_start known posted sub i range = record {
     program = program_of model;
     means = is_program model plan.run.now.program.now is.run.program;
     kernels = refl;
@@ -82,19 +93,52 @@ module _ (more : MorePosted) (fall : CostsFall) {L : Type 0} (plan : Plan L) (is
     objective = is.run.model.objective;
   }
 
-  pub least_run_none : (seen posted : List ℤ) (number : ℕ) (runs : List (ℕ × LeastEnd)) → LeadsTo model (kernels_in plan) plan.options.depth plan.start.now number None →
-      AreLeastRuns model plan.options plan.start.now seen posted runs → AreLeastRuns model plan.options plan.start.now seen posted (runs ++ (number, LeastEnd.Done None) ∷ [])
-  least_run_none seen posted number runs h k =
-      least_run_more more model plan.options plan.start.now seen seen posted posted runs number ([], LeastEnd.Done None) k (λ x there. there)
-      (record { path = None; leads = plan_leads plan is number None h; is_result = (refl, tt) }) (λ cost there. inl there)
+  -- what a run records is posted, and nothing that was posted before is lost
+  kept_posts : (found : List Assignment) (before after : List ℤ) → PostsCosts model.goal found before after → AllAmong before after
+  kept_posts found before after h x there = subst (λ (xs : List ℤ). Among xs x) (sym h.posted) (among_right h.costs before x there)
 
-  pub least_run_some : (seen after posted posts : List ℤ) (number : ℕ) (sub : Bounds) (end : LeastEnd) (runs : List (ℕ × LeastEnd)) →
+  own_posts : (found : List Assignment) (before after : List ℤ) → PostsCosts model.goal found before after → (a : Assignment) (cost : ℤ) → Contains found a → cost_of model.goal a ≡ Some cost → Among after cost
+  own_posts found before after h a cost there costs =
+      subst (λ (xs : List ℤ). Among xs cost) (sym h.posted)
+      (among_left h.costs before cost (contains_among h.costs cost (turned_back h.costs cost (entry_costs model.goal found (reverse h.costs) h.each a cost there costs))))
+
+  -- the run of a subproblem, by what the search of its box that may use these posted costs ended with
+  run_made : (seen after posted posts : List ℤ) (number : ℕ) (sub : Bounds) (end : LeastEnd) (runs : List (ℕ × LeastEnd)) →
       LeadsTo model (kernels_in plan) plan.options.depth plan.start.now number (Some sub) → IsInside sub plan.run.now.program.now.start → IsInRange sub → AllAmong seen after →
-      IsLeastEnd (least_of model plan.run.now.program.now plan.run.now.node_limit plan.run.now.round_limit after sub) posted posts end →
-      OnDone end (CostAtLeast model sub after) → AreLeastRuns model plan.options plan.start.now seen posted runs →
+      OnDone end (CostAtLeast model sub after) → (ends : IsLeastEnd (search None after sub) posted posts end) →
+      (plan.options.workers ≡ 1 → (known : Option ℤ) × IsLeastCost posted known × EndsLeast (search known [] sub) ends.found end) → AreLeastRuns model plan.options plan.start.now seen posted runs →
       AreLeastRuns model plan.options plan.start.now after posts (runs ++ (number, end) ∷ [])
-  least_run_some seen after posted posts number sub end runs h i range all is_end covered k =
-      let ends : IsLeastEnd (search after sub) posted posts end = subst (λ (s : Search). IsLeastEnd s posted posts end) (plan_search plan is Kind.Least after sub) is_end in
-      least_run_more more model plan.options plan.start.now seen after posted posts runs number (ends.found, end) k all
+  run_made seen after posted posts number sub end runs h i range all covered ends begins k =
+      least_run_more more model plan.options plan.start.now objective seen after posted posts runs number (ends.found, end) k all (kept_posts ends.found posted posts ends.posts)
       (record { path = Some sub; leads = plan_leads plan is number (Some sub) h; is_result = (ends.ends, covered) })
-      (run_reaches fall (search after sub) (inside_start after sub i range) refl objective posted posts end ends)
+      (run_reaches fall (search None after sub) (inside_start None after sub i range) refl objective posted posts end ends)
+      (own_posts ends.found posted posts ends.posts)
+      (λ one.
+      let from = begins one in
+      (from.0, from.1, record { path = Some sub; leads = plan_leads plan is number (Some sub) h; is_result = from.2 }))
+
+  -- with one worker no cost is posted by others: the search begins with the least that was posted before
+  run_alone : (seen after posted posts : List ℤ) (number : ℕ) (sub : Bounds) (end : LeastEnd) (runs : List (ℕ × LeastEnd)) (best : Option ℤ) →
+      LeadsTo model (kernels_in plan) plan.options.depth plan.start.now number (Some sub) → IsInside sub plan.run.now.program.now.start → IsInRange sub → AllAmong seen after →
+      OnDone end (CostAtLeast model sub after) → IsLeastCost posted best → IfSome best (λ cost. Among seen cost) → IsLeastEnd (search best [] sub) posted posts end →
+      AreLeastRuns model plan.options plan.start.now seen posted runs → AreLeastRuns model plan.options plan.start.now after posts (runs ++ (number, end) ∷ [])
+  run_alone seen after posted posts number sub end runs best h i range all covered least looked ends k =
+      run_made seen after posted posts number sub end runs h i range all covered
+      (record { found = ends.found; ends = ends_too (search best [] sub) refl after (λ cost e. there cost best e looked) ends.found end ends.ends; posts = ends.posts })
+      (λ one. (best, least, ends.ends)) k
+    where
+      there : (cost : ℤ) (o : Option ℤ) → o ≡ Some cost → IfSome o (λ c. Among seen c) → Contains after cost
+      there cost o e among = among_contains after cost (all cost (subst (λ (p : Option ℤ). IfSome p (λ c. Among seen c)) e among))
+
+  pub least_run_some : (seen after posted posts : List ℤ) (number : ℕ) (sub : Bounds) (end : LeastEnd) (runs : List (ℕ × LeastEnd)) (best : Option ℤ) →
+      LeadsTo model (kernels_in plan) plan.options.depth plan.start.now number (Some sub) → IsInside sub plan.run.now.program.now.start → IsInRange sub → AllAmong seen after →
+      OnDone end (CostAtLeast model sub after) → IfSome best (λ cost. Among seen cost) → (plan.options.workers ≡ 1 → IsLeastCost posted best) →
+      IsLeastEnd (least_in plan.run.now after sub) posted posts end → (plan.options.workers ≡ 1 → IsLeastCost posted best → IsLeastEnd (least_alone plan.run.now best sub) posted posts end) →
+      AreLeastRuns model plan.options plan.start.now seen posted runs → AreLeastRuns model plan.options plan.start.now after posts (runs ++ (number, end) ∷ [])
+  least_run_some seen after posted posts number sub end runs best h i range all covered looked least is_end alone k = dite (ℕ_discrete plan.options.workers 1)
+      (λ (one : plan.options.workers ≡ 1).
+      run_alone seen after posted posts number sub end runs best h i range all covered (least one) looked
+      (subst (λ (s : Search). IsLeastEnd s posted posts end) (plan_search plan is Kind.Least best [] sub) (alone one (least one))) k)
+      (λ (several : plan.options.workers ≢ 1).
+      run_made seen after posted posts number sub end runs h i range all covered (subst (λ (s : Search). IsLeastEnd s posted posts end) (plan_search plan is Kind.Least None after sub) is_end)
+      (λ one. absurd (several one)) k)

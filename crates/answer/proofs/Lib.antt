@@ -1,4 +1,5 @@
 pub mod AlongLaws
+pub mod OpenLaws
 pub mod HeadLaws
 pub mod ObjectiveLaws
 pub mod ListedLaws
@@ -8,6 +9,9 @@ pub mod OneFinished
 pub mod RunLists
 pub mod LeastRunLists
 pub mod Chosen
+pub mod TurnLaws
+pub mod SweepLaws
+pub mod KnownLaws
 pub mod CoverLaws
 pub mod BestLaws
 pub mod JobLaws
@@ -19,5 +23,8 @@ pub mod NumberLaws
 pub mod AnswerLaws
 pub mod FrontLaws
 pub mod GivesLaws
+pub mod OneEnd
+pub mod OneResults
+pub mod AskedAlike
 pub mod OneLimited
 pub mod DepthLaws

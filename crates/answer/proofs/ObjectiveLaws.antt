@@ -1,5 +1,5 @@
 -- A box with its objective cut to one value has the assignments of the box that cost so much.
-use Rattle.std.proofs.Common.{◌≡◌, ℕ, zero, suc, ℤ, pos, ◌<◌, ◌≤ℤ◌, neg_ℤ, List, [], ◌∷◌, length, refl, sym, ap, subst, ◌∙◌, Bool, true, false, cond, Option, Some, None, arith}
+use Rattle.std.proofs.Common.{◌≡◌, ◌≢◌, ℕ, zero, suc, ℤ, pos, ◌<◌, ◌≤ℤ◌, neg_ℤ, List, [], ◌∷◌, length, refl, sym, ap, subst, ◌∙◌, Bool, true, false, cond, Option, Some, None, arith}
 use Rattle.std.specs.Prelude.{int_lt}
 use Rattle.std.specs.Int.{int_min, int_max}
 use Rattle.std.proofs.lemmas.Int.{ints}
@@ -15,6 +15,12 @@ use Rattle.constraint_model.specs.WellFormed.{constants_of, IsGoalOf}
 use Rattle.decompose.specs.Program.{fixed_box, extended}
 use Rattle.solution_lists.specs.Solutions.{LiesIn}
 use Rattle.answer.specs.Cuts.{at_value, cut_to}
+
+-- an assignment has a cost, where there is an objective
+pub has_cost : (goal : Goal) (a : List ℤ) → goal ≢ Goal.Satisfy → (cost : ℤ) × (cost_of goal a ≡ Some cost)
+has_cost Goal.Satisfy a h = absurd (h refl)
+has_cost (Goal.Minimize t) a h = (_, refl)
+has_cost (Goal.Maximize t) a h = (_, refl)
 
 -- ---- pairs
 

@@ -1,5 +1,5 @@
 -- What is known of runs stays as they grow.
-use Rattle.std.proofs.Common.{◌≡◌, ℕ, zero, suc, ◌<◌, ◌^◌, List, [], ◌∷◌, ◌++◌, get_or, Contains, Option, None, Some, refl, subst, ◌⊎◌, inl, inr, arith}
+use Rattle.std.proofs.Common.{◌≡◌, ℕ, zero, suc, ◌<◌, ◌^◌, List, [], ◌∷◌, ◌++◌, take, get_or, Contains, Option, None, Some, refl, subst, ◌⊎◌, inl, inr, arith}
 use Rattle.std.proofs.lemmas.List.Elements.{Contains-append_left, Contains-append_right, Contains-append_cases}
 use Rattle.interval.specs.Boxes.{Bounds}
 use Rattle.constraint_model.specs.declared.model.FznModel.{FznModel}
@@ -10,7 +10,7 @@ use Rattle.search.specs.Ends.{posts_of}
 use Rattle.crew.specs.Ends.{AreInOrder}
 use Rattle.answer.specs.declared.options.Options.{Options}
 use Rattle.answer.specs.Lists.{Assignment}
-use Rattle.answer.specs.Places.{HasResult, AreResults}
+use Rattle.answer.specs.Places.{StandsAt, HasResult, AreResults}
 use Rattle.answer.specs.Results.{IsFirstResult, AreFirstResults, IsAllResult}
 use Rattle.answer.specs.Runs.{IsFirstRun, AreFirstRuns, AreAllRuns}
 
@@ -44,6 +44,15 @@ the_one x y h = one h.0 h.1 h.2
 
 pub it_is_there : {A : Type 0} (xs : List A) (x : A) → Contains (xs ++ x ∷ []) x
 it_is_there xs x = Contains-append_right xs (x ∷ []) x (0, omega arith, refl)
+
+-- what is so of each entry and those before it stays so where one more comes
+pub each_more : {A : Type 0} (Holds : List A → A → Type 0) (xs : List A) (x : A) → ((place : ℕ) (y : A) → StandsAt xs place y → Holds (take place xs) y) → Holds xs x →
+    (place : ℕ) (y : A) → StandsAt (xs ++ x ∷ []) place y → Holds (take place (xs ++ x ∷ [])) y
+each_more Holds [] x each last zero y h = let same : x ≡ y = cc in subst (Holds []) same last
+each_more Holds [] x each last (suc place) y h = absurd cc
+each_more Holds (z ∷ zs) x each last zero y h = each 0 y h
+each_more {A} Holds (z ∷ zs) x each last (suc place) y h =
+    each_more (λ (front : List A) (entry : A). Holds (z ∷ front) entry) zs x (λ k w there. each (suc k) w there) last place y h
 
 -- a result stays one by a weaker relation
 pub result_kept : {E : Type 0} (model : FznModel) (depth : ℕ) (b : Bounds) (Is Other : ℕ → Option Bounds → E → Type 0) →

@@ -35,8 +35,7 @@ use Rattle.answer.specs.Unfinished.{FindsBest}
 use Rattle.answer.specs.Given.{IsBestKnown, IsGiven}
 use Rattle.answer.specs.Settled.{FirstOfLists, IsFirstIn, LastIsFirst, BestIsFirst, IsSettled}
 use Rattle.answer.proofs.ListedLaws.{lies_in_start, can_be_cut, long_start, cut_in_start, cut_in_range, lists_solutions_at}
-use Rattle.answer.proofs.ObjectiveLaws.{cut_inside}
-use Rattle.answer.proofs.CoverLaws.{has_cost}
+use Rattle.answer.proofs.ObjectiveLaws.{has_cost, cut_inside}
 use Rattle.answer.proofs.GivenLaws.{optimal_given}
 
 -- ---- the head of a list
@@ -101,7 +100,7 @@ module _ (order : InsideOrder) (lists : FirstOfLists) (last : LastIsFirst) (mode
   start = start_of model
 
   abbrev search : Search
-  search = least_of model (program_of model) options.node_limit options.round_limit h.are.posted start
+  search = least_of model (program_of model) options.node_limit options.round_limit options.lanes None h.are.posted start
 
   inside : IsInsideStart search
   inside = record {

@@ -38,9 +38,18 @@ module _ (order : InsideOrder) (laws : PathLaws) (cuts : CutLaws) (records : Rec
       subst (λ (xs : List Assignment). Solve xs) (sym e)
       (subst (λ (m : FznModel). All (IsSolution m) state.found) same (λ (i : ℕ) (d : Assignment) (l : i < length state.found). (records s state inside reached i d l).solves))
 
-  inside_start : (kind : Kind) (node_limit round_limit : ℕ) (posted : List ℤ) (sub : Bounds) → IsInside sub (start_of model) → IsInRange sub →
-      IsInsideStart (record { model = model; kernels = kernels_of model; sub = sub; kind = kind; node_limit = node_limit; round_limit = round_limit; posted = posted })
-  inside_start kind node_limit round_limit posted sub i range = record {
+  inside_start : (options : Options) (kind : Kind) (posted : List ℤ) (sub : Bounds) → IsInside sub (start_of model) → IsInRange sub → IsInsideStart (record {
+    model = model;
+    kernels = kernels_of model;
+    sub = sub;
+    kind = kind;
+    node_limit = options.node_limit;
+    round_limit = options.round_limit;
+    lanes = options.lanes;
+    known = None;
+    posted = posted;
+  })
+  inside_start options kind posted sub i range = record {
     program = program_of model;
     means = f;
     kernels = refl;
@@ -89,7 +98,7 @@ module _ (order : InsideOrder) (laws : PathLaws) (cuts : CutLaws) (records : Rec
     first_solves results number None (FirstEnd.Done answer) leads h = subst (λ (o : Option Assignment). Solve (listed o)) (sym h) (All-nil (IsSolution model))
     first_solves results number (Some sub) (FirstEnd.Done answer) leads h =
         head_solves h.found answer h.recorded
-        (done_solve (first_of model options sub) h.found refl (inside_start Kind.First options.node_limit options.round_limit [] sub (in_box number sub leads) (ranged number sub leads)) h.ends)
+        (done_solve (first_of model options sub) h.found refl (inside_start options Kind.First [] sub (in_box number sub leads) (ranged number sub leads)) h.ends)
 
     pub firsts_solve : (results : List FirstEnd) → AreFirstResults model options b results → Solve (flat_map first_collected results)
     firsts_solve results are =
@@ -99,9 +108,9 @@ module _ (order : InsideOrder) (laws : PathLaws) (cuts : CutLaws) (records : Rec
     all_solves : (number : ℕ) (path : Option Bounds) (r : AllEnd) → LeadsTo model (kernels_of model) options.depth b number path → IsAllResult model options number path r → Solve (all_collected r)
     all_solves number None r leads h = subst (λ (e : AllEnd). Solve (all_collected e)) (sym h) (All-nil (IsSolution model))
     all_solves number (Some sub) (AllEnd.Done found) leads h =
-        done_solve (all_of model options sub) found refl (inside_start Kind.All options.node_limit options.round_limit [] sub (in_box number sub leads) (ranged number sub leads)) h.ends
+        done_solve (all_of model options sub) found refl (inside_start options Kind.All [] sub (in_box number sub leads) (ranged number sub leads)) h.ends
     all_solves number (Some sub) (AllEnd.Spent nodes why found) leads h =
-        spent_solve (all_of model options sub) why nodes found refl (inside_start Kind.All options.node_limit options.round_limit [] sub (in_box number sub leads) (ranged number sub leads)) h
+        spent_solve (all_of model options sub) why nodes found refl (inside_start options Kind.All [] sub (in_box number sub leads) (ranged number sub leads)) h
 
     pub all_solve : (results : List AllEnd) → AreResults model options.depth b (IsAllResult model options) results → Solve (flat_map all_collected results)
     all_solve results are =
@@ -113,12 +122,12 @@ module _ (order : InsideOrder) (laws : PathLaws) (cuts : CutLaws) (records : Rec
     least_solves posted number None found end leads h = subst (λ (r : LeastResult). Solve (least_collected r.1)) (sym h) (All-nil (IsSolution model))
     least_solves posted number (Some sub) found (LeastEnd.Done answer) leads h =
         last_solves found answer h.1
-        (done_solve (least_of model (program_of model) options.node_limit options.round_limit posted sub) found refl
-        (inside_start Kind.Least options.node_limit options.round_limit posted sub (in_box number sub leads) (ranged number sub leads)) h.0)
+        (done_solve (least_of model (program_of model) options.node_limit options.round_limit options.lanes None posted sub) found refl
+        (inside_start options Kind.Least posted sub (in_box number sub leads) (ranged number sub leads)) h.0)
     least_solves posted number (Some sub) found (LeastEnd.Spent nodes why so_far) leads h =
         last_solves found so_far h.1
-        (spent_solve (least_of model (program_of model) options.node_limit options.round_limit posted sub) why nodes found refl
-        (inside_start Kind.Least options.node_limit options.round_limit posted sub (in_box number sub leads) (ranged number sub leads)) h.0)
+        (spent_solve (least_of model (program_of model) options.node_limit options.round_limit options.lanes None posted sub) why nodes found refl
+        (inside_start options Kind.Least posted sub (in_box number sub leads) (ranged number sub leads)) h.0)
 
     pub least_solve : (posted : List ℤ) (results : List LeastResult) → AreResults model options.depth b (IsLeastResult model options posted) results → Solve (collected_in results)
     least_solve posted results are =

@@ -23,7 +23,7 @@ numbers_of plan = 2 ^ plan.options.depth
 
 -- a worker may keep a walk of its own from the box, and what runs over boxes of the start's variables may use
 abbrev pub Owns : {L : Type 0} → Plan L → Own → Type 0
-Owns plan own = IsOwnFrom (model_of plan) (kernels_in plan) plan.start.now (length plan.run.now.program.now.start) own
+Owns plan own = IsOwnFrom (model_of plan) (kernels_in plan) plan.start.now plan.run.now.lanes (length plan.run.now.program.now.start) own
 
 -- ---- for the first solution
 
@@ -57,11 +57,16 @@ AllStands job seat runs = AreAllRuns (model_of job.plan.now) job.plan.now.option
 abbrev pub SaysWhichCost : {L : Type 0} → Plan L → (ℤ → Type 0) → Type 0
 SaysWhichCost plan is_cost = (cost : ℤ) → is_cost cost ↔ IsCost (model_of plan) cost
 
--- the job's model has an objective
+-- the job's model has an objective, and one worker has all parts
 pub record LeastFits {L M : Type 0} (job : LeastJob L M) (seat : BestSeat) : Type 0 where
   pub plan : IsPlan job.plan.now
   pub seat_of : IsBestSeatOf job.best.now seat
   pub objective : (model_of job.plan.now).goal ≢ Goal.Satisfy
+  pub sole : job.plan.now.options.workers ≡ 1 → best_parts seat ≡ 1024
+
+-- several workers share it: what one run records is known to those that are made beside it
+abbrev pub MaySplit : {L M : Type 0} → LeastJob L M → Type 0
+MaySplit job = job.plan.now.options.workers ≢ 1
 
 abbrev pub LeastParts : BestSeat → ℕ → Type 0
 LeastParts seat n = best_parts seat ≡ n

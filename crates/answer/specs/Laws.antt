@@ -19,10 +19,21 @@ abbrev pub OneFinished : Type 0
 OneFinished = (model : FznModel) (all : Bool) (answer other : Answer) → IsSearchOf model →
     IsFinished model all answer → IsFinished model all other → answer ≡ other
 
--- a model without an objective has one answer where the limit on nodes alone is set, whatever it is
+-- two options ask alike: they may differ in who searches, workers, lanes and how the workers get their parts
+pub record AskAlike (o p : Options) : Type 0 where
+  pub all : o.all ≡ p.all
+  pub depth : o.depth ≡ p.depth
+  pub node_limit : o.node_limit ≡ p.node_limit
+  pub round_limit : o.round_limit ≡ p.round_limit
+
+-- the limits leave one answer: none is set on rounds, or one lane propagates; and the model has no objective, or one worker searches
+abbrev pub IsPinned : FznModel → Options → Type 0
+IsPinned model options = ((options.round_limit ≡ 0) ⊎ (options.lanes ≡ 1)) × ((model.goal ≡ Goal.Satisfy) ⊎ (options.workers ≡ 1))
+
+-- there a model has one answer, whatever the limits are
 abbrev pub OneLimited : Type 0
-OneLimited = (model : FznModel) (options : Options) (answer other : Answer) → IsWellFormed model → model.goal ≡ Goal.Satisfy → options.round_limit ≡ 0 →
-    IsAnswer model options answer → IsAnswer model options other → answer ≡ other
+OneLimited = (model : FznModel) (o p : Options) (answer other : Answer) → IsWellFormed model → AskAlike o p → IsPinned model o → IsPinned model p →
+    IsAnswer model o answer → IsAnswer model p other → answer ≡ other
 
 -- one solution is given at most, but where all solutions are asked for
 abbrev pub GivesOne : Type 0

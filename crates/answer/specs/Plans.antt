@@ -15,9 +15,10 @@ model_of plan = plan.run.now.model.now
 abbrev pub kernels_in : {L : Type 0} → Plan L → List Kernel
 kernels_in plan = plan.run.now.program.now.kernels
 
--- the run is one, it has the limits of the options, and the box lies in the start of the model's program
+-- the run is one, it has the lanes and the limits of the options, and the box lies in the start of the model's program
 pub record IsPlan {L : Type 0} (plan : Plan L) : Type 0 where
   pub run : IsRun plan.run.now
+  pub lanes : plan.run.now.lanes ≡ plan.options.lanes
   pub node_limit : plan.run.now.node_limit ≡ plan.options.node_limit
   pub round_limit : plan.run.now.round_limit ≡ plan.options.round_limit
   pub depth : plan.options.depth ≤ 16

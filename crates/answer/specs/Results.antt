@@ -1,5 +1,5 @@
 -- What the searches of all subproblems give, where each has its own limits: one result for each number.
-use Rattle.std.specs.Prelude.{◌≡◌, ℕ, ◌<◌, ℤ, ◌≤ℤ◌, List, [], ◌∷◌, flat_map, Option, Some, None, Any, Contains}
+use Rattle.std.specs.Prelude.{◌≡◌, ℕ, ◌<◌, ℤ, ◌≤ℤ◌, List, [], ◌∷◌, take, flat_map, Option, Some, None, All, Any, Contains}
 use Rattle.interval.specs.Boxes.{Bounds}
 use Rattle.constraint_model.specs.declared.model.Goal.{Goal}
 use Rattle.constraint_model.specs.declared.model.FznModel.{FznModel}
@@ -8,6 +8,7 @@ use Rattle.decompose.specs.declared.program.Program.{Program}
 use Rattle.decompose.specs.Kernels.{kernels_of}
 use Rattle.decompose.specs.Program.{start_of}
 use Rattle.search.specs.declared.kind.Kind.{Kind}
+use Rattle.search.specs.declared.ends.Why.{Why}
 use Rattle.search.specs.declared.ends.FirstEnd.{FirstEnd}
 use Rattle.search.specs.declared.ends.AllEnd.{AllEnd}
 use Rattle.search.specs.Machine.{Search}
@@ -16,7 +17,7 @@ use Rattle.search.specs.declared.ends.LeastEnd.{LeastEnd}
 use Rattle.search.specs.LeastEnds.{least_of, EndsLeast}
 use Rattle.answer.specs.declared.options.Options.{Options}
 use Rattle.answer.specs.Lists.{Assignment}
-use Rattle.answer.specs.Places.{StandsAt, AreResults}
+use Rattle.answer.specs.Places.{StandsAt, HasResult, AreResults}
 
 -- the program of a model
 abbrev pub program_of : FznModel → Program
@@ -30,7 +31,7 @@ listed (Some a) = a ∷ []
 -- ---- for the first solution
 
 abbrev pub first_of : FznModel → Options → Bounds → Search
-first_of model options sub = search_of model (program_of model) options.node_limit options.round_limit Kind.First sub
+first_of model options sub = search_of model (program_of model) options.node_limit options.round_limit options.lanes Kind.First sub
 
 -- The result of a number: none where there is no subproblem, else an end of its limited search; or the number was cancelled,
 -- whatever it leads to, since a lesser number's result is a solution.
@@ -51,15 +52,34 @@ first_collected (FirstEnd.Done answer) = listed answer
 first_collected (FirstEnd.Spent nodes why) = []
 first_collected (FirstEnd.Cut lesser) = []
 
+-- a limit stopped the search
 abbrev pub IsFirstSpent : FirstEnd → Type 0
 IsFirstSpent (FirstEnd.Done answer) = ⊥
 IsFirstSpent (FirstEnd.Spent nodes why) = Unit {0}
 IsFirstSpent (FirstEnd.Cut lesser) = ⊥
 
+-- neither that, nor did it give a solution
+abbrev pub IsIdle : FirstEnd → Type 0
+IsIdle (FirstEnd.Done None) = Unit {0}
+IsIdle (FirstEnd.Done (Some a)) = ⊥
+IsIdle (FirstEnd.Spent nodes why) = ⊥
+IsIdle (FirstEnd.Cut lesser) = Unit {0}
+
+-- a limit stopped the number's search, and no lesser number has a solution
+pub record IsOpenAt (results : List FirstEnd) (number : ℕ) : Type 0 where
+  pub nodes : ℕ
+  pub why : Why
+  pub stopped : StandsAt results number (FirstEnd.Spent nodes why)
+  pub none_before : (lesser : ℕ) (a : Assignment) → lesser < number → StandsAt results lesser (FirstEnd.Done (Some a)) → ⊥
+
+-- so it is of some number: it isn't known whether a solution comes before those that were collected
+abbrev pub IsOpen : List FirstEnd → Type 0
+IsOpen results = (number : ℕ) × IsOpenAt results number
+
 -- ---- for all solutions
 
 abbrev pub all_of : FznModel → Options → Bounds → Search
-all_of model options sub = search_of model (program_of model) options.node_limit options.round_limit Kind.All sub
+all_of model options sub = search_of model (program_of model) options.node_limit options.round_limit options.lanes Kind.All sub
 
 abbrev pub IsAllResult : FznModel → Options → ℕ → Option Bounds → AllEnd → Type 0
 IsAllResult model options number None end = end ≡ AllEnd.Done []
@@ -86,7 +106,34 @@ LeastResult = List Assignment × LeastEnd
 abbrev pub IsLeastResult : FznModel → Options → List ℤ → ℕ → Option Bounds → LeastResult → Type 0
 IsLeastResult model options posted number None result = result ≡ ([], LeastEnd.Done None)
 IsLeastResult model options posted number (Some sub) result =
-    EndsLeast (least_of model (program_of model) options.node_limit options.round_limit posted sub) result.0 result.1
+    EndsLeast (least_of model (program_of model) options.node_limit options.round_limit options.lanes None posted sub) result.0 result.1
+
+-- a result of the limited search that begins with this cost known, and may use no other but those that it records
+abbrev pub IsResultFrom : FznModel → Options → Option ℤ → ℕ → Option Bounds → LeastResult → Type 0
+IsResultFrom model options known number None result = result ≡ ([], LeastEnd.Done None)
+IsResultFrom model options known number (Some sub) result =
+    EndsLeast (least_of model (program_of model) options.node_limit options.round_limit options.lanes known [] sub) result.0 result.1
+
+-- the solutions that were recorded, of results
+abbrev pub recorded_in : List LeastResult → List Assignment
+recorded_in results = flat_map (λ result. result.0) results
+
+-- the least cost of these solutions, or none where there are none
+abbrev pub IsLeastOf : Goal → List Assignment → Option ℤ → Type 0
+IsLeastOf goal recorded None = recorded ≡ []
+IsLeastOf goal recorded (Some cost) =
+    Any (λ a. cost_of goal a ≡ Some cost) recorded × All (λ a. (other : ℤ) → cost_of goal a ≡ Some other → cost ≤ℤ other) recorded
+
+-- the result of a number whose search begins with the least cost that was recorded before it
+pub record ComesInTurn (model : FznModel) (options : Options) (b : Bounds) (earlier : List LeastResult) (number : ℕ) (result : LeastResult) : Type 0 where
+  pub known : Option ℤ
+  pub is_known : IsLeastOf model.goal (recorded_in earlier) known
+  pub has_result : HasResult model options.depth b (IsResultFrom model options known) number result
+
+-- each number's search begins with the least cost that lesser numbers recorded
+abbrev pub AreInTurn : FznModel → Options → List LeastResult → Type 0
+AreInTurn model options results = (number : ℕ) (result : LeastResult) → StandsAt results number result →
+    ComesInTurn model options (start_of model) (take number results) number result
 
 -- the solutions that are collected of an end, and of results
 abbrev pub least_collected : LeastEnd → List Assignment
@@ -104,8 +151,9 @@ IsLeastSpent (LeastEnd.Spent nodes why so_far) = Unit {0}
 abbrev pub CostsAtMost : Goal → ℤ → Assignment → Type 0
 CostsAtMost goal most a = (cost : ℤ) × (cost_of goal a ≡ Some cost) × (cost ≤ℤ most)
 
--- the searches may use the costs of what one of them recorded
+-- the searches may use the costs of what one of them recorded; one worker makes them in turn
 pub record AreLeastResults (model : FznModel) (options : Options) (results : List LeastResult) : Type 0 where
   pub posted : List ℤ
   pub recorded : (cost : ℤ) → Contains posted cost → Any (λ result. Any (λ a. cost_of model.goal a ≡ Some cost) result.0) results
   pub are : AreResults model options.depth (start_of model) (IsLeastResult model options posted) results
+  pub in_turn : options.workers ≡ 1 → AreInTurn model options results

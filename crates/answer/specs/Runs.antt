@@ -1,5 +1,5 @@
 -- What is known of the runs that workers have made so far: with what their seats have seen and posted.
-use Rattle.std.specs.Prelude.{◌≡◌, ◌≢◌, ℕ, ◌<◌, ℤ, List, [], map, Option, Some, None, All, Any, Contains}
+use Rattle.std.specs.Prelude.{◌≡◌, ◌≢◌, ℕ, ◌<◌, ℤ, List, [], map, take, Option, Some, None, All, Any, Contains}
 use Rattle.interval.specs.Boxes.{Bounds}
 use Rattle.constraint_model.specs.declared.model.Goal.{Goal}
 use Rattle.constraint_model.specs.declared.model.FznModel.{FznModel}
@@ -15,8 +15,8 @@ use Rattle.search.specs.Ends.{EndsSpent, IsFirstDone}
 use Rattle.search.specs.LeastEnds.{CostAtLeast, OnDone}
 use Rattle.answer.specs.declared.options.Options.{Options}
 use Rattle.answer.specs.Lists.{Assignment}
-use Rattle.answer.specs.Places.{HasResult}
-use Rattle.answer.specs.Results.{first_of, IsAllResult, LeastResult, IsLeastResult, least_collected, collected_in, IsLeastSpent, CostsAtMost, AreLeastResults}
+use Rattle.answer.specs.Places.{StandsAt, HasResult}
+use Rattle.answer.specs.Results.{first_of, IsAllResult, LeastResult, IsLeastResult, recorded_in, ComesInTurn, least_collected, collected_in, IsLeastSpent, CostsAtMost, AreLeastResults}
 
 -- ---- for the first solution
 
@@ -76,13 +76,21 @@ pub record IsReachedBy (goal : Goal) (results : List (ℕ × LeastResult)) (cost
   pub there : Contains results (number, result)
   pub reached : Any (CostsAtMost goal cost) (least_collected result.1)
 
--- each number was run, and of each cost that was posted a run recorded a solution, and gives one that costs so much at most
+-- each run's search began with the least cost that those before it recorded
+abbrev pub AreRunsInTurn : FznModel → Options → Bounds → List (ℕ × LeastResult) → Type 0
+AreRunsInTurn model options b results = (place : ℕ) (run : ℕ × LeastResult) → StandsAt results place run →
+    ComesInTurn model options b (map (λ earlier. earlier.1) (take place results)) run.0 run.1
+
+-- each number was run; of each cost that was posted a run recorded a solution, and gives one that costs so much at most; the
+-- cost of each solution that was recorded was posted; and one worker made the runs in turn
 pub record AreLeastRuns (model : FznModel) (options : Options) (b : Bounds) (seen posted : List ℤ) (runs : List (ℕ × LeastEnd)) : Type 0 where
   pub results : List (ℕ × LeastResult)
   pub of_runs : map run_of results ≡ runs
   pub each : (number : ℕ) (result : LeastResult) → Contains results (number, result) → HasResult model options.depth b (IsLeastRun model options seen) number result
   pub recorded : (cost : ℤ) → Among posted cost → IsRecordedBy model.goal results cost
   pub reached : (cost : ℤ) → Among posted cost → IsReachedBy model.goal results cost
+  pub posts : (a : Assignment) (cost : ℤ) → Contains (recorded_in (map (λ run. run.1) results)) a → cost_of model.goal a ≡ Some cost → Among posted cost
+  pub in_turn : options.workers ≡ 1 → AreRunsInTurn model options b results
 
 -- of each solution's cost there is one among these that costs so much at most
 abbrev pub ReachAll : FznModel → List Assignment → Type 0

@@ -15,7 +15,7 @@ use Rattle.fzn_print.specs.declared.answers.Answer.{Answer}
 use Rattle.answer.specs.Least.{IsLeastCost}
 use Rattle.answer.specs.Cuts.{cut_to}
 use Rattle.answer.specs.Lists.{Assignment}
-use Rattle.answer.specs.Results.{listed, AreFirstResults, first_collected, IsFirstSpent, AreAllResults, all_collected, IsAllSpent, LeastResult, AreLeastResults, collected_in, IsLeastSpent}
+use Rattle.answer.specs.Results.{listed, AreFirstResults, first_collected, IsOpen, AreAllResults, all_collected, IsAllSpent, LeastResult, AreLeastResults, collected_in, IsLeastSpent}
 
 -- where nothing was collected the mark says that nothing is known
 abbrev pub mark_where : List Assignment → Mark
@@ -46,7 +46,7 @@ IsBestOf goal collected (Some a) = IsFirstLeast goal collected a
 pub record IsFirstCollected (model : FznModel) (options : Options) (answer : Answer) : Type 0 where
   pub results : List FirstEnd
   pub are : AreFirstResults model options (start_of model) results
-  pub spent : Any IsFirstSpent results
+  pub is_open : IsOpen results
   pub solutions : answer.solutions ≡ take 1 (flat_map first_collected results)
   pub mark : answer.mark ≡ mark_where answer.solutions
 
@@ -84,7 +84,7 @@ pub record IsLeastCollected (model : FznModel) (options : Options) (answer : Ans
   pub found : FindsBest model options best
   pub results : List FirstEnd
   pub are : AreFirstResults model options (cut_to model.goal cost (start_of model)) results
-  pub spent : Any IsFirstSpent results
+  pub is_open : IsOpen results
   pub solutions : answer.solutions ≡ take 1 (flat_map first_collected results ++ best ∷ [])
   pub mark : answer.mark ≡ Mark.Plain
 

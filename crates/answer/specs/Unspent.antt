@@ -9,13 +9,13 @@ use Rattle.search.specs.declared.ends.AllEnd.{AllEnd}
 use Rattle.answer.specs.declared.options.Options.{Options}
 use Rattle.answer.specs.Cuts.{cut_to}
 use Rattle.answer.specs.Least.{IsLeastCost}
-use Rattle.answer.specs.Results.{AreFirstResults, IsFirstSpent, AreAllResults, IsAllSpent, LeastResult, AreLeastResults, IsLeastSpent}
+use Rattle.answer.specs.Results.{AreFirstResults, IsOpen, AreAllResults, IsAllSpent, LeastResult, AreLeastResults, IsLeastSpent}
 
--- the searches of a box for the first solution may all end unspent
+-- the searches of a box for the first solution may end so that none is stopped before the first number that has a solution
 pub record IsUnspentFirst (model : FznModel) (options : Options) (b : Bounds) : Type 0 where
   pub results : List FirstEnd
   pub are : AreFirstResults model options b results
-  pub unspent : All (λ result. IsFirstSpent result → ⊥) results
+  pub none_open : IsOpen results → ⊥
 
 -- those for all solutions may
 pub record IsUnspentAll (model : FznModel) (options : Options) : Type 0 where

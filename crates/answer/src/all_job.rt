@@ -38,6 +38,8 @@ impl<L> Job<(), Own, AllEnd> for AllJob<'_, L> {
 
     ghost stands = { λ job. AllStands job };
 
+    ghost may_split = { λ job. Unit {0} };
+
     fn own(&self, alloc: Global) -> Result<Own, NoMemory> {
         let own = Own::new(alloc);
         Ok(own)
@@ -85,7 +87,7 @@ fn run_each<R: Threads + Sync, C: Gate + Sync, L: Gate + Sync>(
 ) -> Result<ListOf<AllEnd>, NoMemory>
     requires plan { IsPlan job.now.plan.now }
     requires crew { IsCrewFor job.now.plan.now.options crew.old }
-    ensures ends { IfOk result (AreEndsOf (numbers_of job.now.plan.now) (AllStands job.now tt)) }
+    ensures ends { IfOk result (AreEndsOf (numbers_of job.now.plan.now) job.now.plan.now.options.workers (AllStands job.now tt)) }
     ensures crew { IsCrewFor job.now.plan.now.options crew.new }
 {
     let run = |own: &mut Own, _seat: &mut (), number: u32| -> Result<AllEnd, NoMemory>

@@ -13,7 +13,7 @@ ghost use Rattle.answer.specs.Given.{mark_for, IsSetUp, IsBestKnown, IsGiven};
 ghost use Rattle.answer.specs.Settled.{IsSettled};
 
 use crate::all_job::all_ends;
-use crate::collecting::{all_of, first_of, is_any_spent, list_of_one};
+use crate::collecting::{all_of, first_of, is_any_spent, is_open, list_of_one};
 use crate::first_job::first_ends;
 use crate::laws::law_best_is_first;
 use crate::least_job::least_ends;
@@ -77,9 +77,9 @@ fn first_answer<R: Threads + Sync, C: Gate + Sync, L: Gate + Sync>(
         start: &run.program.start,
     };
     let ends = first_ends(rt, alloc, crew, &plan, gate)?;
-    let is_spent = is_any_spent(ends.as_slice());
+    let open_part = is_open(ends.as_slice());
     let solutions = list_of_one(alloc, first_of(ends))?;
-    let mark = mark_of(is_spent, &solutions, Mark::Plain);
+    let mark = mark_of(open_part, &solutions, Mark::Plain);
     Ok(Answer { solutions, mark })
 }
 
@@ -129,11 +129,11 @@ fn or_best(first: Option<ListOf<i64>>, best: ListOf<i64>) -> Option<ListOf<i64>>
 }
 
 /// The mark of the second phase.
-fn second_mark(is_spent: bool) -> Mark
-    ensures spent { OnTrue is_spent (result ≡ Mark.Plain) }
-    ensures unspent { OnFalse is_spent (result ≡ Mark.Complete) }
+fn second_mark(open_part: bool) -> Mark
+    ensures open_part { OnTrue open_part (result ≡ Mark.Plain) }
+    ensures none_open { OnFalse open_part (result ≡ Mark.Complete) }
 {
-    if is_spent {
+    if open_part {
         Mark::Plain
     } else {
         Mark::Complete
@@ -172,9 +172,9 @@ fn optimum<R: Threads + Sync, C: Gate + Sync, L: Gate + Sync>(
         start: &cut,
     };
     let ends = first_ends(rt, alloc, crew, &plan, gate)?;
-    let is_spent = is_any_spent(ends.as_slice());
+    let open_part = is_open(ends.as_slice());
     let solutions = list_of_one(alloc, or_best(first_of(ends), best))?;
-    let mark = second_mark(is_spent);
+    let mark = second_mark(open_part);
     Ok(Answer { solutions, mark })
 }
 

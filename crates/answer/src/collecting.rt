@@ -3,7 +3,7 @@
 ghost use Rattle.std.specs.Prelude.{◌≡◌, ◌++◌, ◌↔◌, List, [], take, flat_map, All, Any, IfOk, OnOk};
 ghost use Rattle.std.specs.Bool.{OnTrue, OnFalse};
 ghost use Rattle.constraint_model.specs.declared.model.Goal.TheVariants.{Satisfy};
-ghost use Rattle.answer.specs.Results.{listed, first_collected, all_collected};
+ghost use Rattle.answer.specs.Results.{listed, first_collected, IsFirstSpent, IsIdle, IsOpen, all_collected};
 
 use list_of::ListOf;
 use search::{AllEnd, FirstEnd, LeastEnd};
@@ -18,19 +18,6 @@ pub(crate) trait Ended {
     /// Whether a limit stopped the run.
     fn is_spent(&self) -> bool
         ensures { IsTrue result ↔ is_spent self.now };
-}
-
-impl Ended for FirstEnd {
-    ghost use Rattle.answer.specs.Results.{IsFirstSpent};
-
-    ghost is_spent = { IsFirstSpent };
-
-    fn is_spent(&self) -> bool {
-        match self {
-            FirstEnd::Spent { .. } => true,
-            FirstEnd::Done(_) | FirstEnd::Cut(_) => false,
-        }
-    }
 }
 
 impl Ended for AllEnd {
@@ -67,6 +54,42 @@ pub(crate) fn is_any_spent<E: Ended>(ends: &[E]) -> bool
     for end in ends {
         if end.is_spent() {
             return true;
+        }
+    }
+    false
+}
+
+/// Whether a limit stopped the search of a number.
+fn is_stopped(end: &FirstEnd) -> bool
+    ensures stopped { OnTrue result (IsFirstSpent end.now) }
+    ensures ended { OnFalse result (IsFirstSpent end.now → ⊥) }
+{
+    match end {
+        FirstEnd::Spent { .. } => true,
+        FirstEnd::Done(_) | FirstEnd::Cut(_) => false,
+    }
+}
+
+/// Whether it neither stopped it nor gave the search a solution.
+fn is_idle(end: &FirstEnd) -> bool
+    ensures idle { OnTrue result (IsIdle end.now) }
+    ensures busy { OnFalse result (IsIdle end.now → ⊥) }
+{
+    match end {
+        FirstEnd::Done(None) | FirstEnd::Cut(_) => true,
+        FirstEnd::Spent { .. } | FirstEnd::Done(Some(_)) => false,
+    }
+}
+
+/// Whether a limit stopped a number's search, and no lesser number has a solution. What was stopped behind a number that has
+/// one doesn't count: it is the first solution all the same.
+pub(crate) fn is_open(ends: &[FirstEnd]) -> bool
+    ensures open_part { OnTrue result (IsOpen ends.now) }
+    ensures none_open { OnFalse result (IsOpen ends.now → ⊥) }
+{
+    for end in ends {
+        if !is_idle(end) {
+            return is_stopped(end);
         }
     }
     false

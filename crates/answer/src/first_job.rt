@@ -64,6 +64,8 @@ impl<L, M: OfParts> Job<FoundSeat, Own, FirstEnd> for FirstJob<'_, L, M> {
 
     ghost stands = { λ job. FirstStands job };
 
+    ghost may_split = { λ job. Unit {0} };
+
     fn own(&self, alloc: Global) -> Result<Own, NoMemory> {
         let own = Own::new(alloc);
         Ok(own)
@@ -159,7 +161,7 @@ fn run_all<R: Threads + Sync, C: Gate + Sync, L: Gate + Sync, M: OfParts + Sync>
     requires none { FirstStands job.now seat.old [] }
     requires numbers { SaysWhichSolve job.now.plan.now M.has_solution }
     requires crew { IsCrewFor job.now.plan.now.options crew.old }
-    ensures ends { IfOk result (AreEndsOf (numbers_of job.now.plan.now) (FirstStands job.now seat.new)) }
+    ensures ends { IfOk result (AreEndsOf (numbers_of job.now.plan.now) job.now.plan.now.options.workers (FirstStands job.now seat.new)) }
     ensures fits { FirstFits job.now seat.new }
     ensures parts { FirstParts seat.new 1024 }
     ensures crew { IsCrewFor job.now.plan.now.options crew.new }

@@ -6,7 +6,9 @@ ghost use Rattle.answer.specs.Settled.{FirstOfLists, LastIsFirst, BestIsFirst};
 use branching::{law_every_list, law_one_list};
 use decompose::law_some_program;
 use interval::law_inside_order;
-use search::{law_finds_first, law_found_first, law_one_end, law_records_solutions};
+use search::{
+    law_finds_first, law_found_first, law_lanes_are_free, law_one_end, law_records_solutions,
+};
 use solution_lists::{law_in_declaration_order, law_in_static_order, law_solutions_listed};
 use subproblems::{law_cuts, law_paths};
 
@@ -17,18 +19,15 @@ pub fn law_one_finished()
     law_one_list();
 }
 
-/// A model without an objective has one answer where no limit on rounds is set, whatever that on nodes is.
+/// A model has one answer, whatever the limits are, where none is set on rounds or one lane propagates, and where it has no
+/// objective or one worker searches.
 pub fn law_one_limited_answer()
     ensures { OneLimited }
 {
-    law_some_program();
-    law_inside_order();
     law_one_list();
-    law_every_list();
     law_paths();
-    law_solutions_listed();
-    law_in_declaration_order();
     law_one_end();
+    law_lanes_are_free();
 }
 
 /// One solution is given at most, but where all solutions are asked for.

@@ -54,7 +54,7 @@ pub(crate) struct LeastJob<'a, L, M: OfModel> {
 }
 
 impl<L, M: OfModel> Job<BestSeat, Own, LeastEnd> for LeastJob<'_, L, M> {
-    ghost use Rattle.answer.specs.Jobs.{numbers_of, Owns, LeastFits, LeastParts, LeastStands};
+    ghost use Rattle.answer.specs.Jobs.{numbers_of, Owns, LeastFits, LeastParts, LeastStands, MaySplit};
 
     ghost count = { λ job. numbers_of job.plan.now };
 
@@ -65,6 +65,8 @@ impl<L, M: OfModel> Job<BestSeat, Own, LeastEnd> for LeastJob<'_, L, M> {
     ghost owns = { λ job. Owns job.plan.now };
 
     ghost stands = { λ job. LeastStands job };
+
+    ghost may_split = { λ job. MaySplit job };
 
     fn own(&self, alloc: Global) -> Result<Own, NoMemory> {
         let own = Own::new(alloc);
@@ -144,7 +146,7 @@ fn run_all<R: Threads + Sync, C: Gate + Sync, L: Gate + Sync, M: OfModel + Sync>
     requires none { LeastStands job.now seat.old [] }
     requires costs { SaysWhichCost job.now.plan.now M.is_cost }
     requires crew { IsCrewFor job.now.plan.now.options crew.old }
-    ensures ends { IfOk result (AreEndsOf (numbers_of job.now.plan.now) (LeastStands job.now seat.new)) }
+    ensures ends { IfOk result (AreEndsOf (numbers_of job.now.plan.now) job.now.plan.now.options.workers (LeastStands job.now seat.new)) }
     ensures fits { LeastFits job.now seat.new }
     ensures parts { LeastParts seat.new 1024 }
     ensures crew { IsCrewFor job.now.plan.now.options crew.new }

@@ -39,7 +39,7 @@ pub(crate) struct Own {
 impl Own {
     /// Nothing yet.
     pub(crate) fn new(alloc: Global) -> Own
-        ensures { (model : FznModel) (kernels : List Kernel) (start : Bounds) (count : ℕ) → IsOwnFrom model kernels start count result }
+        ensures { (model : FznModel) (kernels : List Kernel) (start : Bounds) (lanes count : ℕ) → IsOwnFrom model kernels start lanes count result }
     {
         let walk = Walk::new(alloc);
         let kept = Kept::new();

@@ -19,10 +19,10 @@ times-append k xs ys = sum_by-append (λ x. cond (x == k) 1 0) xs ys
 times-cons : (k x : ℕ) (xs : List ℕ) → times k (x ∷ xs) ≡ cond (x == k) 1 0 + times k xs
 times-cons k x xs = sum_by-cons (λ y. cond (y == k) 1 0) x xs
 
-times-same : (k x : ℕ) (xs : List ℕ) → x ≡ k → times k (x ∷ xs) ≡ 1 + times k xs
+pub times-same : (k x : ℕ) (xs : List ℕ) → x ≡ k → times k (x ∷ xs) ≡ 1 + times k xs
 times-same k x xs e = times-cons k x xs ∙ ap (λ (b : Bool). cond b 1 0 + times k xs) (eq-eqb x k e)
 
-times-other : (k x : ℕ) (xs : List ℕ) → x ≢ k → times k (x ∷ xs) ≡ times k xs
+pub times-other : (k x : ℕ) (xs : List ℕ) → x ≢ k → times k (x ∷ xs) ≡ times k xs
 times-other k x xs ne = let a : times k (x ∷ xs) ≡ 0 + times k xs = times-cons k x xs ∙ ap (λ (b : Bool). cond b 1 0 + times k xs) (ne_eqb x k ne) in omega arith
 
 -- a run's number is among the numbers

@@ -4,3 +4,4 @@ mod Made
 mod Tickets
 mod HandLaws
 mod Hired
+mod InTurn

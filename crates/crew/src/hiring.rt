@@ -25,6 +25,7 @@ fn hire<N, S, W, E, J: Job<S, W, E>>(
     seat: &mut S,
     recruit: Recruit<N, W>,
 ) -> Worker<N, S, W, E>
+    requires may_split { J.may_split job.now }
     requires seat { (workers : ℕ) × (workers < 64) × IsFirstSeat (J.fits job.now) J.has_parts workers seat.old }
     requires none { J.stands job.now seat.old [] }
     requires own { J.owns job.now recruit.own }
@@ -60,6 +61,7 @@ pub(crate) fn hire_all<N: Drop, S: Drop, W: Drop, E: Drop, J: Job<S, W, E>>(
     recruits: Vec<Recruit<N, W>>,
     workers: &mut Vec<Worker<N, S, W, E>>,
 )
+    requires may_split { J.may_split job.now }
     requires fits { J.fits job.now seat.old }
     requires parts { J.has_parts seat.old 1024 }
     requires none { J.stands job.now seat.old [] }
@@ -80,7 +82,7 @@ pub(crate) fn hire_all<N: Drop, S: Drop, W: Drop, E: Drop, J: Job<S, W, E>>(
     }
 }
 
-/// Has all workers run numbers side by side, until none is left. One worker is run by the calling thread.
+/// Has all workers run numbers side by side, until none is left.
 pub(crate) fn work_all<
     R: Threads + Sync,
     C: Gate + Sync,
@@ -105,10 +107,6 @@ pub(crate) fn work_all<
     ensures made { KeepRuns (J.count job.now) (J.owns job.now) (J.fits job.now) (J.stands job.now) (F.post run.now) →
         AtEachPlace (λ _. HasRunSome Q.drawn (J.stands job.now)) workers.old workers.new }
 {
-    if workers.len() == 1 {
-        work(source, job, run, gate, &mut workers[0]);
-        return;
-    }
     let threads = workers.len();
     for_each_mut(
         rt,
@@ -139,6 +137,7 @@ fn take_in<N, S, W: Drop, E: Drop, J: Job<S, W, E>>(
     rights: &mut Vec<N>,
     runs: &mut Vec<(u32, E)>,
 ) -> bool
+    requires may_split { J.may_split job.now }
     requires fits { J.fits job.now seat.old }
     requires worker { HasSeat (J.fits job.now) J.has_parts worker }
     requires room { vec_len rights.old < vec_capacity rights.old }
@@ -172,6 +171,7 @@ pub(crate) fn take_all<N: Drop, S: Drop, W: Drop, E: Drop, J: Job<S, W, E>>(
     rights: &mut Vec<N>,
     runs: &mut Vec<(u32, E)>,
 ) -> bool
+    requires may_split { J.may_split job.now }
     requires seat { IsFirstSeat (J.fits job.now) J.has_parts (length workers.items) seat.old }
     requires none { J.stands job.now seat.old [] }
     requires seats { All (HasSeat (J.fits job.now) J.has_parts) workers.items }

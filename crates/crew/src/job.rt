@@ -24,12 +24,16 @@ pub trait Job<S, W, E> {
     // these are the runs that were made with the seat, or a seat joined into it, in the order in which they were made
     ghost stands: { Self → S → List (ℕ × E) → Type 0 };
 
+    // several workers may run it, each with a seat of its own
+    ghost may_split: { Self → Type 0 };
+
     /// What a worker keeps before its first run.
     fn own(&self, alloc: Global) -> Result<W, NoMemory>
         ensures { IfOk result (owns self.now) };
 
     /// Another seat, with one of the seat's parts, with which no run was made.
     fn split(&self, seat: &mut S) -> S
+        requires may_split { may_split self.now }
         requires fits { fits self.now seat.old }
         requires parts { (n : ℕ) × (1 < n) × has_parts seat.old n }
         ensures fits { fits self.now seat.new }
@@ -41,6 +45,7 @@ pub trait Job<S, W, E> {
 
     /// Takes in another seat, with its parts and the runs that were made with it.
     fn join_back(&self, seat: &mut S, other: S)
+        requires may_split { may_split self.now }
         requires fits { fits self.now seat.old }
         requires other_fits { fits self.now other }
         ensures fits { fits self.now seat.new }

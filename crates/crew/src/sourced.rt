@@ -31,6 +31,7 @@ fn gather<N: Drop, S: Drop, W: Drop, E: Drop, Q: Source<N>, J: Job<S, W, E>>(
     workers: Vec<Worker<N, S, W, E>>,
     room: Vec<N>,
 ) -> Result<Vec<(u32, E)>, NoMemory>
+    requires may_split { J.may_split job.now }
     requires seat { IsFirstSeat (J.fits job.now) J.has_parts (length workers.items) seat.old }
     requires none { J.stands job.now seat.old [] }
     requires back { All (IsBack (Q.is_right source) Q.drawn (Q.has_passed source) (J.fits job.now) J.has_parts (J.stands job.now)) workers.items }
@@ -54,7 +55,7 @@ fn gather<N: Drop, S: Drop, W: Drop, E: Drop, Q: Source<N>, J: Job<S, W, E>>(
     }
 }
 
-/// Has a crew run all numbers of a source, each once, and gives the ends of the runs in the order of the numbers. All that
+/// Has the several workers of a crew run all numbers of a source, each once, and gives the ends of the runs in the order of the numbers. All that
 /// takes memory but the runs is made before the first seat is split.
 pub(crate) fn run_from<
     R: Threads + Sync,
@@ -87,7 +88,9 @@ pub(crate) fn run_from<
     requires rights { All (Q.is_right dealt.source) dealt.rights.items }
     requires idle { All (λ right. Q.drawn right ≡ []) dealt.rights.items }
     requires workers { length dealt.rights.items ≡ workers_of crew.old }
-    ensures ends { IfOk result (AreEndsOf work.now.count (J.stands work.now.job.now seat.new)) }
+    requires several { 1 < workers_of crew.old }
+    requires may_split { J.may_split work.now.job.now }
+    ensures ends { IfOk result (AreEndsOf work.now.count (workers_of crew.old) (J.stands work.now.job.now seat.new)) }
     ensures made { KeepRuns (J.count work.now.job.now) (J.owns work.now.job.now) (J.fits work.now.job.now) (J.stands work.now.job.now)
         (F.post work.now.run.now) → OnErr result (AreSomeRuns work.now.count (J.stands work.now.job.now seat.new)) }
     ensures fits { J.fits work.now.job.now seat.new }

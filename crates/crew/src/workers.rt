@@ -1,6 +1,6 @@
 //! A crew, as it is kept from one job to the next.
 
-ghost use Rattle.std.specs.Prelude.{◌≡◌, ◌≤◌, length, map, IfOk, replicate};
+ghost use Rattle.std.specs.Prelude.{◌≡◌, ◌≤◌, [], ◌∷◌, length, map, IfOk, replicate};
 
 use crate::worker::Worker;
 use interval::NoMemory;
@@ -52,6 +52,23 @@ impl Workers {
         ensures { result.now ≡ turns_of self.now }
     {
         self.turns.as_slice()
+    }
+
+    /// How many times the one worker has asked for a number by now.
+    pub(crate) fn sole_turn(&self) -> u64
+        requires sole { workers_of self.now ≡ 1 }
+        ensures { turns_of self.now ≡ result ∷ [] }
+    {
+        self.turns[0]
+    }
+
+    /// Notes how many times the one worker has asked for a number by now.
+    pub(crate) fn note_sole_turn(&mut self, turn: u64)
+        requires sole { workers_of self.old ≡ 1 }
+        ensures turns { turns_of self.new ≡ turn ∷ [] }
+        ensures steals { steals_of self.new ≡ steals_of self.old }
+    {
+        self.turns[0] = turn;
     }
 
     /// Notes how many times each worker has asked for a number by now.

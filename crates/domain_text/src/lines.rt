@@ -2,7 +2,8 @@
 
 ghost use Rattle.std.specs.Prelude.{◌≡◌, ◌++◌, IfOk, OnOk, flat_map};
 ghost use Rattle.bit_domain.specs.Mixes.{IsDomInRange};
-ghost use Rattle.domain_text.specs.Domains.{declared_dom, dom_text, domain_line, domain_text, named_line};
+ghost use Rattle.domain_laws.specs.Left.{declared_dom};
+ghost use Rattle.domain_text.specs.Domains.{dom_text, domain_line, domain_text, named_line};
 
 use crate::sets::push_dom;
 use bit_domain::{Dom, MixOf};

@@ -2,6 +2,8 @@
 //! written is the answer that lies there.
 #![tactic(auto)]
 
+ghost use Rattle.std.specs.Prelude.{◌≡◌, ◌↔◌, IsTrue};
+
 use fzn_io::{FileSource, MemSink, read_named};
 use gate::NoGate;
 use solver_top::{Gates, Status, solve_main};
@@ -44,11 +46,18 @@ fn compare(
     );
     Ok(if status != Status::Answered {
         "not answered"
-    } else if out.bytes() != answer.as_slice() {
+    } else if !is_same(out.bytes(), answer.as_slice()) {
         "another answer"
     } else {
         "its answer"
     })
+}
+
+/// Whether what was written is the answer, byte for byte.
+fn is_same(written: &[u8], answer: &[u8]) -> bool
+    ensures { IsTrue result ↔ written.now ≡ answer.now }
+{
+    written == answer
 }
 
 /// The words for a text: the program's name, those in the file `.words` beside the text, one a line, and the text's file.

@@ -3,11 +3,9 @@ pub mod ArrayLaws
 pub mod EffectLaws
 pub mod EntryLaws
 pub mod FaultLaws
-pub mod HintLaws
 pub mod KindLaws
 pub mod KnownLaws
 pub mod LeafLaws
-pub mod LookupLaws
 pub mod MeaningLaws
 pub mod NoteLaws
 pub mod NumberLaws
@@ -15,6 +13,7 @@ pub mod OneModel
 pub mod OutputLaws
 pub mod PhaseLaws
 pub mod SomeModel
+pub mod ScopeLaws
 pub mod Standing
 pub mod Takings
 pub mod Turns

@@ -1,6 +1,6 @@
 -- What expressions stand for is well-formed, where the declared names are and no list is too long; more variables change nothing.
 use Rattle.std.proofs.Common.{◌≡◌, ℕ, zero, suc, ◌≤◌, List, [], ◌∷◌, ◌++◌, length, map, take, drop, Bool, true, false, cond, ◌&&◌, nat_lt, nat_le, Option, Some, None, refl, ap, ◌∙◌, inl, inr, arith, ℤ, pos, neg_ℤ, ◌+ℤ◌}
-use Rattle.std.specs.Prelude.{find, option_map, option_and_then, option_to_list, unwrap_or, int_le, bytes_eq, codes}
+use Rattle.std.specs.Prelude.{if◌then◌else◌, find, option_map, option_and_then, option_to_list, unwrap_or, int_le, bytes_eq, codes}
 use Rattle.std.specs.List.{AllByRecursion as Each, list_any}
 use Rattle.std.specs.Option.{IfSome}
 use Rattle.std.specs.Str.Parse.{digits_value, starts_with_minus}
@@ -21,7 +21,7 @@ use Rattle.constraint_model.specs.declared.meanings.Meaning.{Meaning}
 use Rattle.constraint_model.specs.Numbers.{largest, IsInProfile}
 use Rattle.fzn_model.specs.Literals.{is_numeral, number_in, natural_of, number_of}
 use Rattle.constraint_model.specs.Ranges.{Range, AreApart, insert_number, rising, ranges_on, ranges_of_rising, ranges_of, range_of, HaveRanges, IntervalsHold}
-use Rattle.fzn_model.specs.Scopes.{Scope, meaning_of, number_at, set_at, scalar_of, entry_at, all_some, array_literal, simple_at, expr_meaning, boolean, integer}
+use Rattle.fzn_model.specs.Scopes.{Scope, meaning_of, sign_number, number_at, set_at, scalar_of, entry_at, all_some, array_literal, simple_at, expr_meaning, boolean, integer}
 use Rattle.constraint_model.specs.Limits.{most_entries}
 use Rattle.fzn_model.proofs.LeafLaws.{set_is_long, elem_is_long, expr_is_long}
 use Rattle.constraint_model.specs.WellFormed.{IsVariable, IsTermOf, IsScalarOf, IsMeaningOf, IsConstraintOf, IsOutputOf}
@@ -125,8 +125,16 @@ pub one_in : IsInProfile (pos 1)
 unfolding largest
 one_in = omega arith
 
+sign_in : (s : List ℕ) → IsInProfile (sign_number s)
+unfolding largest
+sign_in s = by (starts_with_minus s)
+  where
+    by : (b : Bool) → IsInProfile (if b then neg_ℤ (pos 1) else pos 0)
+    by true = omega arith
+    by false = omega arith
+
 pub number_in_profile : (text : List ℕ) (t : Token) → IsInProfile (number_at text t)
-number_in_profile text t = or_else IsInProfile (number_of (spelling text t)) (pos 0) zero_in (number_small (spelling text t))
+number_in_profile text t = or_else IsInProfile (number_of (spelling text t)) (sign_number (spelling text t)) (sign_in (spelling text t)) (number_small (spelling text t))
 
 -- ---- sets
 

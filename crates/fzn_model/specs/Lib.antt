@@ -1,12 +1,9 @@
-pub mod Denotes
 pub mod Drafts
 pub mod Effects
 pub mod FaultKinds
 pub mod Faults
-pub mod Hints
 pub mod Leaves
 pub mod Literals
-pub mod Lookups
 pub mod Outputs
 pub mod Resolving
 pub mod Scopes

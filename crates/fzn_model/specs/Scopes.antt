@@ -1,6 +1,7 @@
 -- What names and expressions denote, by the declarations before them.
 -- (MiniZinc Handbook, FlatZinc: parameter and variable declarations, basic expressions.)
-use Rattle.std.specs.Prelude.{ℕ, ℤ, pos, List, [], ◌∷◌, map, true, false, bytes_eq, find, Option, Some, None, option_map, option_and_then, unwrap_or, All}
+use Rattle.std.specs.Prelude.{ℕ, ℤ, pos, neg_ℤ, List, [], ◌∷◌, map, true, false, if◌then◌else◌, bytes_eq, find, Option, Some, None, option_map, option_and_then, unwrap_or, All}
+use Rattle.std.specs.Str.Parse.{starts_with_minus}
 use Rattle.fzn_lexer.specs.declared.Token.{Token}
 use Rattle.fzn_parser.specs.declared.tree.SetLit.{SetLit}
 use Rattle.fzn_parser.specs.declared.tree.Elem.{Elem}
@@ -26,9 +27,13 @@ AreNumbered arrays scope = All (λ d. HasNumber arrays (operand_of d.1)) scope
 abbrev pub meaning_of : Scope → List ℕ → Option Meaning
 meaning_of scope name = option_map (λ entry. entry.1) (find (λ entry. bytes_eq name entry.0) scope)
 
--- the number of an integer literal; one that no model has is refused before it counts, and is 0 here
+-- what a literal counts as whose number no model has: its sign, by which it may be a wrong argument; else it is out of range
+abbrev pub sign_number : List ℕ → ℤ
+sign_number s = if starts_with_minus s then neg_ℤ (pos 1) else pos 0
+
+-- the number of an integer literal
 abbrev pub number_at : List ℕ → Token → ℤ
-number_at text t = unwrap_or (number_of (spelling text t)) (pos 0)
+number_at text t = unwrap_or (number_of (spelling text t)) (sign_number (spelling text t))
 
 -- the set that a literal writes
 abbrev pub set_at : List ℕ → SetLit → List Range

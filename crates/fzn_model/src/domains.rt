@@ -1,26 +1,16 @@
 //! The bounds of declared variables, and the constraints that declarations add.
 
 ghost use Rattle.std.specs.Prelude.{◌≡◌, ℤ, fold, ◌++◌, ◌∷◌, [], map, IfOk, OnOk};
-ghost use Rattle.fzn_model.specs.Scopes as scopes;
 ghost use Rattle.fzn_model.specs.Effects as effects;
 
-use crate::exprs::{set_at, spelling};
-use crate::numbers::number_of;
+use crate::exprs::{number_at, set_at};
 use crate::stop::Stop;
 use crate::types::equality_name;
 use constraint_model::{Constraint, ConstraintName, LARGEST, Operand, Term};
-use fzn_lexer::Token;
 use fzn_parser::tree::{SetLit, Shape};
 use list_of::ListOf;
 use shared_list::SharedList;
 use std::alloc::Global;
-
-/// The number of a literal; 0 where it isn't in the profile.
-fn number_at(text: &[u8], literal: Token) -> i64
-    ensures { result ≡ scopes.number_at text.now literal }
-{
-    number_of(spelling(text, &literal)).unwrap_or(0)
-}
 
 fn low_of(range: &(i64, i64)) -> i64
     ensures { result ≡ range.now.0 }
@@ -56,7 +46,7 @@ pub(crate) fn bounds_of(alloc: Global, text: &[u8], shape: &Shape) -> Result<(i6
     match shape {
         Shape::VarBool => Ok((0, 1)),
         Shape::VarIn(SetLit::Range(low, high)) => {
-            Ok((number_at(text, *low), number_at(text, *high)))
+            Ok((number_at(text, low), number_at(text, high)))
         }
         Shape::VarIn(set) => {
             let ranges = set_at(alloc, text, set)?;

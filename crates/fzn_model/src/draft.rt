@@ -201,12 +201,12 @@ fn misplaced(text: &[u8], scope: &Scope, what: &What, stop: Stop) -> Stop
 }
 
 impl Draft {
-    /// Before the first item. There is room for hints of so many names.
-    pub(crate) fn new(alloc: Global, names: usize) -> Draft
+    /// Before the first item of this text.
+    pub(crate) fn new(alloc: Global, text: &[u8]) -> Draft
         ensures { seen result ≡ effects.nothing }
     {
         Draft {
-            scope: Scope::new(alloc, names),
+            scope: Scope::new(alloc, text),
             vars: ListOf::new(alloc),
             constraints: ListOf::new(alloc),
             output: ListOf::new(alloc),

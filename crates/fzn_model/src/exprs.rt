@@ -6,10 +6,10 @@ ghost use Rattle.fzn_model.specs.declared.fault_kinds.FaultKind.{FaultKind as Ki
 ghost use Rattle.fzn_model.specs.Leaves.{elem_leaves};
 ghost use Rattle.fzn_model.specs.Drafts.{AreSure, elems_of, has_kind};
 ghost use Rattle.fzn_parser.specs.Texts.{spelling};
-ghost use Rattle.fzn_model.specs.Scopes.{number_at, set_at, boolean, integer, entry_at, all_some, array_literal, meaning_of, simple_at, expr_meaning};
+ghost use Rattle.fzn_model.specs.Scopes.{sign_number, number_at, set_at, boolean, integer, entry_at, all_some, array_literal, meaning_of, simple_at, expr_meaning};
 
 use crate::numbers::number_of;
-use crate::scope::{Denoted, Scope};
+use crate::scope::Scope;
 use constraint_model::{Array, Entries, Meaning, Scalar, Term, range_of, ranges_of};
 use fzn_lexer::Token;
 use fzn_parser::tree::{Elem, Expr, SetLit};
@@ -30,12 +30,27 @@ pub(crate) fn spelling<'a>(text: &'a [u8], token: &Token) -> &'a [u8]
     }
 }
 
-/// The number of an integer literal; 0 where the profile doesn't have it.
+/// What a literal counts as whose number no model has: its sign.
+#[inline(never)]
+fn sign_number(literal: &[u8]) -> i64
+    ensures { result ≡ sign_number literal.now }
+{
+    match literal {
+        [b'-', ..] => -1,
+        _ => 0,
+    }
+}
+
+/// The number of an integer literal, or its sign alone.
 #[inline(always)]
-fn number_at(text: &[u8], token: &Token) -> i64
+pub(crate) fn number_at(text: &[u8], token: &Token) -> i64
     ensures { result ≡ number_at text.now token.now }
 {
-    number_of(spelling(text, token)).unwrap_or(0)
+    let literal = spelling(text, token);
+    match number_of(literal) {
+        Some(number) => number,
+        None => sign_number(literal),
+    }
 }
 
 fn numbers_at(alloc: Global, text: &[u8], tokens: &[Token]) -> Result<Vec<i64>, AllocError>
@@ -218,8 +233,7 @@ fn meaning_named(alloc: Global, scope: &Scope, name: &[u8]) -> Result<Option<Mea
     ensures { IfOk result (λ o. o ≡ meaning_of scope.now name.now) }
 {
     match scope.meaning(name) {
-        Some(Denoted::Variable(scalar)) => Ok(Some(Meaning::One(scalar))),
-        Some(Denoted::Other(meaning)) => Ok(Some(share_meaning(alloc, meaning)?)),
+        Some(meaning) => Ok(Some(share_meaning(alloc, meaning)?)),
         None => Ok(None),
     }
 }

@@ -3,8 +3,7 @@
 //! Begin with `Resolver` (`src/taking.rt`), which takes the items one by one; `resolve` takes them whole and is used by laws
 //! and tests. Every list of items has one model or one fault, never both (`law_one_model`), and a model is well-formed
 //! (`law_well_formed`). `specs/Effects.antt` says what an item adds, `specs/Faults.antt` which faults it has. It builds on
-//! `fzn_parser` and `constraint_model`. No contract says how fast names are found: a body that keeps no
-//! hints is right too, and slower.
+//! `fzn_parser` and `constraint_model`. No contract says how fast names are found.
 #![tactic(auto)]
 
 mod arrays;
@@ -15,10 +14,9 @@ mod draft;
 mod effect;
 mod exprs;
 pub mod fault_kinds;
-mod hints;
 mod leaves;
 mod limits;
-mod lookup;
+mod name_hash;
 mod numbers;
 mod outputs;
 mod reads;

@@ -47,7 +47,7 @@ pub(crate) fn stopped(stop: Stop, at: usize) -> ModelError
 pub fn resolve(alloc: Global, text: &[u8], items: &[Item]) -> Result<FznModel, ModelError>
     ensures { MatchResult result (λ m. IsModelOf text.now (map item_tree items.now) m) (λ e. IsCause text.now (map item_tree items.now) e) }
 {
-    let mut draft = Draft::new(alloc, items.len());
+    let mut draft = Draft::new(alloc, text);
     for item in items {
         match draft.add(alloc, text, item) {
             Ok(()) => {}

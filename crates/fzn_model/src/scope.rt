@@ -1,41 +1,29 @@
 //! What the declared names denote.
 
-ghost use Rattle.std.specs.Prelude.{◌≡◌, [], ◌∷◌, ◌++◌, false, true, is_none, is_some, option_map, option_and_then, IfOk, OnErr};
+ghost use Rattle.std.specs.Prelude.{◌≡◌, [], ◌∷◌, ◌++◌, false, true, is_none, is_some, option_and_then, IfOk, OnErr};
+ghost use Rattle.std.specs.Option.{option_copied};
 ghost use Rattle.fzn_model.specs.Scopes.{meaning_of, scalar_of};
-ghost use Rattle.fzn_model.specs.Denotes.{denoted, found_at};
 
-use crate::hints::Found;
-use crate::lookup::Lookup;
-use constraint_model::{Meaning, Scalar, Term};
+use crate::name_hash::NameHash;
+use constraint_model::{Meaning, Scalar};
+use indexmap::IndexMap;
 use names::Name;
 use std::alloc::{AllocError, Global};
 use std::marker::Model;
 
-/// What a declared name denotes, where it is kept.
-#[derive(Clone, Copy)]
-pub(crate) enum Denoted<'a> {
-    /// This variable.
-    Variable(Scalar),
-    /// This.
-    Other(&'a Meaning),
-}
-
 /// The declared names, each with what it denotes. Contracts see them in the order of their declarations.
 #[derive(Drop)]
 pub(crate) struct Scope {
-    entries: Vec<(Name, Meaning)>,
-    lookup: Lookup,
+    entries: IndexMap<Vec<u8>, Meaning, NameHash>,
 }
 
 impl Model for Scope {
+    ghost use Rattle.std.specs.Prelude.{map};
     ghost use Rattle.fzn_model.specs.Scopes.{Scope as Declared};
-    ghost use Rattle.fzn_model.specs.Lookups.{IsOf};
 
     ghost Value = { Declared };
 
-    ghost view = { λ s. s.entries.items };
-
-    ghost invariant = { λ s. IsOf s.entries.items s.lookup };
+    ghost view = { λ s. map (λ entry. (entry.0.items, entry.1)) s.entries.entries };
 }
 
 /// The boolean or the integer that a meaning is.
@@ -48,40 +36,22 @@ pub(crate) fn scalar_of(meaning: &Meaning) -> Option<Scalar>
     }
 }
 
-/// Where a name is found that is declared at this place and denotes this.
-fn found_at(place: usize, meaning: &Meaning) -> Found
-    ensures { result ≡ found_at place meaning.now }
-{
-    match meaning {
-        Meaning::One(scalar) => match scalar.term {
-            Term::Var(_) => Found::Variable(*scalar),
-            Term::Number(_) => Found::Declared(place),
-        },
-        Meaning::Row(_) | Meaning::Set(_) => Found::Declared(place),
-    }
-}
-
 impl Scope {
-    /// No names, with room for so many to be found fast. It takes no memory.
-    pub(crate) fn new(alloc: Global, names: usize) -> Scope
+    /// No names of this text. It takes no memory.
+    pub(crate) fn new(alloc: Global, text: &[u8]) -> Scope
         ensures { result ≡ [] }
     {
         Scope {
-            entries: Vec::new(alloc),
-            lookup: Lookup::new(alloc, names),
+            entries: IndexMap::with_hasher(alloc, NameHash::new(text)),
         }
     }
 
     /// What `name` denotes, where it was declared.
     #[inline(always)]
-    pub(crate) fn meaning(&self, name: &[u8]) -> Option<Denoted<'_>>
-        ensures { option_map denoted result ≡ meaning_of self.now name.now }
+    pub(crate) fn meaning(&self, name: &[u8]) -> Option<&Meaning>
+        ensures { option_copied result ≡ meaning_of self.now name.now }
     {
-        match self.lookup.find(name) {
-            Some(Found::Variable(scalar)) => Some(Denoted::Variable(scalar)),
-            Some(Found::Declared(place)) => Some(Denoted::Other(&self.entries[place].1)),
-            None => None,
-        }
+        self.entries.get(name)
     }
 
     /// The boolean or the integer that `name` denotes, where it was declared and denotes one.
@@ -89,18 +59,14 @@ impl Scope {
     pub(crate) fn scalar(&self, name: &[u8]) -> Option<Scalar>
         ensures { result ≡ option_and_then scalar_of (meaning_of self.now name.now) }
     {
-        match self.meaning(name) {
-            Some(Denoted::Variable(scalar)) => Some(scalar),
-            Some(Denoted::Other(meaning)) => scalar_of(meaning),
-            None => None,
-        }
+        scalar_of(self.meaning(name)?)
     }
 
     /// Whether `name` was declared.
     pub(crate) fn contains(&self, name: &[u8]) -> bool
         ensures { result ≡ is_some (meaning_of self.now name.now) }
     {
-        self.lookup.find(name).is_some()
+        self.entries.contains_key(name)
     }
 
     /// Adds a name and answers yes, where it wasn't declared before. Where it was, it answers no, and the names are as before.
@@ -116,13 +82,11 @@ impl Scope {
         ensures again { IfOk result (λ b. b ≡ false → self.new ≡ self.old) }
         ensures unchanged { OnErr result (self.new ≡ self.old) }
     {
-        if self.lookup.find(name.as_slice()).is_some() {
+        if self.contains(name.as_slice()) {
             return Ok(false);
         }
-        self.entries.reserve(1)?;
-        let found = found_at(self.entries.len(), &meaning);
-        self.lookup.put(alloc, name.as_slice(), found)?;
-        self.entries.push_reserved((name, meaning));
+        let key = Vec::from_slice(alloc, name.as_slice())?;
+        self.entries.insert(key, meaning)?;
         Ok(true)
     }
 }

@@ -10,7 +10,7 @@ ghost use Rattle.constraint_model.specs.Searches.{last_phase};
 
 use crate::exprs::spelling;
 use crate::outputs::is_spelled;
-use crate::scope::{Denoted, Scope};
+use crate::scope::Scope;
 use constraint_model::{Meaning, Phase, ValSel, VarSel};
 use fzn_lexer::Token;
 use fzn_parser::tree::{Ann, Arg};
@@ -24,10 +24,9 @@ fn entry_variable(text: &[u8], scope: &Scope, entry: &Arg) -> Option<Option<u32>
 {
     match entry {
         Arg::Ann(Ann { name, args: None }) => match scope.meaning(spelling(text, name)) {
-            Some(Denoted::Variable(scalar)) => Some(scalar.term.variable()),
-            Some(Denoted::Other(Meaning::One(scalar))) => Some(scalar.term.variable()),
-            Some(Denoted::Other(Meaning::Set(_))) => Some(None),
-            Some(Denoted::Other(Meaning::Row(_))) | None => None,
+            Some(Meaning::One(scalar)) => Some(scalar.term.variable()),
+            Some(Meaning::Set(_)) => Some(None),
+            Some(Meaning::Row(_)) | None => None,
         },
         Arg::Ann(_) | Arg::Row(_) => None,
         _ => Some(None),
@@ -64,9 +63,7 @@ fn array_variables(
     ensures { IfOk result (λ o. o ≡ variables_of_row (meaning_of scope.now (spelling text.now name.now))) }
 {
     match scope.meaning(spelling(text, name)) {
-        Some(Denoted::Other(Meaning::Row(array))) => {
-            Ok(Some(array.entries.share_variables(alloc)?))
-        }
+        Some(Meaning::Row(array)) => Ok(Some(array.entries.share_variables(alloc)?)),
         _ => Ok(None),
     }
 }

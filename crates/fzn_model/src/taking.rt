@@ -28,12 +28,12 @@ impl Model for Resolver {
 }
 
 impl Resolver {
-    /// Before the first item of a text that declares so many names or fewer: of more, some are found more slowly. It takes no memory.
-    pub fn new(alloc: Global, names: usize) -> Resolver
-        ensures { (text : List ℕ) → AreTaken text [] result }
+    /// Before the first item of this text. It takes no memory.
+    pub fn new(alloc: Global, text: &[u8]) -> Resolver
+        ensures { (other : List ℕ) → AreTaken other [] result }
     {
         Resolver {
-            draft: Draft::new(alloc, names),
+            draft: Draft::new(alloc, text),
         }
     }
 

@@ -1,8 +1,13 @@
 //! `fzncheck`: checks the solutions in one file against the FlatZinc model in another, and ends with the status of the call.
 //!
 //! It hands the real words, files and streams to `check_main` of `fzn_check`; that these are what the system says is trusted.
-//! It promises nothing but to be safe, and is run on stored texts by the gate.
+//! `exit_code` gives each status its number, and besides it promises nothing but to be safe. The gate runs it on stored texts, and a
+//! test that it ends with the status of the call.
 #![tactic(auto)]
+
+ghost use Rattle.std.specs.Prelude.{◌≡◌};
+ghost use Rattle.std.specs.Process.{exit_status};
+ghost use Rattle.fzn_check.specs.Outcome.{status_code};
 
 use fzn_check::{Status, check_main, report_memory};
 use fzn_io::{FileSource, StdSink};
@@ -11,12 +16,24 @@ use std::thread::Threads;
 use std::{env, io};
 
 fn main(rt: HostRuntime) -> ExitCode {
-    let status = match words(&rt) {
-        Ok(words) => check(&rt, &rt, &words),
-        Err(error) if error.kind() == io::ErrorKind::OutOfMemory => refuse_memory(&rt),
+    run(&rt, &rt)
+}
+
+/// The whole program; the result is the exit status of the process.
+fn run(rt: &HostRuntime, threads: &(impl Threads + Sync)) -> ExitCode {
+    let status = match words(rt) {
+        Ok(words) => check(rt, threads, &words),
+        Err(error) if error.kind() == io::ErrorKind::OutOfMemory => refuse_memory(rt),
         // Words that can't be had, as those that are no text, are taken as no words.
-        Err(_) => check(&rt, &rt, &[]),
+        Err(_) => check(rt, threads, &[]),
     };
+    exit_code(status)
+}
+
+/// The number of a status, as the process ends with it.
+fn exit_code(status: Status) -> ExitCode
+    ensures { exit_status result ≡ status_code status }
+{
     ExitCode::from(status.code())
 }
 
@@ -40,4 +57,16 @@ fn check(rt: &HostRuntime, threads: &(impl Threads + Sync), words: &[String]) ->
 /// What is said where there is no memory for the words.
 fn refuse_memory(rt: &HostRuntime) -> Status {
     report_memory(&mut StdSink::new(rt.stderr()))
+}
+
+#[cfg(test)]
+mod tests {
+    use super::run;
+    use std::process::ExitCode;
+
+    /// The words of a test are the name of its program and its own, and two files are wanted.
+    #[test]
+    fn words_that_are_not_taken_end_with_1(rt: HostRuntime) {
+        assert!(rt; run(&rt, &rt) == ExitCode::from(1));
+    }
 }

@@ -26,7 +26,7 @@ use Rattle.constraint_model.specs.Fits.{named, fits, add_once, row_for, constant
 use Rattle.constraint_model.specs.Searches.{last_phase}
 use Rattle.fzn_model.specs.declared.effect.Effect.{Effect}
 use Rattle.fzn_model.specs.Literals.{number_of}
-use Rattle.fzn_model.specs.Scopes.{Scope, meaning_of, number_at, expr_meaning, integer, array_literal, scalar_of, all_some}
+use Rattle.fzn_model.specs.Scopes.{Scope, meaning_of, sign_number, number_at, expr_meaning, integer, array_literal, scalar_of, all_some}
 use Rattle.fzn_model.specs.Outputs.{has_output_var}
 use Rattle.fzn_model.specs.Effects.{Reading, joined, effect_of, meanings_of, constraint_alone, constraint_effect, term_in, no_effect}
 use Rattle.fzn_model.specs.Leaves.{leaves as leaves_of}
@@ -115,8 +115,8 @@ variable_leaves text u n low high t w =
     ap (λ k. joined (reading u n [] 0 None) (effect_of text (scope_of n) k (scalar_item (Shape.VarIn (SetLit.Range low high)) t [] None))) count
     ∙ (ap (joined (reading u n [] 0 None)) (variable_effect_is text (scope_of n) n low high t)
     ∙ (ap (λ s. joined (reading u n [] 0 None) (variable_adds n s (number_at text low) (number_at text high))) w.name_is
-    ∙ (ap (λ o. joined (reading u n [] 0 None) (variable_adds n (name (n + 1)) (unwrap_or o (pos 0)) (number_at text high))) w.low_is
-    ∙ (ap (λ o. joined (reading u n [] 0 None) (variable_adds n (name (n + 1)) (pos 0) (unwrap_or o (pos 0)))) w.high_is
+    ∙ (ap (λ o. joined (reading u n [] 0 None) (variable_adds n (name (n + 1)) (unwrap_or o (sign_number (spelling text low))) (number_at text high))) w.low_is
+    ∙ (ap (λ o. joined (reading u n [] 0 None) (variable_adds n (name (n + 1)) (pos 0) (unwrap_or o (sign_number (spelling text high))))) w.high_is
     ∙ variable_joins u n))))
 
 pub variable_clean : (text : List ℕ) (u n : ℕ) (low high t : Token) → n < 2000 → IsVariableItem text u n low high t
@@ -188,8 +188,8 @@ coefficients_mean : (text : List ℕ) (scope : Scope) (one minus : Token) → nu
     → expr_meaning text scope (Expr.Row (Elem.Int one ∷ Elem.Int minus ∷ [])) ≡ Some coefficients
 unfolding expr_meaning
 coefficients_mean text scope one minus first second =
-    ap (λ o. Some (array_literal (integer (unwrap_or o (pos 0)) ∷ integer (number_at text minus) ∷ []))) first
-    ∙ ap (λ o. Some (array_literal (integer (pos 1) ∷ integer (unwrap_or o (pos 0)) ∷ []))) second
+    ap (λ o. Some (array_literal (integer (unwrap_or o (sign_number (spelling text one))) ∷ integer (number_at text minus) ∷ []))) first
+    ∙ ap (λ o. Some (array_literal (integer (pos 1) ∷ integer (unwrap_or o (sign_number (spelling text minus))) ∷ []))) second
 
 variables_mean : (text : List ℕ) (scope : Scope) (i j : ℕ) (a b : Token) → meaning_of scope (spelling text a) ≡ Some (Meaning.One (integer_at (i - 1)))
     → meaning_of scope (spelling text b) ≡ Some (Meaning.One (integer_at (j - 1))) → expr_meaning text scope (Expr.Row (Elem.Name a ∷ Elem.Name b ∷ [])) ≡ Some (variables i j)
@@ -200,7 +200,7 @@ variables_mean text scope i j a b first second =
 
 bound_means : (text : List ℕ) (scope : Scope) (gap : ℕ) (d : Token) → number_of (spelling text d) ≡ Some (neg_ℤ (pos gap)) → expr_meaning text scope (Expr.One (Elem.Int d)) ≡ Some (bound gap)
 unfolding expr_meaning
-bound_means text scope gap d is = ap (λ o. Some (Meaning.One (integer (unwrap_or o (pos 0))))) is
+bound_means text scope gap d is = ap (λ o. Some (Meaning.One (integer (unwrap_or o (sign_number (spelling text d)))))) is
 
 -- three arguments that stand for something
 three_mean : (text : List ℕ) (scope : Scope) (e f g : Expr) (k l m : Meaning) → expr_meaning text scope e ≡ Some k → expr_meaning text scope f ≡ Some l → expr_meaning text scope g ≡ Some m

@@ -170,24 +170,13 @@ fn finished(text: &[u8], resolver: Resolver) -> Result<FznModel, TextError>
     }
 }
 
-/// How many colons a text has. Each declaration has one, so no more names are declared.
-fn colons(text: &[u8]) -> usize {
-    let mut count: usize = 0;
-    for byte in text {
-        if *byte == b':' {
-            count += 1;
-        }
-    }
-    count
-}
-
 /// The model of a text that isn't too long.
 pub(crate) fn model_of(alloc: Global, text: &[u8]) -> Result<FznModel, TextError>
     requires { length text.now ≤ most_bytes }
     ensures { MatchResult result (λ m. IsTextOf text.now m) (λ e. IsCause text.now e) }
 {
     law_tokens_in_turn();
-    let mut resolver = Resolver::new(alloc, colons(text));
+    let mut resolver = Resolver::new(alloc, text);
     let mut room = Room::new(alloc);
     let mut at = 0;
     while at < text.len() {

@@ -142,7 +142,7 @@ module _ (order : InsideOrder) where
       crossed = λ e. absurd (cc);
     })
 
-goes_on_or_over : (p : Progress) → GoesOn p ⊎ (GoesOn p → ⊥)
+pub goes_on_or_over : (p : Progress) → GoesOn p ⊎ (GoesOn p → ⊥)
 goes_on_or_over Still = inl tt
 goes_on_or_over Moved = inl tt
 goes_on_or_over Crossed = inr (λ g. g)

@@ -1,12 +1,15 @@
 pub mod Joining
 pub mod Telling
 pub mod Hearing
+pub mod WithTells
 pub mod SidedLaws
 pub mod Gathering
 pub mod RestLaws
 pub mod AskedLaws
 pub mod RunLemmas
 pub mod Rounding
+pub mod Sweeping
+pub mod SweepLaws
 pub mod Settling
 pub mod Widths
 pub mod DrawnLaws

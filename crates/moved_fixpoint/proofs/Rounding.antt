@@ -259,7 +259,7 @@ module _ (order : InsideOrder) (place : TellPlace) (local : Local) (kernels : Li
     }
 
 -- where there is a place, there is a kernel
-some_kernel : (kernels : List Kernel) (i : ℕ) → i < length kernels → Kernel
+pub some_kernel : (kernels : List Kernel) (i : ℕ) → i < length kernels → Kernel
 some_kernel [] i h = absurd (omega arith)
 some_kernel (k ∷ ks) i h = k
 

@@ -10,7 +10,7 @@ use Rattle.std.specs.Bool.{OnTrue}
 use Rattle.std.specs.List.{All, Contains, filter}
 use Rattle.std.proofs.lemmas.Int.{ints}
 use Rattle.interval.specs.Limits.{IsBound}
-use Rattle.interval.specs.Boxes.{Bounds, low_of, high_of, IsInRange, IsInside, IsProper, InsideOrder}
+use Rattle.interval.specs.Boxes.{Bounds, low_of, high_of, IsInRange, IsInside, IsProper, IsCrossed, InsideOrder}
 use Rattle.guarded_tell.specs.Words.{Tell}
 use Rattle.guarded_tell.specs.Words.{Side}
 use Rattle.guarded_tell.specs.Words.{Low, High}
@@ -30,7 +30,8 @@ use Rattle.moved_fixpoint.specs.declared.joiner.Progress.TheVariants.{Crossed, R
 use Rattle.moved_fixpoint.specs.Moved.{Set, count_of}
 use Rattle.moved_fixpoint.specs.Rested.{Heeds, HasRested}
 use Rattle.moved_fixpoint.specs.Asked.{has_one, heard_at, AreAsked, IsAskedBy}
-use Rattle.moved_fixpoint.specs.Heard.{GoesOn, Hears, Joined, joined}
+use Rattle.moved_fixpoint.specs.Heard.{GoesOn, Becomes, Hears, Joined, joined}
+use Rattle.moved_fixpoint.specs.Sweeps.{with_tells, unless_crossed, after_kernel}
 use Rattle.guarded_tell.specs.declared.resting.Rest.{Rest}
 use Rattle.guarded_tell.specs.Rests.{IsEntailed, IsQuietFor}
 use Rattle.guarded_tell.specs.Seen.{SideLeavesNone, IsFailedBy, IsEntailedBy}
@@ -40,6 +41,7 @@ use Rattle.moved_fixpoint.proofs.RestLaws.{in_or_not, proper_of, entailed_here, 
 use Rattle.moved_fixpoint.proofs.AskedLaws.{asked_more, asked_none}
 use Rattle.moved_fixpoint.proofs.Telling.{keeps_inside}
 use Rattle.moved_fixpoint.proofs.Hearing.{Effect, IsPlaced, effect, effect_of_all, same_side_back}
+use Rattle.moved_fixpoint.proofs.WithTells.{unless_proper, unless_none, crossed_inside, with_narrowing, with_first_inside, all_heard, all_heard_then, becomes}
 
 -- the laws of the kernels, as their functions state them
 abbrev pub Monotone : Type 0
@@ -177,8 +179,8 @@ module _ (place : TellPlace) (k : Kernel) (b : Bounds) (kernel : IsKernel (lengt
 
       -- the round is over
       over_runs : (after : Bounds) (p' p'' : Progress) → Effect b p told told after p' → (GoesOn p'' → ⊥) → (p'' ≡ Crossed → p' ≡ Crossed) →
-          (rests' : Rests) → HasVisited kernels i k b old rests p after (set old i false) rests' p''
-      over_runs after p' p'' e over same rests' = record {
+          (GoesOn p → Becomes (after_kernel k b) p'' after) → (rests' : Rests) → HasVisited kernels i k b old rests p after (set old i false) rests' p''
+      over_runs after p' p'' e over same step rests' = record {
         run = has_run after p' e;
         same_count = length-set old i false;
         going = λ g. absurd (over g);
@@ -191,10 +193,12 @@ module _ (place : TellPlace) (k : Kernel) (b : Bounds) (kernel : IsKernel (lengt
         moves = λ s. absurd (over (subst (λ (x : Progress). GoesOn x) (sym s) tt));
         proper = λ g. absurd (over g);
         crossed = λ s. e.crossed (same s);
+        stepped = step;
       }
 
       module _ (order : InsideOrder) (tighter : Tighter) (after : Bounds) (new : Set) (rests' : Rests) (p' : Progress) (e : Effect b p told told after p')
-          (asked : AreAsked naming rests' after (has_one after) told (set old i false) new) (rested : HasRested k i after rests rests') where
+          (asked : AreAsked naming rests' after (has_one after) told (set old i false) new) (rested : HasRested k i after rests rests')
+          (step : GoesOn p → Becomes (after_kernel k b) p' after) where
         -- of a kernel that isn't asked then, nothing moved that it would heed
         unheard : (j : ℕ) (w : ℕ) (side : Side) → j < length kernels → (IsIn new j → ⊥) → IsIn (heard_at naming (has_one after) side j) w → Heeds rests' after j w → SparesSide told side w
         unheard j w side h none names heeds y t m same side_is =
@@ -291,19 +295,49 @@ module _ (place : TellPlace) (k : Kernel) (b : Bounds) (kernel : IsKernel (lengt
           moves = e.moves;
           proper = e.proper;
           crossed = e.crossed;
+          stepped = step;
         }
 
       module _ (order : InsideOrder) (tightens : TightensOne) (tighter : Tighter) (after : Bounds) (p' : Progress) (heard : HearsAll Hears (joined b p) told (joined after p')) where
         own_heard : Effect b p told told after p'
         own_heard = effect order tightens (joined b p) told (joined after p') gathered_placed heard
 
+        -- to join what was gathered is to join all tells
+        joined_all : GoesOn p' → after ≡ with_tells b (tells k b)
+        joined_all g = ⊎_elim
+            (λ is. all_heard order tightens (joined b p) told (joined after p') g heard ∙ ap (with_tells b) is ∙ with_narrowing order tightens tighter b b (tells k b) all_placed (order.itself b))
+            (λ cut. absurd (never cut after p' own_heard g))
+            are
+
+        first_inside : IsInside (with_tells b (narrowing_tells k b)) (with_tells b told)
+        first_inside = ⊎_elim
+            (λ is. subst (λ (ts : List Tell). IsInside (with_tells b (narrowing_tells k b)) (with_tells b ts)) (sym is) (order.itself (with_tells b (narrowing_tells k b))))
+            (λ cut. subst (λ (ts : List Tell). IsInside (with_tells b (narrowing_tells k b)) (with_tells b ts)) (sym cut.first) (with_first_inside order tightens cut.count b (narrowing_tells k b) narrowing_placed))
+            are
+
+        -- where that crosses the box, so do all tells
+        crossed_all : GoesOn p → p' ≡ Crossed → IsCrossed (with_tells b (tells k b))
+        crossed_all g s = elim (own_heard.crossed s) [
+          | inl e ↦ absurd (subst GoesOn e g)
+          | inr x ↦
+              subst IsCrossed (with_narrowing order tightens tighter b b (tells k b) all_placed (order.itself b))
+              (crossed_inside (with_tells b told) (with_tells b (narrowing_tells k b)) first_inside
+              (crossed_inside after (with_tells b told) (all_heard_then order tightens (joined b p) told (joined after p') g (λ e. absurd (cc)) gathered_placed heard) x))
+        ]
+
+        own_step : GoesOn p → Becomes (after_kernel k b) p' after
+        own_step g =
+            becomes p' (after_kernel k b) after
+            (λ h. ap unless_crossed (sym (joined_all h)) ∙ unless_proper after (own_heard.proper h proper))
+            (λ s. unless_none (with_tells b (tells k b)) (crossed_all g s))
+
         pub gathered_over : (GoesOn p' → ⊥) → (new : Set) → new ≡ set old i false → (rests' : Rests) → HasVisited kernels i k b old rests p after new rests' p'
         gathered_over over new e rests' =
-            subst (λ (s : Set). HasVisited kernels i k b old rests p after s rests' p') (sym e) (over_runs after p' p' own_heard over (λ s. s) rests')
+            subst (λ (s : Set). HasVisited kernels i k b old rests p after s rests' p') (sym e) (over_runs after p' p' own_heard over (λ s. s) own_step rests')
 
         pub gathered_refused : (new : Set) → new ≡ set old i false → (rests' : Rests) → HasVisited kernels i k b old rests p after new rests' Refused
         gathered_refused new e rests' =
-            subst (λ (s : Set). HasVisited kernels i k b old rests p after s rests' Refused) (sym e) (over_runs after p' Refused own_heard (λ g. g) (λ s. absurd (cc)) rests')
+            subst (λ (s : Set). HasVisited kernels i k b old rests p after s rests' Refused) (sym e) (over_runs after p' Refused own_heard (λ g. g) (λ s. absurd (cc)) (λ g. tt) rests')
 
         -- the kernel can be asked how long it rests on the box as it is then
         module _ (then : Bounds) (then_is : then ≡ after) where
@@ -339,6 +373,7 @@ module _ (place : TellPlace) (k : Kernel) (b : Bounds) (kernel : IsKernel (lengt
             (subst (λ (x : Bounds). AreAsked naming rests' x (has_one x) told' mid new) asked_is asked)))
             (subst (λ (r : Rests). HasRested k i after r rests') before_is
             (subst (λ (x : Bounds). HasRested k i x rests_before rests') on_is rested))
+            own_step
 
 -- ---- a kernel that tells nothing
 

@@ -1,5 +1,5 @@
 -- How a tell is joined into a box.
-use Rattle.std.specs.Prelude.{ℕ, ℤ, ◌≡◌, ◌≤ℤ◌, ◌<ℤ◌}
+use Rattle.std.specs.Prelude.{ℕ, ℤ, ◌≡◌, ◌≤ℤ◌, ◌<ℤ◌, Option, None, Some}
 use Rattle.interval.specs.Boxes.{Bounds, low_of, high_of, put_of}
 use Rattle.guarded_tell.specs.Words.{Tell}
 use Rattle.guarded_tell.specs.Words.{Side}
@@ -15,6 +15,14 @@ GoesOn Still = Unit {0}
 GoesOn Moved = Unit {0}
 GoesOn Crossed = ⊥
 GoesOn Refused = ⊥
+
+-- a step of one lane led to this box, where it leads to that one, or to none where some variable has no number left then; where
+-- memory was refused, nothing is said
+abbrev pub Becomes : Option Bounds → Progress → Bounds → Type 0
+Becomes step Still after = step ≡ Some after
+Becomes step Moved after = step ≡ Some after
+Becomes step Crossed after = step ≡ None
+Becomes step Refused after = Unit {0}
 
 -- what became of putting the bounds low and high of variable v into the box b
 abbrev pub HasPut : Progress → Bounds → ℕ → ℤ → ℤ → Bounds → Type 0

@@ -8,3 +8,4 @@ pub mod Round
 pub mod Ends
 pub mod Gathered
 pub mod Made
+pub mod Sweeps

@@ -14,7 +14,8 @@ use Rattle.moved_fixpoint.specs.declared.joiner.Progress.{Progress}
 use Rattle.moved_fixpoint.specs.declared.joiner.Progress.TheVariants.{Still, Moved, Crossed}
 use Rattle.moved_fixpoint.specs.Moved.{Set, count_of}
 use Rattle.moved_fixpoint.specs.Rested.{Heeds, HasRested}
-use Rattle.moved_fixpoint.specs.Heard.{GoesOn}
+use Rattle.moved_fixpoint.specs.Heard.{GoesOn, Becomes}
+use Rattle.moved_fixpoint.specs.Sweeps.{after_kernel}
 
 -- both boxes have the same bounds of variable w
 pub record SameAt (a b : Bounds) (w : ℕ) : Type 0 where
@@ -38,7 +39,8 @@ IsUnmoved k j rests before after =
 
 -- the kernel was run on a box: no closed box was lost; unless the round is over, the others that were asked still are, of one
 -- that isn't asked then nothing moved that it would heed, no tell of the kernel on the box before narrows the one
--- after, and if it isn't asked then and was open then it is quiet there; and it rests as long as it needs no visit
+-- after, and if it isn't asked then and was open then it is quiet there; and it rests as long as it needs no visit; the box after
+-- is what the kernel's tells make of the one before
 pub record HasVisited (kernels : List Kernel) (i : ℕ) (kernel : Kernel) (before : Bounds) (asked : Set) (rests : Rests) (p : Progress)
     (after : Bounds) (asked_after : Set) (rests_after : Rests) (p_after : Progress) : Type 0 where
   pub run : HasRun kernel before after
@@ -54,6 +56,7 @@ pub record HasVisited (kernels : List Kernel) (i : ℕ) (kernel : Kernel) (befor
   pub moves : p_after ≡ Moved → (p ≡ Moved) ⊎ (after ≢ before)
   pub proper : GoesOn p_after → IsProper before → IsProper after
   pub crossed : p_after ≡ Crossed → (p ≡ Crossed) ⊎ IsCrossed after
+  pub stepped : GoesOn p → Becomes (after_kernel kernel before) p_after after
 
 -- the kernel at a place was run so
 abbrev pub KernelRuns : List Kernel → ℕ → Bounds → Set → Rests → Progress → Bounds → Set → Rests → Progress → Type 0

@@ -2,6 +2,7 @@
 
 ghost use Rattle.moved_fixpoint.specs.Moved.{QuietUnlessMoved};
 ghost use Rattle.moved_fixpoint.specs.Resting.{KnownUnlessMoved};
+ghost use Rattle.moved_fixpoint.specs.Sweeps.{SweepsDecide};
 
 use guarded_tell::{law_local, law_tell_place};
 use interval::law_inside_order;
@@ -22,3 +23,8 @@ pub fn law_known_unless_moved()
 {
     law_inside_order();
 }
+
+/// What one lane's propagation ended with tells whether it would have spent a limit on its rounds: sweeps are a function.
+pub fn law_sweeps_decide()
+    ensures { SweepsDecide }
+{}

@@ -8,6 +8,8 @@ ghost use Rattle.moved_fixpoint.specs.Moved.{AreMasksOf, count_of};
 ghost use Rattle.moved_fixpoint.specs.Resting.{FitRests, KeepStacks};
 ghost use Rattle.moved_fixpoint.specs.Asked.{AreAtRest};
 ghost use Rattle.moved_fixpoint.specs.Round.{IsRound};
+ghost use Rattle.moved_fixpoint.specs.Heard.{Becomes};
+ghost use Rattle.moved_fixpoint.specs.Sweeps.{sweep_back, sweep_forth};
 
 use crate::joiner::Progress;
 use crate::running::run_kernel;
@@ -34,6 +36,7 @@ pub(crate) fn run_up(
     ensures rests { FitRests (length kernels.now) sets.new.rests }
     ensures stacks { KeepStacks sets.old.rests sets.new.rests }
     ensures round { IsRound kernels.now b.old.current b.new.current sets.new.asked sets.new.rests result }
+    ensures swept { Becomes (sweep_forth kernels.now b.old.current) result b.new.current }
 {
     law_inside_order();
     law_local();
@@ -67,6 +70,7 @@ pub(crate) fn run_down(
     ensures rests { FitRests (length kernels.now) sets.new.rests }
     ensures stacks { KeepStacks sets.old.rests sets.new.rests }
     ensures round { IsRound kernels.now b.old.current b.new.current sets.new.asked sets.new.rests result }
+    ensures swept { Becomes (sweep_back kernels.now b.old.current) result b.new.current }
 {
     law_inside_order();
     law_local();

@@ -10,6 +10,8 @@ ghost use Rattle.moved_fixpoint.specs.Moved.{AreMasksOf, AreMovedOrQuiet, Fit, I
 ghost use Rattle.moved_fixpoint.specs.Resting.{AreResting, FitRests, KeepStacks, Knows};
 ghost use Rattle.moved_fixpoint.specs.Asked.{AreAtRest};
 ghost use Rattle.moved_fixpoint.specs.Round.{IsRound};
+ghost use Rattle.moved_fixpoint.specs.Heard.{Becomes};
+ghost use Rattle.moved_fixpoint.specs.Sweeps.{sweep_by};
 ghost use Rattle.moved_fixpoint.specs.Ends.{HasEnded};
 
 use crate::drawing::draw;
@@ -40,6 +42,7 @@ fn run_round(
     ensures rests { FitRests (length kernels.now) sets.new.rests }
     ensures stacks { KeepStacks sets.old.rests sets.new.rests }
     ensures round { IsRound kernels.now b.old.current b.new.current sets.new.asked sets.new.rests result }
+    ensures swept { Becomes (sweep_by up kernels.now b.old.current) result b.new.current }
 {
     if up {
         run_up(kernels, masks, b, sets)

@@ -1,6 +1,6 @@
 -- How propagation that asks what moved ends, as a narrower says it.
-use Rattle.std.proofs.Common.{◌≡◌, ℕ, ◌↔◌, List, subst, ap}
-use Rattle.interval.specs.Boxes.{Bounds}
+use Rattle.std.proofs.Common.{◌≡◌, ◌≢◌, ◌≤◌, ℕ, ◌↔◌, List, subst, ap}
+use Rattle.interval.specs.Boxes.{Bounds, IsProper}
 use Rattle.guarded_tell.specs.declared.kernel.Kernel.{Kernel}
 use Rattle.fixpoint_laws.specs.Fixpoints.{IsClosed, IsGreatest, Fails}
 use Rattle.fixpoint_laws.specs.OneRound.{LeadsIn}
@@ -8,8 +8,9 @@ use Rattle.fixpoint_laws.specs.LimitedEnds.{IfFixedIn, IfFailedIn, IfSpent, roun
 use Rattle.fixpoint_laws.specs.declared.limited.Limited.{Limited}
 use Rattle.fixpoint_laws.specs.declared.limited.Limited.TheVariants.{Fixed, Failed, RoundsSpent}
 use Rattle.moved_fixpoint.specs.Ends.{HasEnded, AreSpent}
+use Rattle.moved_fixpoint.specs.Sweeps.{HasSwept, SweepsLead, SweepsDecide}
 use Rattle.narrowing.specs.declared.narrowed.Narrowed.{Narrowed}
-use Rattle.narrowing.specs.Narrowing.{AreFew, IsNarrowed}
+use Rattle.narrowing.specs.Narrowing.{AreFew, IsNarrowed, IsNarrowedAlone}
 
 module _ (kernels : List Kernel) (limit : ℕ) (start after : Bounds) (ending : Limited) (ended : HasEnded kernels limit start after ending) (rounds : ℕ) where
   few : rounds_run ending ≡ rounds → AreFew limit start rounds
@@ -41,3 +42,25 @@ module _ (kernels : List Kernel) (limit : ℕ) (start after : Bounds) (ending : 
         spent.at_limit,
         few (rounds_of (RoundsSpent rounds) e),
       )
+
+  -- ---- by sweeps
+  swept_of : (other : Limited) → ending ≡ other → HasSwept kernels start after other
+  swept_of other e = subst (HasSwept kernels start after) e ended.swept
+
+  within : rounds_run ending ≡ rounds → limit ≢ 0 → rounds ≤ limit
+  within e limited = let w = few e in w.within limited
+
+  pub sweeps_fixed : SweepsDecide → ending ≡ Fixed rounds → IsNarrowedAlone kernels limit start (Narrowed.Fixed rounds)
+  sweeps_fixed decide e spends = decide.fixed kernels limit rounds start after (within (rounds_of (Fixed rounds) e) spends.limited) (swept_of (Fixed rounds) e) spends
+
+  pub sweeps_failed : SweepsDecide → IsProper start → ending ≡ Failed rounds → IsNarrowedAlone kernels limit start (Narrowed.Failed rounds)
+  sweeps_failed decide proper e spends = decide.failed kernels limit rounds start after proper (within (rounds_of (Failed rounds) e) spends.limited) (swept_of (Failed rounds) e) spends
+
+  pub sweeps_given_up : ending ≡ RoundsSpent rounds → IsNarrowedAlone kernels limit start (Narrowed.GivenUp rounds)
+  sweeps_given_up e =
+      let spent : AreSpent kernels limit start after rounds = subst (λ (x : Limited). IfSpent x (AreSpent kernels limit start after)) e ended.spent in
+      record {
+        limited = spent.limited;
+        into = after;
+        lead = subst (λ (n : ℕ). SweepsLead kernels n start after) spent.at_limit (swept_of (RoundsSpent rounds) e);
+      }

@@ -19,9 +19,10 @@ pub record IsAloneFor (alone : Alone) (kernels : List Kernel) (count : ℕ) : Ty
   pub sets : Fit count (length kernels) alone.sets.moved alone.sets.asking.asked
   pub rests : FitRests (length kernels) alone.sets.asking.rests
 
--- lanes serve these kernels and boxes of so many variables
+-- several lanes serve these kernels and boxes of so many variables
 pub record AreLanesFor (lanes : Lanes) (kernels : List Kernel) (count : ℕ) : Type 0 where
   pub len : engine_len lanes.engine ≡ count
+  pub several : 1 < length lanes.cut.items
   pub cut : IsCut (length kernels) lanes.cut.items
   pub shares : length lanes.cut.items ≤ engine_shares lanes.engine
   pub into : length lanes.into ≡ count

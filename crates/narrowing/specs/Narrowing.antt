@@ -4,6 +4,7 @@ use Rattle.interval.specs.Boxes.{Bounds, IsInside, IsProper, IsCrossed, width_su
 use Rattle.guarded_tell.specs.declared.kernel.Kernel.{Kernel}
 use Rattle.fixpoint_laws.specs.Fixpoints.{IsClosed, IsGreatest, Fails}
 use Rattle.fixpoint_laws.specs.OneRound.{LeadsIn}
+use Rattle.moved_fixpoint.specs.Sweeps.{SpendsSweeps}
 use Rattle.narrowing.specs.declared.narrowed.Narrowed.{Narrowed}
 
 -- propagation of a box may be given up: as many rounds as the limit lead from it to a proper box that holds every closed box
@@ -30,3 +31,9 @@ IsNarrowed kernels round_limit before after (Narrowed.Fixed rounds) =
 IsNarrowed kernels round_limit before after (Narrowed.Failed rounds) = Fails before kernels × AreFew round_limit before rounds
 IsNarrowed kernels round_limit before after (Narrowed.GivenUp rounds) =
     MayGiveUp kernels round_limit before × (rounds ≡ round_limit) × AreFew round_limit before rounds
+
+-- with one lane it was given up exactly where as many sweeps as the limit each move the box
+abbrev pub IsNarrowedAlone : List Kernel → ℕ → Bounds → Narrowed → Type 0
+IsNarrowedAlone kernels round_limit before (Narrowed.Fixed rounds) = SpendsSweeps kernels round_limit before → ⊥
+IsNarrowedAlone kernels round_limit before (Narrowed.Failed rounds) = SpendsSweeps kernels round_limit before → ⊥
+IsNarrowedAlone kernels round_limit before (Narrowed.GivenUp rounds) = SpendsSweeps kernels round_limit before

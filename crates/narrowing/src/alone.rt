@@ -7,7 +7,7 @@ ghost use Rattle.guarded_tell.specs.declared.kernel.Kernel.{Kernel};
 ghost use Rattle.guarded_tell.specs.Kernels.{IsKernel};
 ghost use Rattle.fixpoint_laws.specs.Rounds.{HaveRun};
 ghost use Rattle.moved_fixpoint.specs.Moved.{AreMasksOf, count_of, IsEmpty, AreMovedOrQuiet};
-ghost use Rattle.narrowing.specs.Narrowing.{IsNarrowed};
+ghost use Rattle.narrowing.specs.Narrowing.{IsNarrowed, IsNarrowedAlone};
 ghost use Rattle.moved_fixpoint.specs.Resting.{AreAwake, KeepCounts, KeepStacks};
 ghost use Rattle.narrowing.specs.declared.narrower.Narrower.{Narrower};
 ghost use Rattle.narrowing.specs.Narrowers.{IsAloneFor, Knows, LetsRestWhereFixed};
@@ -18,7 +18,7 @@ use fixpoint_laws::Limited;
 use gate::Gate;
 use guarded_tell::Kernel;
 use interval::{BoxOf, NoMemory};
-use moved_fixpoint::{MovedSets, settle_proper};
+use moved_fixpoint::{MovedSets, law_sweeps_decide, settle_proper};
 use std::alloc::Global;
 use trailed_box::TrailedBox;
 
@@ -89,8 +89,10 @@ impl Alone {
         ensures stacks { KeepStacks self.old.sets.asking.rests self.new.sets.asking.rests }
         ensures rests { IfOk result (LetsRestWhereFixed (Narrower.Alone self.new) what.now.kernels.now b.new.current) }
         ensures narrowed { IfOk result (IsNarrowed what.now.kernels.now what.now.round_limit b.old.current b.new.current) }
+        ensures alone { IfOk result (IsNarrowedAlone what.now.kernels.now what.now.round_limit b.old.current) }
         ensures err { OnErr result (HaveRun what.now.kernels.now b.old.current b.new.current) }
     {
+        law_sweeps_decide();
         match settle_proper(
             b,
             what.kernels,

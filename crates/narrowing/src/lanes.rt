@@ -80,7 +80,7 @@ impl Lanes {
         lanes: u32,
     ) -> Result<Lanes, NoMemory>
         requires len { len ≤ box_limit }
-        requires some { 1 ≤ lanes }
+        requires several { 1 < lanes }
         requires short { lanes ≤ share_limit }
         ensures fits { IfOk result (λ made. AreLanesFor made kernels.now len) }
         ensures lanes { IfOk result (λ made. length made.cut.items ≡ lanes) }

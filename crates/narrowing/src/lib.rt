@@ -2,7 +2,7 @@
 //! engine over shared bounds. Both give the one greatest closed box.
 //!
 //! `Narrower::narrow` ends with that box, or that there is none, or as many rounds as the limit led to a box that holds every
-//! closed box inside; the boxes left for later stay. Whoever puts a bound notes its variable (`note`); of a new box that
+//! closed box inside, with one lane exactly where so many sweeps move it; the boxes left for later stay. Whoever puts a bound notes its variable (`note`); of a new box that
 //! one alone by which it was made (`note_alone`), or all (`note_all`). It builds on `moved_fixpoint` and
 //! `rounds`, and parts no box: `search` does.
 #![tactic(auto)]

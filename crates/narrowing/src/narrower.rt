@@ -10,7 +10,7 @@ ghost use Rattle.fixpoint_laws.specs.Rounds.{HaveRun};
 ghost use Rattle.moved_fixpoint.specs.Made.{IsMadeAt};
 ghost use Rattle.moved_fixpoint.specs.Moved.{AreMasksOf};
 ghost use Rattle.rounds.specs.Shares.{share_limit};
-ghost use Rattle.narrowing.specs.Narrowing.{IsNarrowed};
+ghost use Rattle.narrowing.specs.Narrowing.{IsNarrowed, IsNarrowedAlone};
 ghost use Rattle.narrowing.specs.Narrowers.{Fits, AreQuietUnlessNoted, NotesNone, NotesAlone, Knows, LetsRest, LetRest, LetsRestWhereFixed, len_of, lanes_of, lanes_for};
 
 use crate::alone::Alone;
@@ -174,6 +174,7 @@ impl Narrower {
         ensures rests { IfOk result (LetsRestWhereFixed self.new what.now.kernels.now b.new.current) }
         ensures let_rest { (kernels : List Kernel) (stack : List Left) → LetRest self.old kernels stack → LetRest self.new kernels stack }
         ensures narrowed { IfOk result (IsNarrowed what.now.kernels.now what.now.round_limit b.old.current b.new.current) }
+        ensures alone { lanes_of self.old ≡ 1 → IfOk result (IsNarrowedAlone what.now.kernels.now what.now.round_limit b.old.current) }
         ensures err { OnErr result (HaveRun what.now.kernels.now b.old.current b.new.current) }
     {
         match self {

@@ -1,5 +1,5 @@
 -- A box with one pair tightened.
-use Rattle.std.proofs.Common.{◌≡◌, ℕ, zero, suc, ℤ, pos, ◌<◌, ◌≤ℤ◌, [], ◌∷◌, length, refl, ap, arith}
+use Rattle.std.proofs.Common.{◌≡◌, ℕ, zero, suc, ℤ, pos, ◌<◌, ◌≤ℤ◌, [], ◌∷◌, length, refl, ap, ◌∙◌, arith}
 use Rattle.std.proofs.lemmas.Int.{ints}
 use Rattle.std.proofs.lemmas.List.{get_or-set_same}
 use Rattle.interval.specs.Boxes.{Bounds, low_of, high_of, put_of, IsInside}
@@ -32,8 +32,15 @@ cons_inside p q b c l h i = record {
     highs zero k = h
     highs (suc v) k = i.highs v (omega arith)
 
-itself : (b : Bounds) → IsInside b b
+pub itself : (b : Bounds) → IsInside b b
 itself b = record { same_length = refl; lows = λ v h. omega (arith, ints); highs = λ v h. omega (arith, ints) }
+
+pub inside_through : (inner middle outer : Bounds) → IsInside inner middle → IsInside middle outer → IsInside inner outer
+inside_through inner middle outer i k = record {
+  same_length = i.same_length ∙ k.same_length;
+  lows = λ v h. let l = k.lows v h in let m = i.lows v (let e = k.same_length in omega (arith, e, h)) in omega (arith, ints, l, m);
+  highs = λ v h. let l = k.highs v h in let m = i.highs v (let e = k.same_length in omega (arith, e, h)) in omega (arith, ints, l, m);
+}
 
 -- tightened at one pair, it lies inside
 pub put_inside : (b : Bounds) (v : ℕ) (low high : ℤ) → low_of b v ≤ℤ low → high ≤ℤ high_of b v → IsInside (put_of b v low high) b

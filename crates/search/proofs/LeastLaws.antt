@@ -329,23 +329,26 @@ module _ (order : InsideOrder) (branches : BranchLaws) (fixed : FixedIsPoint) (s
     -- ---- where the best cost comes from
 
     abbrev Origin : Option ℤ → List (List ℤ) → Type 0
-    Origin best found = (cost : ℤ) → best ≡ Some cost → Contains s.posted cost ⊎ Any (λ a. cost_of goal a ≡ Some cost) found
+    Origin best found = (cost : ℤ) → best ≡ Some cost → (s.known ≡ Some cost) ⊎ (Contains s.posted cost ⊎ Any (λ a. cost_of goal a ≡ Some cost) found)
 
     fall_origin : (best after : Option ℤ) (found : List (List ℤ)) → MayFall s.posted best after → Origin best found → Origin after found
     fall_origin best after found (inl e) o cost k = o cost (sym e ∙ k)
     fall_origin best after found (inr f) o cost k =
-        let same : f.0 ≡ cost = (let q : Some f.0 ≡ Some cost = sym f.1.1.1 ∙ k in cc) in inl (subst (Contains s.posted) same f.1.0)
+        let same : f.0 ≡ cost = (let q : Some f.0 ≡ Some cost = sym f.1.1.1 ∙ k in cc) in inr (inl (subst (Contains s.posted) same f.1.0))
 
     node_origin : (best : Option ℤ) (found recorded : List (List ℤ)) → Origin best found → Origin (best_after Kind.Least goal best recorded) (found ++ recorded)
-    node_origin best found [] o cost k = elim (o cost k) [ inl h ↦ inl h | inr h ↦ inr (any_left (λ a. cost_of goal a ≡ Some cost) found [] h) ]
+    node_origin best found [] o cost k = elim (o cost k) [
+      | inl h ↦ inl h
+      | inr h ↦ inr (elim h [ inl m ↦ inl m | inr m ↦ inr (any_left (λ a. cost_of goal a ≡ Some cost) found [] m) ])
+    ]
     node_origin best found (a ∷ others) o cost k =
-        inr (any_right (λ b. cost_of goal b ≡ Some cost) found (a ∷ others) (any_head (λ b. cost_of goal b ≡ Some cost) a others k))
+        inr (inr (any_right (λ b. cost_of goal b ≡ Some cost) found (a ∷ others) (any_head (λ b. cost_of goal b ≡ Some cost) a others k)))
 
     origin : (state : State) → Reached s state → Origin state.best state.found
-    origin state (begun _ _ _ f _ _) cost k = fall_origin None state.best state.found f (λ c e. absurd (let q : None ≡ Some c = e in cc)) cost k
+    origin state (begun _ _ _ f _ _) cost k = inl (sym f ∙ k)
     origin state (stepped _ before _ r on st) cost k =
         let falls : state.best ≡ best_after Kind.Least goal st.best st.recorded = st.falls ∙ ap (λ (k : Kind). best_after k goal st.best st.recorded) least in
-        subst (λ (xs : List (List ℤ)). Contains s.posted cost ⊎ Any (λ a. cost_of goal a ≡ Some cost) xs) (sym st.found)
+        subst (λ (xs : List (List ℤ)). (s.known ≡ Some cost) ⊎ (Contains s.posted cost ⊎ Any (λ a. cost_of goal a ≡ Some cost) xs)) (sym st.found)
         (node_origin st.best before.found st.recorded (fall_origin before.best st.best before.found st.takes.falls (origin before r)) cost (sym falls ∙ k))
 
     pub least_so_far : (state : State) → Reached s state → IsLeastSoFar s state

@@ -3,7 +3,7 @@ use Rattle.std.proofs.Common.{◌≡◌, ◌≢◌, ℕ, zero, suc, ℤ, ◌+◌
 use Rattle.std.specs.Prelude.{IfSome, MatchOption, option_to_list}
 use Rattle.std.specs.List.{All, Any, Contains, sum_by}
 use Rattle.std.proofs.lemmas.Int.{ints, by_lt_z}
-use Rattle.std.proofs.lemmas.List.{append_assoc, map-append, reverse-append}
+use Rattle.std.proofs.lemmas.List.{append_assoc, map-append, length-map, length-reverse, reverse-append}
 use Rattle.std.proofs.lemmas.List.Elements.{All-head, All-tail, Contains-get_or}
 use Rattle.interval.specs.Limits.{IsNumber, largest_number}
 use Rattle.interval.specs.Boxes.{Bounds, IsInRange, IsInside, InsideOrder}
@@ -20,13 +20,14 @@ use Rattle.decompose.specs.declared.program.Program.{Program}
 use Rattle.decompose.specs.Program.{IsProgramOf}
 use Rattle.branching.specs.Tree.{BranchLaws}
 use Rattle.solution_lists.specs.Solutions.{LiesIn, SolvesInside}
-use Rattle.best_bound.specs.Lists.{Among, with_seen, IsLeastCost}
+use Rattle.best_bound.specs.Lists.{Among, with_seen, IsLeastCost, IsCostBelow}
 use Rattle.search.specs.declared.kind.Kind.{Kind}
 use Rattle.search.specs.declared.ends.Why.{Why}
 use Rattle.search.specs.Costs.{IsBelow, IsAtMost, IsTermIn, IsObjectiveIn}
+use Rattle.moved_fixpoint.specs.Sweeps.{SpendsSweeps}
 use Rattle.narrowing.specs.Narrowing.{MayGiveUp}
 use Rattle.search.specs.Machine.{Search, State, Step, Node, is_dropped, is_solved, is_parted, MayFall, cut_by, best_after, Takes, GoesOn, Reached, begun, stepped}
-use Rattle.search.specs.Nodes.{IsNode}
+use Rattle.search.specs.Nodes.{IsNode, IsGivenUp}
 use Rattle.search.specs.Ends.{EndsDone, EndsOutOfNodes, EndsOutOfRounds, EndsSpent}
 use Rattle.search.specs.declared.closing.Closing.{Closing}
 use Rattle.search.specs.Closings.{IsClosing}
@@ -282,7 +283,7 @@ module _ (order : InsideOrder) (branches : BranchLaws) (s : Search) (least : s.k
         abbrev after_node : List Bounds → List (List ℤ) → State
         after_node after recorded = record { stack = after; best = best_after Kind.Least s.model.goal lowest recorded; count = count + 1; found = found ++ recorded }
 
-        abbrev step : (after : List Bounds) (recorded : List (List ℤ)) → IsNode s.model s.kernels s.round_limit looked_at rest after [] recorded → Step s state (after_node after recorded)
+        abbrev step : (after : List Bounds) (recorded : List (List ℤ)) → IsNode s.model s.kernels s.round_limit s.lanes looked_at rest after [] recorded → Step s state (after_node after recorded)
         step after recorded h =
             let same : recorded ≡ h.recorded = h.solutions in
             record {
@@ -294,22 +295,23 @@ module _ (order : InsideOrder) (branches : BranchLaws) (s : Search) (least : s.k
               takes = takes;
               node = subst (λ (k : Kind). Node s.model s.kernels s.round_limit (cut_by k s.model.goal lowest top) h.back recorded) (sym least)
                   (subst (λ (xs : List (List ℤ)). Node s.model s.kernels s.round_limit looked_at h.back xs) (sym same) h.node);
+              unspent = subst (λ (k : Kind). s.lanes ≡ 1 → SpendsSweeps s.kernels s.round_limit (cut_by k s.model.goal lowest top) → ⊥) (sym least) h.unspent;
               stack = h.stack;
               falls = ap (λ (k : Kind). best_after k s.model.goal lowest recorded) (sym least);
               count = refl;
               found = refl;
             }
 
-        pub node_reached : (after : List Bounds) (recorded : List (List ℤ)) → IsNode s.model s.kernels s.round_limit looked_at rest after [] recorded →
+        pub node_reached : (after : List Bounds) (recorded : List (List ℤ)) → IsNode s.model s.kernels s.round_limit s.lanes looked_at rest after [] recorded →
             Reached s (record { stack = after; best = best_after Kind.Least s.model.goal lowest recorded; count = count + 1; found = found ++ recorded })
         node_reached after recorded h = stepped s state (after_node after recorded) reached on (step after recorded h)
 
         -- what the node records costs less than the lowest cost
-        pub node_below : RecordsBelow → (after : List Bounds) (recorded : List (List ℤ)) → IsNode s.model s.kernels s.round_limit looked_at rest after [] recorded →
+        pub node_below : RecordsBelow → (after : List Bounds) (recorded : List (List ℤ)) → IsNode s.model s.kernels s.round_limit s.lanes looked_at rest after [] recorded →
             (a : List ℤ) (cost : ℤ) → Contains recorded a → cost_of s.model.goal a ≡ Some cost → IsBelow cost lowest
         node_below law after recorded h = law s state (after_node after recorded) least p reached (step after recorded h)
 
-        pub out_of_rounds : (told : ℕ) → IsCounted s.node_limit told (count + 1) → MayGiveUp s.kernels s.round_limit looked_at → EndsOutOfRounds s told found
+        pub out_of_rounds : (told : ℕ) → IsCounted s.node_limit told (count + 1) → IsGivenUp s.kernels s.round_limit s.lanes looked_at → EndsOutOfRounds s told found
         out_of_rounds told h up = record {
           state = record { stack = stack; best = lowest; count = count + 1; found = found };
           out = record {
@@ -319,7 +321,8 @@ module _ (order : InsideOrder) (branches : BranchLaws) (s : Search) (least : s.k
             rest = rest;
             top = top;
             takes = takes;
-            given_up = subst (λ (k : Kind). MayGiveUp s.kernels s.round_limit (cut_by k s.model.goal lowest top)) (sym least) up;
+            given_up = subst (λ (k : Kind). MayGiveUp s.kernels s.round_limit (cut_by k s.model.goal lowest top)) (sym least) up.given_up;
+            spent = λ one. subst (λ (k : Kind). SpendsSweeps s.kernels s.round_limit (cut_by k s.model.goal lowest top)) (sym least) (up.spent one);
             stack = refl;
             count = refl;
             found = refl;
@@ -328,13 +331,13 @@ module _ (order : InsideOrder) (branches : BranchLaws) (s : Search) (least : s.k
           is_found = refl;
         }
 
-        pub node_less : (after : List Bounds) (recorded : List (List ℤ)) → IsNode s.model s.kernels s.round_limit looked_at rest after [] recorded → sum_by weight after < sum_by weight stack
+        pub node_less : (after : List Bounds) (recorded : List (List ℤ)) → IsNode s.model s.kernels s.round_limit s.lanes looked_at rest after [] recorded → sum_by weight after < sum_by weight stack
         node_less after recorded h =
             step_less order branches s p.phases (long_sub s p) p.in_range stack after rest h.back top looked_at h.recorded taken h.stack lies_here
             (cut_inside order branches s p.phases (long_sub s p) p.in_range Kind.Least lowest top) h.node
 
         -- what is recorded can be posted
-        pub recorded_solve : RecordsSolutions → (after : List Bounds) (recorded : List (List ℤ)) → IsNode s.model s.kernels s.round_limit looked_at rest after [] recorded → All (SolvesInside s.model s.sub) recorded
+        pub recorded_solve : RecordsSolutions → (after : List Bounds) (recorded : List (List ℤ)) → IsNode s.model s.kernels s.round_limit s.lanes looked_at rest after [] recorded → All (SolvesInside s.model s.sub) recorded
         recorded_solve law after recorded h = last_all (SolvesInside s.model s.sub) found recorded (law s (record { stack = after; best = best_after Kind.Least s.model.goal lowest recorded; count = count + 1; found = found ++ recorded }) p (node_reached after recorded h))
           where
             last_all : (P : List ℤ → Type 0) (xs ys : List (List ℤ)) → All P (xs ++ ys) → All P ys
@@ -342,8 +345,8 @@ module _ (order : InsideOrder) (branches : BranchLaws) (s : Search) (least : s.k
             last_all P (x ∷ xs) ys q = last_all P xs ys (All-tail P x (xs ++ ys) q)
 
 -- at most one solution is recorded by a node
-pub at_most_one : (model : FznModel) (kernels : List Kernel) (round_limit : ℕ) (b : Bounds) (before after : List Bounds) (recorded : List (List ℤ)) → IsNode model kernels round_limit b before after [] recorded → length recorded ≤ 1
-at_most_one model kernels round_limit b before after recorded h = subst (λ (xs : List (List ℤ)). length xs ≤ 1) (sym same) (one h.back h.recorded h.node)
+pub at_most_one : (model : FznModel) (kernels : List Kernel) (round_limit lanes : ℕ) (b : Bounds) (before after : List Bounds) (recorded : List (List ℤ)) → IsNode model kernels round_limit lanes b before after [] recorded → length recorded ≤ 1
+at_most_one model kernels round_limit lanes b before after recorded h = subst (λ (xs : List (List ℤ)). length xs ≤ 1) (sym same) (one h.back h.recorded h.node)
   where
     same : recorded ≡ h.recorded
     same = h.solutions
@@ -352,6 +355,94 @@ at_most_one model kernels round_limit b before after recorded h = subst (λ (xs 
     one back xs (is_dropped _ _ _ _ _ _ _ _ nothing) = subst (λ (ys : List (List ℤ)). length ys ≤ 1) (sym nothing) (omega arith)
     one back xs (is_solved _ _ _ _ _ _ g _ _ _ _ alone) = subst (λ (ys : List (List ℤ)). length ys ≤ 1) (sym alone) (omega arith)
     one back xs (is_parted _ _ _ _ _ _ _ _ _ _ _ _ _ nothing) = subst (λ (ys : List (List ℤ)). length ys ≤ 1) (sym nothing) (omega arith)
+
+-- ---- the search of a seat with all parts
+
+-- a look of a seat that sees nothing of others answers the least cost that was posted
+pub least_posted : (seen posted : List ℤ) (o : Option ℤ) → IsLeastCost seen o → IsCostBelow posted o → ((c : ℤ) → Among seen c → Among posted c) → IsLeastCost posted o
+least_posted seen posted None least below all = below
+least_posted seen posted (Some c) least below all = (all c least.0, below)
+
+-- a list has one least cost
+one_least : (costs : List ℤ) (a b : Option ℤ) → IsLeastCost costs a → IsLeastCost costs b → a ≡ b
+one_least costs None None h k = refl
+one_least costs None (Some d) h k = absurd (subst (λ (xs : List ℤ). Among xs d) h k.0)
+one_least costs (Some c) None h k = absurd (subst (λ (xs : List ℤ). Among xs c) k h.0)
+one_least costs (Some c) (Some d) h k = let l = h.1 d k.0 in let m = k.1 c h.0 in ap (λ (z : ℤ). Some z) (omega (arith, ints, l, m))
+
+none_posted : (costs : List ℤ) → [] ≡ map some (reverse costs) → costs ≡ []
+none_posted [] e = refl
+none_posted (c ∷ costs) e = absurd (omega (arith, ap length e, length-map {B = Option ℤ} (reverse (c ∷ costs)) some, length-reverse (c ∷ costs)))
+
+one_cost : (o : Option ℤ) (costs : List ℤ) → o ∷ [] ≡ map some (reverse costs) → (c : ℤ) × ((costs ≡ c ∷ []) × (o ≡ Some c))
+one_cost o [] e = absurd (omega (arith, ap length e))
+one_cost o (c ∷ []) e = (c, (refl, let f : o ∷ [] ≡ Some c ∷ [] = e in cc))
+one_cost o (c ∷ d ∷ costs) e =
+    absurd (omega (arith, ap length e, length-map {B = Option ℤ} (reverse (c ∷ d ∷ costs)) some, length-reverse (c ∷ d ∷ costs)))
+
+-- what costs less than the least of a list is the least once it is there
+lower_least : (costs : List ℤ) (o : Option ℤ) (c : ℤ) → IsLeastCost costs o → IsBelow c o → IsLeastCost (c ∷ costs) (Some c)
+lower_least costs o c h l = (inl refl, under o h l)
+  where
+    under : (o : Option ℤ) → IsLeastCost costs o → IsBelow c o → (d : ℤ) → Among (c ∷ costs) d → c ≤ℤ d
+    under o h l d (inl e) = omega (arith, ints, e)
+    under None h l d (inr k) = absurd (subst (λ (xs : List ℤ). Among xs d) h k)
+    under (Some b) h l d (inr k) = let m = h.1 d k in omega (arith, ints, l, m)
+
+-- the best cost after a node is the least that is posted then
+pub least_after : (goal : Goal) (before after : List ℤ) (lowest : Option ℤ) (recorded : List (List ℤ)) → IsLeastCost before lowest → PostsCosts goal recorded before after →
+    length recorded ≤ 1 → ((a : List ℤ) (cost : ℤ) → Contains recorded a → cost_of goal a ≡ Some cost → IsBelow cost lowest) →
+    IsLeastCost after (best_after Kind.Least goal lowest recorded)
+least_after goal before after lowest [] least p one under =
+    subst (λ (xs : List ℤ). IsLeastCost xs lowest) (sym (p.posted ∙ ap (λ (xs : List ℤ). xs ++ before) (none_posted p.costs p.each))) least
+least_after goal before after lowest (a ∷ b ∷ others) least p one under = absurd (omega (arith, one))
+least_after goal before after lowest (a ∷ []) least p one under =
+    let q = one_cost (cost_of goal a) p.costs p.each in
+    subst (λ (xs : List ℤ). IsLeastCost xs (cost_of goal a)) (sym (p.posted ∙ ap (λ (xs : List ℤ). xs ++ before) q.1.0))
+    (subst (IsLeastCost (q.0 ∷ before)) (sym q.1.1) (lower_least before lowest q.0 least (under a q.0 (0, omega arith, refl) q.1.1)))
+
+-- the least cost that was posted is the best of a state that is reached
+pub record IsReachedAlone (s : Search) (posted : List ℤ) (stack : List Bounds) (count : ℕ) (found : List (List ℤ)) : Type 0 where
+  pub best : Option ℤ
+  pub least : IsLeastCost posted best
+  pub reached : Reached s (record { stack = stack; best = best; count = count; found = found })
+
+-- a look posts nothing
+pub looked_alone : (s : Search) (posted more : List ℤ) (stack : List Bounds) (count : ℕ) (found : List (List ℤ)) → more ≡ posted →
+    IsReachedAlone s posted stack count found → IsReachedAlone s more stack count found
+looked_alone s posted more stack count found e h = record {
+  best = h.best;
+  least = subst (λ (xs : List ℤ). IsLeastCost xs h.best) (sym e) h.least;
+  reached = h.reached;
+}
+
+module _ (order : InsideOrder) (branches : BranchLaws) (s : Search) (least : s.kind ≡ Kind.Least) (p : IsInsideStart s) (wf : IsWellFormed s.model)
+    (posted : List ℤ) (stack : List Bounds) (count : ℕ) (found : List (List ℤ)) (h : IsReachedAlone s posted stack count found) where
+  pub done_alone : stack ≡ [] → EndsDone s found
+  done_alone e = done_least order branches s least p wf stack h.best count found h.reached e
+
+  module _ (rest : List Bounds) (top : Bounds) (taken : stack ≡ rest ++ top ∷ []) (nodes : ℕ) (fits : s.node_limit ≤ 18446744073709551615)
+      (counted : IsCounted s.node_limit nodes count) where
+    pub out_of_nodes_alone : (s.node_limit ≢ 0) × (nodes ≡ s.node_limit) → EndsOutOfNodes s nodes found
+    out_of_nodes_alone full = out_of_nodes order branches s least p wf stack h.best count found h.reached rest top taken nodes fits counted full
+
+    module _ (below : (s.node_limit ≡ 0) ⊎ (nodes ≢ s.node_limit)) (lowest : Option ℤ) (is : IsLeastCost posted lowest) where
+      abbrev falls : MayFall s.posted h.best lowest
+      falls = inl (one_least posted lowest h.best is h.least)
+
+      pub out_of_rounds_alone : (told : ℕ) → IsCounted s.node_limit told (count + 1) → IsGivenUp s.kernels s.round_limit s.lanes (cut_by Kind.Least s.model.goal lowest top) → EndsOutOfRounds s told found
+      out_of_rounds_alone told k up = out_of_rounds order branches s least p wf stack h.best count found h.reached rest top taken nodes fits counted below lowest falls told k up
+
+      pub node_alone : RecordsBelow → (after : List Bounds) (recorded : List (List ℤ)) (more : List ℤ) →
+          IsNode s.model s.kernels s.round_limit s.lanes (cut_by Kind.Least s.model.goal lowest top) rest after [] recorded → PostsCosts s.model.goal recorded posted more →
+          IsReachedAlone s more after (count + 1) (found ++ recorded)
+      node_alone law after recorded more k posts = record {
+        best = best_after Kind.Least s.model.goal lowest recorded;
+        least = least_after s.model.goal posted more lowest recorded is posts
+            (at_most_one s.model s.kernels s.round_limit s.lanes (cut_by Kind.Least s.model.goal lowest top) rest after recorded k)
+            (node_below order branches s least p wf stack h.best count found h.reached rest top taken nodes fits counted below lowest falls law after recorded k);
+        reached = node_reached order branches s least p wf stack h.best count found h.reached rest top taken nodes fits counted below lowest falls after recorded k;
+      }
 
 -- what is recorded can be posted: its objective is a term of it, and its cost is a number and that of a solution
 pub can_post : (model : FznModel) → IsWellFormed model → model.goal ≢ Goal.Satisfy → (sub : Bounds) (a : List ℤ) → SolvesInside model sub a → IsObjectiveIn (length a) model.goal
@@ -366,18 +457,18 @@ kept_by seen more o e x h = subst (λ (xs : List ℤ). Among xs x) (sym e) (seen
 
 -- ---- what the loop's function is given
 
-module _ (model : FznModel) (program : Program) (node_limit round_limit : ℕ) (sub : Bounds) (means : IsProgramOf model program) (wf : IsWellFormed model)
+module _ (model : FznModel) (program : Program) (node_limit round_limit lanes : ℕ) (sub : Bounds) (means : IsProgramOf model program) (wf : IsWellFormed model)
     (inside : IsInside sub program.start) (range : IsInRange sub) where
-  abbrev pub with_seen_costs : List ℤ → Search
-  with_seen_costs seen = least_of model program node_limit round_limit seen sub
+  abbrev pub with_costs : Option ℤ → List ℤ → Search
+  with_costs known seen = least_of model program node_limit round_limit lanes known seen sub
 
-  abbrev pub premises : (seen : List ℤ) → IsInsideStart (with_seen_costs seen)
-  premises seen = record { program = program; means = means; kernels = refl; inside = inside; in_range = range; phases = wf.search; objective = wf.objective }
+  abbrev pub premises : (known : Option ℤ) (seen : List ℤ) → IsInsideStart (with_costs known seen)
+  premises known seen = record { program = program; means = means; kernels = refl; inside = inside; in_range = range; phases = wf.search; objective = wf.objective }
 
   -- once the seat has looked, its search has reached the same state
-  pub reached_after_look : MorePosted → (seen more : List ℤ) (o : Option ℤ) (state : State) → more ≡ with_seen o seen → Reached (with_seen_costs seen) state → Reached (with_seen_costs more) state
+  pub reached_after_look : MorePosted → (seen more : List ℤ) (o : Option ℤ) (state : State) → more ≡ with_seen o seen → Reached (with_costs None seen) state → Reached (with_costs None more) state
   reached_after_look law seen more o state e r =
-      law (with_seen_costs seen) more state (λ x h. contains_of more x (kept_by seen more o e x (among_of seen x h))) r
+      law (with_costs None seen) more state (λ x h. contains_of more x (kept_by seen more o e x (among_of seen x h))) r
 
 -- the least cost that was seen is a number
 pub lowest_number : (model : FznModel) → IsWellFormed model → (seen : List ℤ) (o : Option ℤ) → ((x : ℤ) → Among seen x → IsCost model x) → IsLeastCost seen o → IfSome o IsNumber
@@ -403,8 +494,8 @@ on_any_err (Err e) p = p
 -- nothing was taken from the stack
 pub broken_at_start : (s : Search) (posted : List ℤ) → IsBrokenOff s posted posted
 broken_at_start s posted = record {
-  state = record { stack = s.sub ∷ []; best = None; count = 0; found = [] };
-  reached = begun s (record { stack = s.sub ∷ []; best = None; count = 0; found = [] }) refl (inl refl) refl refl;
+  state = record { stack = s.sub ∷ []; best = s.known; count = 0; found = [] };
+  reached = begun s (record { stack = s.sub ∷ []; best = s.known; count = 0; found = [] }) refl refl refl refl;
   posts = posts_none s.model.goal posted;
 }
 

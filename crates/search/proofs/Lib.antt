@@ -2,6 +2,7 @@ pub mod BoxLaws
 pub mod CutLaws
 pub mod PremiseLaws
 pub mod EndLaws
+pub mod LaneLaws
 pub mod NodeLaws
 pub mod ValueLaws
 pub mod StackLaws
@@ -13,3 +14,4 @@ pub mod PostedLaws
 pub mod CostLaws
 pub mod LeastRunLaws
 pub mod SearcherLaws
+pub mod SweepLaws

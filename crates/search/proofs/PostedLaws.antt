@@ -1,5 +1,5 @@
 -- Where more costs are posted a search reaches what it reached.
-use Rattle.std.proofs.Common.{ℤ, List, inl, inr, Option, None}
+use Rattle.std.proofs.Common.{ℤ, List, inl, inr, Option}
 use Rattle.std.specs.List.{Contains}
 use Rattle.interval.specs.Boxes.{Bounds}
 use Rattle.search.specs.Machine.{Search, State, MayFall, Takes, Reached, begun, stepped}
@@ -17,7 +17,7 @@ module _ (s : Search) (more : List ℤ) (all : (cost : ℤ) → Contains s.poste
   takes_more state best rest top t = record { falls = falls_more state.best best t.falls; taken = t.taken }
 
   pub reached_more : (state : State) → Reached s state → Reached wider state
-  reached_more state (begun _ _ e f n k) = begun wider state e (falls_more None state.best f) n k
+  reached_more state (begun _ _ e f n k) = begun wider state e f n k
   reached_more state (stepped _ before _ r on st) =
       stepped wider before state (reached_more before r) (record { below = on.below; sought = on.sought })
       (record {
@@ -28,6 +28,7 @@ module _ (s : Search) (more : List ℤ) (all : (cost : ℤ) → Contains s.poste
         recorded = st.recorded;
         takes = takes_more before st.best st.rest st.top st.takes;
         node = st.node;
+        unspent = st.unspent;
         stack = st.stack;
         falls = st.falls;
         count = st.count;

@@ -9,10 +9,11 @@ use Rattle.constraint_model.specs.declared.model.FznModel.{FznModel}
 use Rattle.constraint_model.specs.Searches.{IsSearchOf}
 use Rattle.branching.specs.Tree.{BranchLaws}
 use Rattle.search.specs.declared.kind.Kind.{Kind}
+use Rattle.moved_fixpoint.specs.Sweeps.{SpendsSweeps}
 use Rattle.narrowing.specs.Narrowing.{MayGiveUp}
 use Rattle.search.specs.Machine.{Search, State, Node, best_after, Takes, GoesOn, Reached, stepped}
 use Rattle.search.specs.declared.node.Visit.{Visit}
-use Rattle.search.specs.Nodes.{IsNode, IsVisit}
+use Rattle.search.specs.Nodes.{IsNode, IsGivenUp, IsVisit}
 use Rattle.search.specs.Ends.{EndsDone, EndsOutOfNodes, EndsOutOfRounds, told_count}
 use Rattle.search.proofs.StackLaws.{some_left, weight, Lies, top_lies, step_less}
 use Rattle.search.proofs.RunLaws.{no_cut}
@@ -83,7 +84,7 @@ module _ (s : Search) (other : s.kind ≢ Kind.Least) (stack : List Bounds) (cou
       abbrev on : GoesOn s state
       on = record { below = below_limit s.node_limit nodes count fits counted below; sought = sought }
 
-      pub node_reached : (after : List Bounds) (more : List (List ℤ)) → IsNode s.model s.kernels s.round_limit top rest after found more →
+      pub node_reached : (after : List Bounds) (more : List (List ℤ)) → IsNode s.model s.kernels s.round_limit s.lanes top rest after found more →
           Reached s (record { stack = after; best = None; count = count + 1; found = more })
       node_reached after more h =
           stepped s state (record { stack = after; best = None; count = count + 1; found = more }) reached on
@@ -95,13 +96,14 @@ module _ (s : Search) (other : s.kind ≢ Kind.Least) (stack : List Bounds) (cou
             recorded = h.recorded;
             takes = takes;
             node = subst (λ (b : Bounds). Node s.model s.kernels s.round_limit b h.back h.recorded) (sym (no_cut s.kind s.model.goal None top other)) h.node;
+            unspent = subst (λ (b : Bounds). s.lanes ≡ 1 → SpendsSweeps s.kernels s.round_limit b → ⊥) (sym (no_cut s.kind s.model.goal None top other)) h.unspent;
             stack = h.stack;
             falls = sym (other_best s.kind s.model.goal None h.recorded other);
             count = refl;
             found = h.solutions;
           })
 
-      pub out_of_rounds : (told : ℕ) (more : List (List ℤ)) → IsCounted s.node_limit told (count + 1) → MayGiveUp s.kernels s.round_limit top → more ≡ found → EndsOutOfRounds s told more
+      pub out_of_rounds : (told : ℕ) (more : List (List ℤ)) → IsCounted s.node_limit told (count + 1) → IsGivenUp s.kernels s.round_limit s.lanes top → more ≡ found → EndsOutOfRounds s told more
       out_of_rounds told more h up e = record {
         state = record { stack = stack; best = None; count = count + 1; found = found };
         out = record {
@@ -111,7 +113,8 @@ module _ (s : Search) (other : s.kind ≢ Kind.Least) (stack : List Bounds) (cou
           rest = rest;
           top = top;
           takes = takes;
-          given_up = subst (MayGiveUp s.kernels s.round_limit) (sym (no_cut s.kind s.model.goal None top other)) up;
+          given_up = subst (MayGiveUp s.kernels s.round_limit) (sym (no_cut s.kind s.model.goal None top other)) up.given_up;
+          spent = λ one. subst (SpendsSweeps s.kernels s.round_limit) (sym (no_cut s.kind s.model.goal None top other)) (up.spent one);
           stack = refl;
           count = refl;
           found = refl;
@@ -128,7 +131,7 @@ module _ (s : Search) (other : s.kind ≢ Kind.Least) (stack : List Bounds) (cou
     pub top_length : length top ≡ length s.sub
     top_length = lies_here.inside.same_length
 
-    pub node_less : (after : List Bounds) (more : List (List ℤ)) → IsNode s.model s.kernels s.round_limit top rest after found more → sum_by weight after < sum_by weight stack
+    pub node_less : (after : List Bounds) (more : List (List ℤ)) → IsNode s.model s.kernels s.round_limit s.lanes top rest after found more → sum_by weight after < sum_by weight stack
     node_less after more h = step_less order branches s rule long range stack after rest h.back top top h.recorded taken h.stack lies_here (order.itself top) h.node
 
     pub top_runs : All (IsKernel (length s.sub)) s.kernels → All (IsKernel (length top)) s.kernels
@@ -136,12 +139,12 @@ module _ (s : Search) (other : s.kind ≢ Kind.Least) (stack : List Bounds) (cou
 
 -- ---- how a box was visited
 
-module _ (model : FznModel) (kernels : List Kernel) (round_limit : ℕ) (b : Bounds) (before after : List Bounds) (found more : List (List ℤ)) (visit : Visit) where
-  pub of_done : visit ≡ Visit.Done → IsVisit model kernels round_limit b before after found more visit → IsNode model kernels round_limit b before after found more
-  of_done e h = subst (IsVisit model kernels round_limit b before after found more) e h
+module _ (model : FznModel) (kernels : List Kernel) (round_limit lanes : ℕ) (b : Bounds) (before after : List Bounds) (found more : List (List ℤ)) (visit : Visit) where
+  pub of_done : visit ≡ Visit.Done → IsVisit model kernels round_limit lanes b before after found more visit → IsNode model kernels round_limit lanes b before after found more
+  of_done e h = subst (IsVisit model kernels round_limit lanes b before after found more) e h
 
-  pub of_given_up : visit ≡ Visit.GivenUp → IsVisit model kernels round_limit b before after found more visit → MayGiveUp kernels round_limit b × (more ≡ found)
-  of_given_up e h = subst (IsVisit model kernels round_limit b before after found more) e h
+  pub of_given_up : visit ≡ Visit.GivenUp → IsVisit model kernels round_limit lanes b before after found more visit → IsGivenUp kernels round_limit lanes b × (more ≡ found)
+  of_given_up e h = subst (IsVisit model kernels round_limit lanes b before after found more) e h
 
 -- a box of the same length is as long
 pub longer : {m n k : ℕ} → m < n → k ≡ n → m < k

@@ -19,7 +19,7 @@ use Rattle.search.proofs.CutLaws.{at_most_inside}
 use Rattle.fixpoint_laws.specs.Changes.{TightensOne}
 use Rattle.moved_fixpoint.specs.Made.{IsMadeBy}
 use Rattle.narrowing.specs.declared.narrower.Narrower.{Narrower}
-use Rattle.narrowing.specs.Narrowers.{Fits, len_of}
+use Rattle.narrowing.specs.Narrowers.{Fits, len_of, lanes_for}
 use Rattle.search.specs.declared.run.Run.{Run}
 use Rattle.search.specs.declared.searcher.Searcher.{Searcher}
 use Rattle.search.specs.Stacks.{own_on, below_on, below_of, count_of, IsLeft, TellsCrossed, AreFronts, AreSound, IsFrontNear, AreLeft, CanRestart}
@@ -167,7 +167,7 @@ cut_lies order goal (Some best) b = at_most_inside order goal (best -ℤ pos 1) 
 -- ---- crossed boxes
 
 -- what lies inside a crossed box is crossed
-crossed_inside : (inner outer : Bounds) → IsInside inner outer → IsCrossed outer → IsCrossed inner
+pub crossed_inside : (inner outer : Bounds) → IsInside inner outer → IsCrossed outer → IsCrossed inner
 crossed_inside inner outer i (v, h, lt) =
     let low = i.lows v h in
     let high = i.highs v h in
@@ -226,18 +226,25 @@ pair_within n kernels b (Some pair) fits made =
     omega arith
 
 -- the boxes are given back as they were given, with more left above
-pub given_back : (start boxes : Trailed) (kernels : List Kernel) (first last : Searcher) → first.boxes.current ≡ start.current → below_of first ≡ start.stack →
-    CanRestart kernels (count_of first) last → below_of last ≡ below_of first → boxes ≡ last.boxes → IsOver (below_of last) boxes.stack →
+pub given_back : (start boxes : Trailed) (kernels : List Kernel) (lanes : ℕ) (first last : Searcher) → first.boxes.current ≡ start.current → below_of first ≡ start.stack →
+    CanRestart kernels lanes (count_of first) last → below_of last ≡ below_of first → boxes ≡ last.boxes → IsOver (below_of last) boxes.stack →
     IsOver start.stack boxes.stack × (length boxes.current ≡ length start.current)
-given_back start boxes kernels first last current below again bottom same over =
+given_back start boxes kernels lanes first last current below again bottom same over =
     (subst (λ (ls : List Left). IsOver ls boxes.stack) (bottom ∙ below) over, ap (λ (t : Trailed). length t.current) same ∙ again.same_count ∙ ap length current)
 
 -- what it leaves serves boxes of as many variables
-pub serves_start : (start : Bounds) (kernels : List Kernel) (first last : Searcher) → first.boxes.current ≡ start → CanRestart kernels (count_of first) last → CanRestart kernels (length start) last
-serves_start start kernels first last current again = subst (λ (b : Bounds). CanRestart kernels (length b) last) current again
+pub serves_start : (start : Bounds) (kernels : List Kernel) (lanes : ℕ) (first last : Searcher) → first.boxes.current ≡ start →
+    CanRestart kernels lanes (count_of first) last → CanRestart kernels lanes (length start) last
+serves_start start kernels lanes first last current again = subst (λ (b : Bounds). CanRestart kernels lanes (length b) last) current again
 
-pub from_left : {L : Type 0} (run : Run L) (s : Searcher) (count : ℕ) → AreLeft run s → count_of s ≡ count → CanRestart run.program.now.kernels count s
+pub from_left : {L : Type 0} (run : Run L) (s : Searcher) (count : ℕ) → AreLeft run s → count_of s ≡ count → CanRestart run.program.now.kernels run.lanes count s
 from_left run s count left same = record {
   same_count = same;
   fits = subst (λ (n : ℕ). Fits s.narrower run.program.now.kernels n) same left.fits;
+  same_lanes = left.lanes;
 }
+
+-- where one lane is asked for there is one
+pub one_lane : (kernels : List Kernel) → lanes_for kernels 1 ≡ 1
+one_lane [] = refl
+one_lane (k ∷ kernels) = refl

@@ -12,14 +12,23 @@ use Rattle.search.specs.declared.ends.FirstEnd.{FirstEnd}
 use Rattle.search.specs.declared.ends.AllEnd.{AllEnd}
 use Rattle.search.specs.Machine.{Search, State, Reached, IsDone, IsOutOfNodes, IsOutOfRounds}
 
--- the search of a box for the first solution or for all, with no cost posted
-abbrev pub search_of : FznModel → Program → ℕ → ℕ → Kind → Bounds → Search
-search_of model program node_limit round_limit kind sub =
-    record { model = model; kernels = program.kernels; sub = sub; kind = kind; node_limit = node_limit; round_limit = round_limit; posted = [] }
+-- the search of a box for the first solution or for all, by so many lanes; no cost is known or posted
+abbrev pub search_of : FznModel → Program → ℕ → ℕ → ℕ → Kind → Bounds → Search
+search_of model program node_limit round_limit lanes kind sub = record {
+  model = model;
+  kernels = program.kernels;
+  sub = sub;
+  kind = kind;
+  node_limit = node_limit;
+  round_limit = round_limit;
+  lanes = lanes;
+  known = None;
+  posted = [];
+}
 
 -- the search by a run
 abbrev pub search_in : {L : Type 0} → Run L → Kind → Bounds → Search
-search_in run kind sub = search_of run.model.now run.program.now run.node_limit run.round_limit kind sub
+search_in run kind sub = search_of run.model.now run.program.now run.node_limit run.round_limit run.lanes kind sub
 
 -- the search reaches its end, with these solutions
 pub record EndsDone (s : Search) (found : List (List ℤ)) : Type 0 where

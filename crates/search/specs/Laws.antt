@@ -1,5 +1,5 @@
 -- The laws of searches.
-use Rattle.std.specs.Prelude.{◌≡◌, ◌≢◌, ◌⊎◌, ◌+◌, ◌*◌, ◌≤◌, ◌<◌, ℤ, ◌<ℤ◌, List, [], ◌∷◌, ◌++◌, length, All, AllPairs, Any, Some, Contains}
+use Rattle.std.specs.Prelude.{◌≡◌, ◌≢◌, ◌⊎◌, ℕ, ◌+◌, ◌*◌, ◌≤◌, ◌<◌, ℤ, ◌<ℤ◌, List, [], ◌∷◌, ◌++◌, length, All, AllPairs, Any, Some, Contains}
 use Rattle.interval.specs.Boxes.{Bounds, IsInRange, IsInside, width_sum_of}
 use Rattle.guarded_tell.specs.declared.kernel.Kernel.{Kernel}
 use Rattle.guarded_tell.specs.Kernels.{IsKernel}
@@ -15,6 +15,8 @@ use Rattle.branching.specs.Tree.{SolutionsIn}
 use Rattle.solution_lists.specs.Solutions.{LiesIn, SolvesInside}
 use Rattle.search.specs.declared.kind.Kind.{Kind}
 use Rattle.search.specs.Costs.{IsBelow, IsAtMost}
+use Rattle.search.specs.declared.ends.Why.{Why}
+use Rattle.search.specs.Ends.{EndsDone, EndsSpent}
 use Rattle.search.specs.Machine.{Search, State, cut_by, Step, Reached, IsDone, IsOutOfNodes, IsOutOfRounds}
 
 -- a search of a box inside the start of a model's program
@@ -52,14 +54,14 @@ pub record PrefixLaws : Type 0 where
 -- ---- searches for the least cost
 
 -- each solution in the box costs at least the best so far, or lies in a box of the stack; what was recorded costs at least
--- the best; and the best was posted or recorded
+-- the best; and the best was known, posted or recorded
 pub record IsLeastSoFar (s : Search) (state : State) : Type 0 where
   pub covers : (a : List ℤ) (cost : ℤ) → SolvesInside s.model s.sub a → cost_of s.model.goal a ≡ Some cost →
       IsAtMost state.best cost ⊎ Any (LiesIn s.model a) state.stack
   pub recorded : (a : List ℤ) (cost : ℤ) → Contains state.found a → cost_of s.model.goal a ≡ Some cost →
       IsAtMost state.best cost
   pub origin : (cost : ℤ) → state.best ≡ Some cost →
-      Contains s.posted cost ⊎ Any (λ a. cost_of s.model.goal a ≡ Some cost) state.found
+      (s.known ≡ Some cost) ⊎ (Contains s.posted cost ⊎ Any (λ a. cost_of s.model.goal a ≡ Some cost) state.found)
 
 abbrev pub FindsLeast : Type 0
 FindsLeast = (s : Search) (state : State) → s.kind ≡ Kind.Least → IsInsideStart s → Reached s state → IsLeastSoFar s state
@@ -79,13 +81,30 @@ abbrev pub MorePosted : Type 0
 MorePosted = (s : Search) (more : List ℤ) (state : State) → ((cost : ℤ) → Contains s.posted cost → Contains more cost) →
     Reached s state → Reached (record s { posted = more }) state
 
+-- where there is no limit on rounds it doesn't matter how many lanes propagate: by others a search reaches what it reached,
+-- and ends as it ended
+pub record LaneLaws : Type 0 where
+  pub reached : (s : Search) (lanes : ℕ) (state : State) → s.round_limit ≡ 0 → Reached s state → Reached (record s { lanes = lanes }) state
+  pub done : (s : Search) (lanes : ℕ) (found : List (List ℤ)) → s.round_limit ≡ 0 → EndsDone s found → EndsDone (record s { lanes = lanes }) found
+  pub spent : (s : Search) (lanes : ℕ) (why : Why) (nodes : ℕ) (found : List (List ℤ)) → s.round_limit ≡ 0 →
+      EndsSpent s why nodes found → EndsSpent (record s { lanes = lanes }) why nodes found
+
 -- ---- ends
 
--- with no cost posted a search stops in one state; and never both at its end and by its limit on nodes
+-- it is known where the limit on rounds stops a search: one lane propagates, or there is no limit
+abbrev pub AreRoundsPinned : Search → Type 0
+AreRoundsPinned s = (s.lanes ≡ 1) ⊎ (s.round_limit ≡ 0)
+
+-- the search stops in the state: at its end or by its limit on nodes, or by that on rounds where it is known where that stops it
+abbrev pub IsStopped : Search → State → Type 0
+IsStopped s state = (Reached s state × (IsDone s state ⊎ IsOutOfNodes s state)) ⊎ (AreRoundsPinned s × IsOutOfRounds s state)
+
+-- with no cost posted a search stops in one state; and never both at its end and by a limit, nor by both limits
 pub record EndLaws : Type 0 where
-  pub one_end : (s : Search) (state other : State) → IsSearchOf s.model → s.posted ≡ [] → Reached s state → Reached s other →
-      IsDone s state ⊎ IsOutOfNodes s state → IsDone s other ⊎ IsOutOfNodes s other → state ≡ other
+  pub one_end : (s : Search) (state other : State) → IsSearchOf s.model → s.posted ≡ [] → IsStopped s state → IsStopped s other → state ≡ other
   pub not_both : (s : Search) (state : State) → IsDone s state → IsOutOfNodes s state → ⊥
+  pub not_given_up : (s : Search) (state other : State) → IsSearchOf s.model → s.posted ≡ [] → AreRoundsPinned s → Reached s state →
+      IsDone s state ⊎ IsOutOfNodes s state → IsOutOfRounds s other → ⊥
 
 -- the limit on nodes stops no search of a box of q points where it is at least 2q - 1, nor that on rounds one of a box whose
 -- widths are below it; and under a limit of one round each box that has its node fails or is closed

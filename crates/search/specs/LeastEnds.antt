@@ -13,21 +13,27 @@ use Rattle.search.specs.declared.ends.LeastEnd.{LeastEnd}
 use Rattle.search.specs.Machine.{Search, State, Reached}
 use Rattle.search.specs.Ends.{EndsDone, EndsSpent}
 
--- the search of a box for the least cost, with these costs posted
-abbrev pub least_of : FznModel → Program → ℕ → ℕ → List ℤ → Bounds → Search
-least_of model program node_limit round_limit posted sub = record {
+-- the search of a box for the least cost, by so many lanes, with this cost known and these posted
+abbrev pub least_of : FznModel → Program → ℕ → ℕ → ℕ → Option ℤ → List ℤ → Bounds → Search
+least_of model program node_limit round_limit lanes known posted sub = record {
   model = model;
   kernels = program.kernels;
   sub = sub;
   kind = Kind.Least;
   node_limit = node_limit;
   round_limit = round_limit;
+  lanes = lanes;
+  known = known;
   posted = posted;
 }
 
--- the search by a run
+-- the search by a run, with no cost known
 abbrev pub least_in : {L : Type 0} → Run L → List ℤ → Bounds → Search
-least_in run posted sub = least_of run.model.now run.program.now run.node_limit run.round_limit posted sub
+least_in run posted sub = least_of run.model.now run.program.now run.node_limit run.round_limit run.lanes None posted sub
+
+-- the search by a run, with this cost known and none posted
+abbrev pub least_alone : {L : Type 0} → Run L → Option ℤ → Bounds → Search
+least_alone run known sub = least_of run.model.now run.program.now run.node_limit run.round_limit run.lanes known [] sub
 
 -- the cost of a solution of the model
 pub record IsCost (model : FznModel) (cost : ℤ) : Type 0 where

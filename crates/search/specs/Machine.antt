@@ -10,12 +10,14 @@ use Rattle.constraint_model.specs.declared.model.Goal.{Goal}
 use Rattle.constraint_model.specs.declared.model.FznModel.{FznModel}
 use Rattle.constraint_model.specs.Relations.{cost_of}
 use Rattle.branching.specs.Parts.{IsBranch}
+use Rattle.moved_fixpoint.specs.Sweeps.{SpendsSweeps}
 use Rattle.narrowing.specs.Narrowing.{AreFew, MayGiveUp}
 use Rattle.branching.specs.Tree.{AreFixed, values_of}
 use Rattle.search.specs.declared.kind.Kind.{Kind}
 use Rattle.search.specs.Costs.{IsBelow, at_most}
 
--- what is searched, for what, how far (0 is no limit), and which costs were posted
+-- what is searched, for what, how far (0 is no limit), by how many lanes, which cost is the best that is known when it begins,
+-- and which costs are posted while it runs
 pub record Search : Type 0 where
   pub model : FznModel
   pub kernels : List Kernel
@@ -23,6 +25,8 @@ pub record Search : Type 0 where
   pub kind : Kind
   pub node_limit : ℕ
   pub round_limit : ℕ
+  pub lanes : ℕ
+  pub known : Option ℤ
   pub posted : List ℤ
 
 -- the boxes that are still to be searched, the next one last; the best cost; how many nodes there were; and the solutions
@@ -66,16 +70,16 @@ pub data Node : FznModel → List Kernel → ℕ → Bounds → List Bounds → 
   is_solved : (model : FznModel) (kernels : List Kernel) (round_limit : ℕ) (b : Bounds) (back : List Bounds) (recorded : List (List ℤ)) (g : Bounds) →
       IsGreatest g b kernels → IsWithinRounds kernels round_limit b → AreFixed model g → back ≡ [] → recorded ≡ values_of model g ∷ [] →
       Node model kernels round_limit b back recorded
-  is_parted : (model : FznModel) (kernels : List Kernel) (round_limit : ℕ) (b : Bounds) (back : List Bounds) (recorded : List (List ℤ)) (g left right : Bounds) →
-      IsGreatest g b kernels → IsWithinRounds kernels round_limit b → IsBranch model g left right → back ≡ right ∷ left ∷ [] → recorded ≡ [] →
-      Node model kernels round_limit b back recorded
+  is_parted : (model : FznModel) (kernels : List Kernel) (round_limit : ℕ) (b : Bounds) (back : List Bounds) (recorded : List (List ℤ))
+      (g left right : Bounds) → IsGreatest g b kernels → IsWithinRounds kernels round_limit b → IsBranch model g left right →
+      back ≡ right ∷ left ∷ [] → recorded ≡ [] → Node model kernels round_limit b back recorded
 
 -- the last box of the stack is taken, once the best cost has fallen or stayed
 pub record Takes (s : Search) (state : State) (best : Option ℤ) (rest : List Bounds) (top : Bounds) : Type 0 where
   pub falls : MayFall s.posted state.best best
   pub taken : state.stack ≡ rest ++ top ∷ []
 
--- one node
+-- one node; by one lane only where as many rounds as the limit don't each move what it looks at
 pub record Step (s : Search) (before after : State) : Type 0 where
   pub best : Option ℤ
   pub rest : List Bounds
@@ -84,6 +88,7 @@ pub record Step (s : Search) (before after : State) : Type 0 where
   pub recorded : List (List ℤ)
   pub takes : Takes s before best rest top
   pub node : Node s.model s.kernels s.round_limit (cut_by s.kind s.model.goal best top) back recorded
+  pub unspent : s.lanes ≡ 1 → SpendsSweeps s.kernels s.round_limit (cut_by s.kind s.model.goal best top) → ⊥
   pub stack : after.stack ≡ rest ++ back
   pub falls : after.best ≡ best_after s.kind s.model.goal best recorded
   pub count : after.count ≡ before.count + 1
@@ -94,9 +99,9 @@ pub record GoesOn (s : Search) (state : State) : Type 0 where
   pub below : (s.node_limit ≡ 0) ⊎ (state.count < s.node_limit)
   pub sought : s.kind ≡ Kind.First → state.found ≡ []
 
--- the states of the search of a box: the box alone, and what comes of a state by a node
+-- the states of the search of a box: the box alone with the best cost that is known, and what comes of a state by a node
 pub data Reached : Search → State → Type 0 where
-  begun : (s : Search) (state : State) → state.stack ≡ s.sub ∷ [] → MayFall s.posted None state.best → state.count ≡ 0 →
+  begun : (s : Search) (state : State) → state.stack ≡ s.sub ∷ [] → state.best ≡ s.known → state.count ≡ 0 →
       state.found ≡ [] → Reached s state
   stepped : (s : Search) (before after : State) → Reached s before → GoesOn s before → Step s before after → Reached s after
 
@@ -111,7 +116,8 @@ pub record IsOutOfNodes (s : Search) (state : State) : Type 0 where
   pub left : state.stack ≢ []
   pub sought : s.kind ≡ Kind.First → state.found ≡ []
 
--- the limit on rounds has stopped the search: its last node was given up, and its box stays
+-- the limit on rounds has stopped the search: its last node was given up, and its box stays; by one lane only where as many
+-- rounds as the limit each moved what it looked at
 pub record IsOutOfRounds (s : Search) (state : State) : Type 0 where
   pub before : State
   pub reached : Reached s before
@@ -120,6 +126,7 @@ pub record IsOutOfRounds (s : Search) (state : State) : Type 0 where
   pub top : Bounds
   pub takes : Takes s before state.best rest top
   pub given_up : MayGiveUp s.kernels s.round_limit (cut_by s.kind s.model.goal state.best top)
+  pub spent : s.lanes ≡ 1 → SpendsSweeps s.kernels s.round_limit (cut_by s.kind s.model.goal state.best top)
   pub stack : state.stack ≡ before.stack
   pub count : state.count ≡ before.count + 1
   pub found : state.found ≡ before.found

@@ -7,7 +7,7 @@ use Rattle.constraint_model.specs.declared.model.FznModel.{FznModel}
 use Rattle.trailed_box.specs.Trailed.{Left, box_of, boxes_of as left_boxes}
 use Rattle.branching.specs.declared.fronts.Front.{Front}
 use Rattle.branching.specs.Fronts.{IsFrontOf}
-use Rattle.narrowing.specs.Narrowers.{Fits, AreQuietUnlessNoted, Knows, LetRest}
+use Rattle.narrowing.specs.Narrowers.{Fits, AreQuietUnlessNoted, Knows, LetRest, lanes_of, lanes_for}
 use Rattle.search.specs.declared.run.Run.{Run}
 use Rattle.search.specs.declared.searcher.Searcher.{Searcher}
 
@@ -35,10 +35,11 @@ abbrev pub count_of : Searcher → ℕ
 count_of s = length s.boxes.current
 
 -- another may begin with what it leaves, and a box of so many variables: its own has as many, and the narrower serves the
--- kernels
-pub record CanRestart (kernels : List Kernel) (count : ℕ) (s : Searcher) : Type 0 where
+-- kernels by so many lanes
+pub record CanRestart (kernels : List Kernel) (lanes count : ℕ) (s : Searcher) : Type 0 where
   pub same_count : count_of s ≡ count
   pub fits : Fits s.narrower kernels count
+  pub same_lanes : lanes_of s.narrower ≡ lanes_for kernels lanes
 
 -- what is left is a part of a closed box, and some number is left there for each variable
 pub record IsLeft (kernels : List Kernel) (left : Left) : Type 0 where
@@ -69,10 +70,12 @@ pub record AreSound (model : FznModel) (kernels : List Kernel) (stack : List Lef
   pub parts : All (IsLeft kernels) stack
   pub fronts : AreFronts model stack kept
 
--- what it has left is sound, and the narrower serves the kernels, and knows which rest in the boxes of which parts are left
+-- what it has left is sound, and the narrower serves the kernels by the run's lanes, and knows which rest in the boxes of
+-- which parts are left
 pub record AreLeft {L : Type 0} (run : Run L) (s : Searcher) : Type 0 where
   pub sound : AreSound run.model.now run.program.now.kernels (own_of s) s.fronts.items
   pub fits : Fits s.narrower run.program.now.kernels (length s.boxes.current)
+  pub lanes : lanes_of s.narrower ≡ lanes_for run.program.now.kernels run.lanes
   pub let_rest : LetRest s.narrower run.program.now.kernels (own_of s)
 
 -- so is the current box, if it is still to be searched: a kernel that narrows it names a variable that is noted, it is known

@@ -37,7 +37,7 @@ fn search_all<R: Threads + Sync, L: Gate + Sync>(
     requires boxes { boxes_of searcher.old ≡ searcher.old.boxes.current ∷ [] }
     requires ready { IsReady run.now searcher.old }
     ensures closing { IfOk result (IsClosing (search_in run.now Kind.All searcher.old.boxes.current)) }
-    ensures again { IfOk result (λ _. CanRestart run.now.program.now.kernels (count_of searcher.old) searcher.new) }
+    ensures again { IfOk result (λ _. CanRestart run.now.program.now.kernels run.now.lanes (count_of searcher.old) searcher.new) }
     ensures bottom { IfOk result (λ _. below_of searcher.new ≡ below_of searcher.old) }
 {
     law_branches();
@@ -101,7 +101,8 @@ pub fn run_all<R: Threads + Sync, L: Gate + Sync>(
 ) -> Result<AllEnd, NoMemory>
     requires run { IsRun run.now }
     requires inside { IsInside sub.now run.now.program.now.start }
-    ensures { IfOk result (IsAllEnd (search_of run.now.model.now run.now.program.now run.now.node_limit run.now.round_limit Kind.All sub.now)) }
+    ensures { IfOk result (IsAllEnd
+        (search_of run.now.model.now run.now.program.now run.now.node_limit run.now.round_limit run.now.lanes Kind.All sub.now)) }
 {
     let start = Start {
         boxes: alone(alloc, sub)?,
@@ -124,10 +125,10 @@ pub fn run_all_from<R: Threads + Sync, L: Gate + Sync>(
     requires run { IsRun run.now }
     requires inside { IsInside start.boxes.current run.now.program.now.start }
     requires made { IsMadeBy start.changed run.now.program.now.kernels start.boxes.current }
-    requires searcher { IsKeptFor run.now.program.now.kernels (length start.boxes.current) kept.old }
+    requires searcher { IsKeptFor run.now.program.now.kernels run.now.lanes (length start.boxes.current) kept.old }
     ensures end { IfOk result (λ over. IsAllEnd (search_in run.now Kind.All start.boxes.current) over.end) }
     ensures over { IfOk result (λ over. IsOver start.boxes.stack over.boxes.stack × (length over.boxes.current ≡ length start.boxes.current)) }
-    ensures searcher { IsKeptFor run.now.program.now.kernels (length start.boxes.current) kept.new }
+    ensures searcher { IsKeptFor run.now.program.now.kernels run.now.lanes (length start.boxes.current) kept.new }
     ensures spare { IfOk result (λ _. HasKept kept.new) }
 {
     law_can_search(run, start.boxes.current());

@@ -77,7 +77,7 @@ fn search_first<R: Threads + Sync, L: Gate + Sync, N: Numbers>(
     requires boxes { boxes_of searcher.old ≡ searcher.old.boxes.current ∷ [] }
     requires ready { IsReady run.now searcher.old }
     requires seat { IsFoundSeatOf numbered.now.found.now seat.old }
-    ensures again { IfOk result (λ _. CanRestart run.now.program.now.kernels (count_of searcher.old) searcher.new) }
+    ensures again { IfOk result (λ _. CanRestart run.now.program.now.kernels run.now.lanes (count_of searcher.old) searcher.new) }
     ensures bottom { IfOk result (λ _. below_of searcher.new ≡ below_of searcher.old) }
     ensures seat { IsFoundSeatOf numbered.now.found.now seat.new }
     ensures parts { found_parts seat.new ≡ found_parts seat.old }
@@ -133,10 +133,10 @@ fn run_unposted<R: Threads + Sync, L: Gate + Sync, N: Numbers>(
 ) -> Result<Over<FirstEnd>, NoMemory>
     requires run { CanSearch run.now (length start.boxes.current) }
     requires made { IsMadeBy start.changed run.now.program.now.kernels start.boxes.current }
-    requires searcher { IsKeptFor run.now.program.now.kernels (length start.boxes.current) kept.old }
+    requires searcher { IsKeptFor run.now.program.now.kernels run.now.lanes (length start.boxes.current) kept.old }
     requires seat { IsFoundSeatOf numbered.now.found.now seat.old }
     ensures over { IfOk result (λ over. IsOver start.boxes.stack over.boxes.stack × (length over.boxes.current ≡ length start.boxes.current)) }
-    ensures searcher { IsKeptFor run.now.program.now.kernels (length start.boxes.current) kept.new }
+    ensures searcher { IsKeptFor run.now.program.now.kernels run.now.lanes (length start.boxes.current) kept.new }
     ensures spare { IfOk result (λ _. HasKept kept.new) }
     ensures seat { IsFoundSeatOf numbered.now.found.now seat.new }
     ensures parts { found_parts seat.new ≡ found_parts seat.old }
@@ -174,7 +174,8 @@ pub fn run_first<R: Threads + Sync, L: Gate + Sync, N: Numbers>(
     ensures parts { found_parts seat.new ≡ found_parts seat.old }
     ensures seen { (n : ℕ) → Among (numbers_seen seat.old) n → Among (numbers_seen seat.new) n }
     ensures end { IfOk result (IsFirstEnd
-        (search_of run.now.model.now run.now.program.now run.now.node_limit run.now.round_limit Kind.First sub.now) number (numbers_seen seat.new)) }
+        (search_of run.now.model.now run.now.program.now run.now.node_limit run.now.round_limit run.now.lanes Kind.First sub.now)
+        number (numbers_seen seat.new)) }
     ensures cut { IfOk result (λ end. (n : ℕ) → end ≡ FirstEnd.Cut n → N.has_solution n) }
     ensures at_once { (n : ℕ) → Among (numbers_seen seat.old) n → n < number → IfOk result IsCut }
     ensures posts { IfOk result (λ end. numbers_posted seat.new ≡ posts_of number (numbers_posted seat.old) end) }
@@ -207,12 +208,12 @@ pub fn run_first_from<R: Threads + Sync, L: Gate + Sync, N: Numbers>(
     requires run { IsRun run.now }
     requires inside { IsInside start.boxes.current run.now.program.now.start }
     requires made { IsMadeBy start.changed run.now.program.now.kernels start.boxes.current }
-    requires searcher { IsKeptFor run.now.program.now.kernels (length start.boxes.current) kept.old }
+    requires searcher { IsKeptFor run.now.program.now.kernels run.now.lanes (length start.boxes.current) kept.old }
     requires seat { IsFoundSeatOf numbered.now.found.now seat.old }
     requires solution { (solutions : List (List ℤ)) → SolutionsIn run.now.model.now run.now.program.now.kernels start.boxes.current solutions →
         solutions ≢ [] → N.has_solution numbered.now.number }
     ensures over { IfOk result (λ over. IsOver start.boxes.stack over.boxes.stack × (length over.boxes.current ≡ length start.boxes.current)) }
-    ensures searcher { IsKeptFor run.now.program.now.kernels (length start.boxes.current) kept.new }
+    ensures searcher { IsKeptFor run.now.program.now.kernels run.now.lanes (length start.boxes.current) kept.new }
     ensures spare { IfOk result (λ _. HasKept kept.new) }
     ensures seat { IsFoundSeatOf numbered.now.found.now seat.new }
     ensures parts { found_parts seat.new ≡ found_parts seat.old }

@@ -29,7 +29,7 @@ impl Spare {
     fn new<L>(alloc: Global, run: &Run<'_, L>, count: u32) -> Result<Spare, NoMemory>
         requires run { CanSearch run.now count }
         requires short { count ≤ box_limit }
-        ensures { IfOk result (CanServe run.now.program.now.kernels count) }
+        ensures { IfOk result (CanServe run.now.program.now.kernels run.now.lanes count) }
     {
         let kernels = run.program.kernels.as_slice();
         Ok(Spare {
@@ -48,7 +48,7 @@ pub struct Kept {
 impl Kept {
     /// Nothing.
     pub fn new() -> Kept
-        ensures { (kernels : List Kernel) (count : ℕ) → IsKeptFor kernels count result }
+        ensures { (kernels : List Kernel) (lanes count : ℕ) → IsKeptFor kernels lanes count result }
     {
         Kept { spare: None }
     }
@@ -57,10 +57,10 @@ impl Kept {
     fn take<L>(&mut self, alloc: Global, run: &Run<'_, L>, count: u32) -> Result<Spare, NoMemory>
         requires run { CanSearch run.now count }
         requires short { count ≤ box_limit }
-        requires kept { IsKeptFor run.now.program.now.kernels count self.old }
+        requires kept { IsKeptFor run.now.program.now.kernels run.now.lanes count self.old }
         ensures taken { self.new.spare ≡ None }
         ensures same { IfSome self.old.spare (λ spare. result ≡ Ok spare) }
-        ensures spare { IfOk result (CanServe run.now.program.now.kernels count) }
+        ensures spare { IfOk result (CanServe run.now.program.now.kernels run.now.lanes count) }
         ensures err { OnErr result (self.old.spare ≡ None) }
     {
         match self.spare.take() {
@@ -80,7 +80,7 @@ impl Kept {
         start: Start,
     ) -> Result<Searcher, NoMemory>
         requires run { CanSearch run.now (length start.boxes.current) }
-        requires kept { IsKeptFor run.now.program.now.kernels (length start.boxes.current) self.old }
+        requires kept { IsKeptFor run.now.program.now.kernels run.now.lanes (length start.boxes.current) self.old }
         requires made { IsMadeBy start.changed run.now.program.now.kernels start.boxes.current }
         ensures taken { self.new.spare ≡ None }
         ensures current { IfOk result (λ s. s.boxes.current ≡ start.boxes.current) }
@@ -95,7 +95,7 @@ impl Kept {
 
     /// Keeps what the next run may use.
     pub(crate) fn keep(&mut self, spare: Spare)
-        ensures serves { (kernels : List Kernel) (count : ℕ) → CanServe kernels count spare → IsKeptFor kernels count self.new }
+        ensures serves { (kernels : List Kernel) (lanes count : ℕ) → CanServe kernels lanes count spare → IsKeptFor kernels lanes count self.new }
         ensures kept { HasKept self.new }
     {
         self.spare = Some(spare);

@@ -3,7 +3,7 @@
 ghost use Rattle.std.specs.Prelude.{length};
 ghost use Rattle.interval.specs.Boxes.{IsInside};
 ghost use Rattle.search.specs.Premises.{IsRun, CanSearch};
-ghost use Rattle.search.specs.Laws.{RecordsSolutions, PrefixLaws, FindsLeast, RecordsBelow, CostsFall, MorePosted, EndLaws, LimitLaws};
+ghost use Rattle.search.specs.Laws.{RecordsSolutions, PrefixLaws, FindsLeast, RecordsBelow, CostsFall, MorePosted, LaneLaws, EndLaws, LimitLaws};
 ghost use Rattle.search.specs.Static.{FindsFirst};
 
 use crate::run::Run;
@@ -79,7 +79,13 @@ pub fn law_more_posted()
     ensures { MorePosted }
 {}
 
-/// With no cost posted a search stops in one state, and never both at its end and by its limit on nodes.
+/// Where there is no limit on rounds a search reaches and ends as it does by any other number of lanes.
+pub fn law_lanes_are_free()
+    ensures { LaneLaws }
+{}
+
+/// With no cost posted a search stops in one state, also by its limit on rounds where one lane propagates or there is none,
+/// and never both at its end and by a limit.
 pub fn law_one_end()
     ensures { EndLaws }
 {

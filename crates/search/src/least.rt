@@ -1,13 +1,13 @@
 //! The run for the least cost: branch and bound, with the best cost shared.
 
-ghost use Rattle.std.specs.Prelude.{◌≡◌, ◌≢◌, ◌≤◌, ◌++◌, ◌↔◌, ℤ, List, [], ◌∷◌, length, All, IfOk, OnOk, OnErr};
+ghost use Rattle.std.specs.Prelude.{◌≡◌, ◌≢◌, ◌≤◌, ◌++◌, ◌↔◌, ℤ, List, [], ◌∷◌, length, Option, All, IfOk, OnOk, OnErr};
 ghost use Rattle.interval.specs.Limits.{IsNumber};
 ghost use Rattle.interval.specs.Boxes.{Bounds, IsInside};
 ghost use Rattle.trailed_box.specs.Trailed.{IsOver};
 ghost use Rattle.moved_fixpoint.specs.Made.{IsMadeBy};
 ghost use Rattle.constraint_model.specs.declared.model.Goal.TheVariants.{Satisfy};
 ghost use Rattle.constraint_model.specs.Relations.{cost_of};
-ghost use Rattle.best_bound.specs.Lists.{Among};
+ghost use Rattle.best_bound.specs.Lists.{Among, IsLeastCost};
 ghost use Rattle.best_bound.specs.Seats.{IsBestSeatOf, best_parts, costs_seen, costs_posted};
 ghost use Rattle.search.specs.Costs.{IsObjectiveIn};
 ghost use Rattle.search.specs.Premises.{IsRun};
@@ -15,7 +15,7 @@ ghost use Rattle.search.specs.Closings.{IsClosing};
 ghost use Rattle.search.specs.Machine.{Search};
 ghost use Rattle.search.specs.Stacks.{boxes_of, below_of, count_of, IsReady, CanRestart};
 ghost use Rattle.search.specs.Keeping.{HasKept, IsKeptFor};
-ghost use Rattle.search.specs.LeastEnds.{least_of, least_in, IsCost, PostsCosts, SeesCosts, EndsLeast, IsLeastEnd, IsBrokenOff};
+ghost use Rattle.search.specs.LeastEnds.{least_of, least_in, least_alone, IsCost, PostsCosts, SeesCosts, EndsLeast, IsLeastEnd, IsBrokenOff};
 ghost use Rattle.search.specs.LeastEnds.{CostsLess, CostsBelow, CostAtLeast, OnDone};
 
 use crate::closing::{Closing, counted, is_full};
@@ -85,12 +85,14 @@ fn search_least<R: Threads + Sync, L: Gate + Sync, C: Costs>(
     requires ready { IsReady run.now searcher.old }
     requires seat { IsBestSeatOf best.now seat.old }
     requires costs { (cost : ℤ) → C.is_cost cost ↔ IsCost run.now.model.now cost }
-    ensures again { IfOk result (λ _. CanRestart run.now.program.now.kernels (count_of searcher.old) searcher.new) }
+    ensures again { IfOk result (λ _. CanRestart run.now.program.now.kernels run.now.lanes (count_of searcher.old) searcher.new) }
     ensures bottom { IfOk result (λ _. below_of searcher.new ≡ below_of searcher.old) }
     ensures seat { IsBestSeatOf best.now seat.new }
     ensures parts { best_parts seat.new ≡ best_parts seat.old }
     ensures kept { (cost : ℤ) → Among (costs_seen seat.old) cost → Among (costs_seen seat.new) cost }
     ensures closing { IfOk result (λ closing. IsClosing (least_in run.now (costs_seen seat.new) searcher.old.boxes.current) closing) }
+    ensures alone { best_parts seat.old ≡ 1024 → (known : Option ℤ) → IsLeastCost (costs_posted seat.old) known →
+        IfOk result (IsClosing (least_alone run.now known searcher.old.boxes.current)) }
     ensures posted { IfOk result (λ closing. PostsCosts run.now.model.now.goal closing.found (costs_posted seat.old) (costs_posted seat.new)) }
     ensures least { IfOk result (λ closing. closing.stopped ≡ None → CostAtLeast run.now.model.now searcher.old.boxes.current (costs_seen seat.new)) }
     ensures below { IfOk result (λ closing. All (CostsLess run.now.model.now.goal (costs_seen seat.old)) closing.found) }
@@ -161,7 +163,8 @@ fn least_end(closing: Closing) -> LeastEnd
 }
 
 /// Searches a box for a solution of least cost, one that costs less than all that the seat has seen. Costs that other seats
-/// post are used as the best, and each that is found is posted; those stay posted where memory is refused later.
+/// post are used as the best, and each that is found is posted; those stay posted where memory is refused later. A seat with
+/// all parts sees none of others, so that the run is that of its box from the least cost that was posted before.
 pub fn run_least<R: Threads + Sync, L: Gate + Sync, C: Costs>(
     rt: &R,
     alloc: Global,
@@ -179,12 +182,15 @@ pub fn run_least<R: Threads + Sync, L: Gate + Sync, C: Costs>(
     ensures parts { best_parts seat.new ≡ best_parts seat.old }
     ensures kept { (cost : ℤ) → Among (costs_seen seat.old) cost → Among (costs_seen seat.new) cost }
     ensures end { IfOk result (λ end. IsLeastEnd
-        (least_of run.now.model.now run.now.program.now run.now.node_limit run.now.round_limit (costs_seen seat.new) sub.now)
+        (least_of run.now.model.now run.now.program.now run.now.node_limit run.now.round_limit run.now.lanes None (costs_seen seat.new) sub.now)
         (costs_posted seat.old) (costs_posted seat.new) end) }
+    ensures alone { best_parts seat.old ≡ 1024 → (known : Option ℤ) → IsLeastCost (costs_posted seat.old) known → IfOk result (IsLeastEnd
+        (least_of run.now.model.now run.now.program.now run.now.node_limit run.now.round_limit run.now.lanes known [] sub.now)
+        (costs_posted seat.old) (costs_posted seat.new)) }
     ensures least { IfOk result (λ end. OnDone end (CostAtLeast run.now.model.now sub.now (costs_seen seat.new))) }
     ensures below { IfOk result (CostsBelow run.now.model.now.goal (costs_seen seat.old)) }
     ensures err { OnErr result (IsBrokenOff
-        (least_of run.now.model.now run.now.program.now run.now.node_limit run.now.round_limit (costs_seen seat.new) sub.now)
+        (least_of run.now.model.now run.now.program.now run.now.node_limit run.now.round_limit run.now.lanes None (costs_seen seat.new) sub.now)
         (costs_posted seat.old) (costs_posted seat.new)) }
 {
     let start = Start {
@@ -211,17 +217,19 @@ pub fn run_least_from<R: Threads + Sync, L: Gate + Sync, C: Costs>(
     requires objective { run.now.model.now.goal ≢ Satisfy }
     requires inside { IsInside start.boxes.current run.now.program.now.start }
     requires made { IsMadeBy start.changed run.now.program.now.kernels start.boxes.current }
-    requires searcher { IsKeptFor run.now.program.now.kernels (length start.boxes.current) kept.old }
+    requires searcher { IsKeptFor run.now.program.now.kernels run.now.lanes (length start.boxes.current) kept.old }
     requires seat { IsBestSeatOf best.now seat.old }
     requires costs { (cost : ℤ) → C.is_cost cost ↔ IsCost run.now.model.now cost }
     ensures over { IfOk result (λ over. IsOver start.boxes.stack over.boxes.stack × (length over.boxes.current ≡ length start.boxes.current)) }
-    ensures searcher { IsKeptFor run.now.program.now.kernels (length start.boxes.current) kept.new }
+    ensures searcher { IsKeptFor run.now.program.now.kernels run.now.lanes (length start.boxes.current) kept.new }
     ensures spare { IfOk result (λ _. HasKept kept.new) }
     ensures seat { IsBestSeatOf best.now seat.new }
     ensures parts { best_parts seat.new ≡ best_parts seat.old }
     ensures kept { (cost : ℤ) → Among (costs_seen seat.old) cost → Among (costs_seen seat.new) cost }
     ensures end { IfOk result (λ over.
         IsLeastEnd (least_in run.now (costs_seen seat.new) start.boxes.current) (costs_posted seat.old) (costs_posted seat.new) over.end) }
+    ensures alone { best_parts seat.old ≡ 1024 → (known : Option ℤ) → IsLeastCost (costs_posted seat.old) known → IfOk result (λ over.
+        IsLeastEnd (least_alone run.now known start.boxes.current) (costs_posted seat.old) (costs_posted seat.new) over.end) }
     ensures least { IfOk result (λ over. OnDone over.end (CostAtLeast run.now.model.now start.boxes.current (costs_seen seat.new))) }
     ensures below { IfOk result (λ over. CostsBelow run.now.model.now.goal (costs_seen seat.old) over.end) }
     ensures err { OnErr result (IsBrokenOff (least_in run.now (costs_seen seat.new) start.boxes.current) (costs_posted seat.old) (costs_posted seat.new)) }

@@ -11,8 +11,8 @@ ghost use Rattle.moved_fixpoint.specs.Made.{IsMadeBy};
 ghost use Rattle.trailed_box.specs.Trailed.{Left, IsPart, IsOver, left_of, boxes_of as left_boxes};
 ghost use Rattle.branching.specs.Fronts.{IsFrontOf, FitsBox, left_by, right_by};
 ghost use Rattle.branching.specs.Parts.{AreParts};
-ghost use Rattle.narrowing.specs.Narrowing.{IsNarrowed};
-ghost use Rattle.narrowing.specs.Narrowers.{Fits, AreQuietUnlessNoted, Knows, LetsRest, LetRest, LetsRestWhereFixed, len_of};
+ghost use Rattle.narrowing.specs.Narrowing.{IsNarrowed, IsNarrowedAlone};
+ghost use Rattle.narrowing.specs.Narrowers.{Fits, AreQuietUnlessNoted, Knows, LetsRest, LetRest, LetsRestWhereFixed, len_of, lanes_of};
 ghost use Rattle.search.specs.declared.kind.Kind.TheVariants.{Least};
 ghost use Rattle.search.specs.Costs.{IsObjectiveIn};
 ghost use Rattle.search.specs.Machine.{cut_by};
@@ -59,6 +59,7 @@ fn put(boxes: &mut TrailedBox, narrower: &mut Narrower, part: Part) -> Result<()
     ensures current { OnOk result (boxes.new.current ≡ put_of boxes.old.current part.var part.low part.high) }
     ensures stack { OnOk result (boxes.new.stack ≡ boxes.old.stack) }
     ensures fits { OnOk result ((kernels : List Kernel) (count : ℕ) → Fits narrower.old kernels count → Fits narrower.new kernels count) }
+    ensures lanes { OnOk result (lanes_of narrower.new ≡ lanes_of narrower.old) }
     ensures quiet { OnOk result ((kernels : List Kernel) → All (IsKernel (length boxes.old.current)) kernels →
         AreQuietUnlessNoted narrower.old kernels boxes.old.current → AreQuietUnlessNoted narrower.new kernels boxes.new.current) }
     ensures knows { OnOk result ((kernels : List Kernel) →
@@ -103,6 +104,7 @@ fn first_part(parts: Branching) -> Part
 fn note_start(narrower: &mut Narrower, changed: Option<u32>)
     requires { IfSome changed (λ pair. pair < len_of narrower.old) }
     ensures fits { (kernels : List Kernel) (count : ℕ) → Fits narrower.old kernels count → Fits narrower.new kernels count }
+    ensures lanes { lanes_of narrower.new ≡ lanes_of narrower.old }
     ensures quiet { (kernels : List Kernel) (b : Bounds) → length b ≡ len_of narrower.old → All (IsKernel (length b)) kernels →
         IsMadeBy changed kernels b → AreQuietUnlessNoted narrower.new kernels b }
     ensures knows { (kernels : List Kernel) (count : ℕ) (b : Bounds) → Fits narrower.old kernels count → Knows narrower.new kernels b }
@@ -157,7 +159,7 @@ impl Searcher {
     /// A searcher of the box where a run begins. That takes no memory.
     pub(crate) fn new<L>(run: &Run<'_, L>, start: Start, spare: Spare) -> Searcher
         requires run { CanSearch run.now (length start.boxes.current) }
-        requires spare { CanServe run.now.program.now.kernels (length start.boxes.current) spare }
+        requires spare { CanServe run.now.program.now.kernels run.now.lanes (length start.boxes.current) spare }
         requires made { IsMadeBy start.changed run.now.program.now.kernels start.boxes.current }
         ensures current { result.boxes.current ≡ start.boxes.current }
         ensures boxes { boxes_of result ≡ result.boxes.current ∷ [] }
@@ -187,7 +189,7 @@ impl Searcher {
     pub(crate) fn into_parts(self) -> (TrailedBox, Spare)
         ensures boxes { result.0 ≡ self.boxes }
         ensures over { IsOver (below_of self) result.0.stack }
-        ensures spare { (kernels : List Kernel) (count : ℕ) → CanRestart kernels count self → CanServe kernels count result.1 }
+        ensures spare { (kernels : List Kernel) (lanes count : ℕ) → CanRestart kernels lanes count self → CanServe kernels lanes count result.1 }
     {
         let Searcher {
             boxes,
@@ -338,6 +340,7 @@ impl Searcher {
         ensures below { IfOk result (λ _. below_of self.new ≡ below_of self.old) }
         ensures rests { IfOk result (LetsRestWhereFixed self.new.narrower run.now.program.now.kernels self.new.boxes.current) }
         ensures narrowed { IfOk result (IsNarrowed run.now.program.now.kernels run.now.round_limit self.old.boxes.current self.new.boxes.current) }
+        ensures alone { run.now.lanes ≡ 1 → IfOk result (IsNarrowedAlone run.now.program.now.kernels run.now.round_limit self.old.boxes.current) }
     {
         if self.is_crossed {
             self.narrower.forget();
@@ -369,10 +372,11 @@ impl Searcher {
         requires best { IfSome best (λ cost. IsNumber cost × IsObjectiveIn (count_of self.old - 1) run.now.model.now.goal) }
         ensures ready { IfOk result (λ how. how ≡ Visit.Done → IsReady run.now self.new) }
         ensures count { IfOk result (λ how. how ≡ Visit.Done → count_of self.new ≡ count_of self.old) }
-        ensures again { IfOk result (λ _. CanRestart run.now.program.now.kernels (count_of self.old) self.new) }
+        ensures again { IfOk result (λ _. CanRestart run.now.program.now.kernels run.now.lanes (count_of self.old) self.new) }
         ensures below { IfOk result (λ _. below_of self.new ≡ below_of self.old) }
         ensures visit { IfOk result (
-            IsTopVisit run.now.model.now run.now.program.now.kernels run.now.round_limit best (boxes_of self.old) (boxes_of self.new) found.old found.new) }
+            IsTopVisit run.now.model.now run.now.program.now.kernels run.now.round_limit run.now.lanes best (boxes_of self.old) (boxes_of self.new)
+            found.old found.new) }
     {
         law_inside_order();
         self.cut(run, best)?;

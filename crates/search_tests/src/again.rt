@@ -33,8 +33,8 @@ fn all_again<R: Threads + Sync>(
     kept: &mut Kept,
 ) -> Result<AllEnd, NoMemory>
     requires compiled { IsCompiled searched.now.model searched.now.program searched.now.masks }
-    requires kept { IsKeptFor searched.now.program.kernels (length searched.now.program.start) kept.old }
-    ensures { IsKeptFor searched.now.program.kernels (length searched.now.program.start) kept.new }
+    requires kept { IsKeptFor searched.now.program.kernels 1 (length searched.now.program.start) kept.old }
+    ensures { IsKeptFor searched.now.program.kernels 1 (length searched.now.program.start) kept.new }
 {
     law_inside_order();
     let run = Run {

@@ -62,6 +62,8 @@ impl Job<Counter, u64, u64> for Doubles {
 
     ghost stands = { λ _ seat runs. All (λ run. run.1 ≡ 2 * run.0) runs × (seat.runs ≡ min (length runs) (2 ^ 64 - 1)) };
 
+    ghost may_split = { λ _. ⊤ };
+
     fn own(&self, _alloc: Global) -> Result<u64, NoMemory> {
         Ok(0)
     }
@@ -158,38 +160,58 @@ fn where_memory_is_refused_all_workers_are_taken_in(rt: HostRuntime) -> Result<(
     Ok(())
 }
 
-/// Asks that the turns of worker 0 follow one another.
+/// Asks that the turns of each of two workers follow one another.
 #[derive(Drop)]
 struct Rising {
-    next: AtomicU64,
+    first: AtomicU64,
+    second: AtomicU64,
     was_wrong: AtomicBool,
+}
+
+impl Rising {
+    fn new() -> Rising {
+        Rising {
+            first: AtomicU64::new(0),
+            second: AtomicU64::new(0),
+            was_wrong: AtomicBool::new(false),
+        }
+    }
+
+    /// How many passes there were.
+    fn passes(&self) -> u64 {
+        let first = self.first.load(Ordering::SeqCst);
+        first.saturating_add(self.second.load(Ordering::SeqCst))
+    }
 }
 
 impl Gate for Rising {
     fn pass(&self, worker: u32, turn: u64) {
-        if worker != 0 || turn != self.next.load(Ordering::SeqCst) {
+        let next = if worker == 0 {
+            &self.first
+        } else {
+            &self.second
+        };
+        if worker > 1 || turn != next.fetch_add(1, Ordering::SeqCst) {
             self.was_wrong.store(true, Ordering::SeqCst);
         }
-        self.next.fetch_add(1, Ordering::SeqCst);
     }
 }
 
 #[test]
 fn turns_go_on_over_two_calls(rt: HostRuntime) -> Result<(), Fail> {
-    for steals in [false, true] {
-        let gate = Rising {
-            next: AtomicU64::new(0),
-            was_wrong: AtomicBool::new(false),
-        };
-        let mut crew = Workers::new(rt.alloc(), 1, steals)?;
-        for count in [2, 1] {
-            let job = Doubles::new(count);
-            let mut seat = Counter { runs: 0 };
-            let ends = double_all(&rt, rt.alloc(), &mut crew, &job, count, &gate, &mut seat)?;
-            assert!(rt; are_doubled(&ends, count));
+    for (workers, passes) in [(1, 5), (2, 7)] {
+        for steals in [false, true] {
+            let gate = Rising::new();
+            let mut crew = Workers::new(rt.alloc(), workers, steals)?;
+            for count in [2, 1] {
+                let job = Doubles::new(count);
+                let mut seat = Counter { runs: 0 };
+                let ends = double_all(&rt, rt.alloc(), &mut crew, &job, count, &gate, &mut seat)?;
+                assert!(rt; are_doubled(&ends, count));
+            }
+            assert!(rt; !gate.was_wrong.load(Ordering::SeqCst));
+            assert_eq!(rt; gate.passes(), passes);
         }
-        assert!(rt; !gate.was_wrong.load(Ordering::SeqCst));
-        assert_eq!(rt; gate.next.load(Ordering::SeqCst), 5);
     }
     Ok(())
 }
@@ -208,16 +230,18 @@ impl Gate for Passes {
 
 #[test]
 fn each_worker_passes_before_each_number_and_once_more(rt: HostRuntime) -> Result<(), Fail> {
-    for steals in [false, true] {
-        let gate = Passes {
-            count: AtomicU64::new(0),
-        };
-        let mut crew = Workers::new(rt.alloc(), 3, steals)?;
-        let job = Doubles::new(7);
-        let mut seat = Counter { runs: 0 };
-        let ends = double_all(&rt, rt.alloc(), &mut crew, &job, 7, &gate, &mut seat)?;
-        assert!(rt; are_doubled(&ends, 7));
-        assert_eq!(rt; gate.count.load(Ordering::SeqCst), 10);
+    for (workers, passes) in [(1, 8), (3, 10)] {
+        for steals in [false, true] {
+            let gate = Passes {
+                count: AtomicU64::new(0),
+            };
+            let mut crew = Workers::new(rt.alloc(), workers, steals)?;
+            let job = Doubles::new(7);
+            let mut seat = Counter { runs: 0 };
+            let ends = double_all(&rt, rt.alloc(), &mut crew, &job, 7, &gate, &mut seat)?;
+            assert!(rt; are_doubled(&ends, 7));
+            assert_eq!(rt; gate.count.load(Ordering::SeqCst), passes);
+        }
     }
     Ok(())
 }
@@ -255,6 +279,8 @@ impl<'a> Job<(), (), u32> for Halves<'a> {
     ghost owns = { λ _ _. ⊤ };
 
     ghost stands = { λ job _ runs. All (λ run. run.1 ≡ slice_index job.numbers.now run.0 / 2) runs };
+
+    ghost may_split = { λ _. ⊤ };
 
     fn own(&self, _alloc: Global) -> Result<(), NoMemory> {
         Ok(())

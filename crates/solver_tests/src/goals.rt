@@ -23,6 +23,30 @@ const FOUR: &str = "var 0..3: x :: output_var; solve satisfy;";
 
 const BOUNDS: &str = "var 1..3: x :: output_var; constraint int_le(2,x); solve satisfy;";
 
+/// Where x is 0 it takes three nodes to see that y and z can't be equal and differ; where x is 1, two to the first of two
+/// solutions.
+const LATE: &str =
+    "var 0..1: x :: output_var; var 0..1: y :: output_var; var 0..1: z :: output_var; \
+     constraint int_lin_le([1,-1,-1],[y,z,x],0); constraint int_lin_le([1,-1,-1],[z,y,x],0); constraint int_ne(y,z); solve satisfy;";
+
+/// The same without what solves it.
+const NEVER: &str = "var 0..0: x; var 0..1: y; var 0..1: z; \
+     constraint int_lin_le([1,-1,-1],[y,z,x],0); constraint int_lin_le([1,-1,-1],[z,y,x],0); constraint int_ne(y,z); solve satisfy;";
+
+const LATE_FIRST: &str = "x = 1;\ny = 0;\nz = 1;\n----------\n";
+
+/// The least cost, 4, is at once known to be it. Where x is 0 all else is fixed; where x is 1 four more variables are to be.
+pub(crate) const EASY_FIRST: &str =
+    "var 0..1: x :: output_var; var 0..1: a; var 0..1: b; var 0..1: c; var 0..1: d; var 0..9: o :: output_var; \
+     constraint int_le(a,x); constraint int_le(b,x); constraint int_le(c,x); constraint int_le(d,x); constraint int_le(4,o); \
+     solve minimize o;";
+
+/// The other way round.
+pub(crate) const HARD_FIRST: &str =
+    "var 0..1: x :: output_var; var 0..1: a; var 0..1: b; var 0..1: c; var 0..1: d; var 0..9: o :: output_var; \
+     constraint int_lin_le([1,1],[a,x],1); constraint int_lin_le([1,1],[b,x],1); constraint int_lin_le([1,1],[c,x],1); \
+     constraint int_lin_le([1,1],[d,x],1); constraint int_le(4,o); solve minimize o;";
+
 /// Words, a text, and its answer.
 const GOALS: &[(&str, &str, &str)] = &[
     (
@@ -129,6 +153,46 @@ const LIMITS: &[(&str, &str, &str)] = &[
         "turbofzn --round-limit 1 m.fzn",
         BOUNDS,
         "x = 2;\n----------\n",
+    ),
+    // part 0 has no solution, part 1 has one
+    ("turbofzn --depth 1 --node-limit 3 m.fzn", LATE, LATE_FIRST),
+    // part 0 is stopped, part 1 has one
+    ("turbofzn --depth 1 --node-limit 2 m.fzn", LATE, LATE_FIRST),
+    // both are stopped
+    (
+        "turbofzn --depth 1 --node-limit 1 m.fzn",
+        LATE,
+        "=====UNKNOWN=====\n",
+    ),
+    // neither has one
+    (
+        "turbofzn --depth 1 --node-limit 1 m.fzn",
+        NEVER,
+        "=====UNSATISFIABLE=====\n",
+    ),
+    // part 0 has none, part 1 has two
+    (
+        "turbofzn -a --depth 1 --node-limit 3 m.fzn",
+        LATE,
+        "x = 1;\ny = 0;\nz = 1;\n----------\nx = 1;\ny = 1;\nz = 0;\n----------\n==========\n",
+    ),
+    // both are stopped, part 1 behind its first
+    (
+        "turbofzn -a --depth 1 --node-limit 2 m.fzn",
+        LATE,
+        LATE_FIRST,
+    ),
+    // part 0 has the least cost, and nothing in part 1 costs less; then part 0 has the first solution that costs so much
+    (
+        "turbofzn --depth 1 --node-limit 3 m.fzn",
+        EASY_FIRST,
+        "x = 0;\no = 4;\n----------\n==========\n",
+    ),
+    // part 0 is stopped with nothing, part 1 has the best
+    (
+        "turbofzn --depth 1 --node-limit 3 m.fzn",
+        HARD_FIRST,
+        "x = 1;\no = 4;\n----------\n",
     ),
 ];
 

@@ -23,10 +23,14 @@ mod limits;
 #[cfg(test)]
 mod long_lists;
 #[cfg(test)]
+mod orders;
+#[cfg(test)]
 mod programs;
 #[cfg(test)]
 mod propagators;
 #[cfg(test)]
 mod refusals;
+#[cfg(test)]
+mod stopped;
 #[cfg(test)]
 mod texts;

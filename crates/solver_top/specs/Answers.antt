@@ -14,6 +14,7 @@ use Rattle.answer.specs.Lists.{Assignment}
 use Rattle.answer.specs.Finished.{IsFinished}
 use Rattle.answer.specs.Unfinished.{IsUnfinished}
 use Rattle.answer.specs.Answers.{IsWhole, IsAnswer}
+use Rattle.answer.specs.Laws.{AskAlike, IsPinned}
 use Rattle.domain_text.specs.Domains.{IsDomainText}
 use Rattle.made_model.specs.Made.{summary}
 use Rattle.model_text.specs.Texts.{IsTextOf}
@@ -47,6 +48,12 @@ pub record IsAnswerOf (options : Options) (text bytes : List ℕ) : Type 0 where
   pub answer : Answer
   pub is_answer : IsAnswerWith options model answer
   pub printed : bytes ≡ answer_text model answer
+
+-- the two ask alike of the model, and the limits leave it one answer
+pub record ArePinned (model : FznModel) (o p : Options) : Type 0 where
+  pub alike : AskAlike (search_options o) (search_options p)
+  pub first : IsPinned model (search_options o)
+  pub second : IsPinned model (search_options p)
 
 -- these bytes are the text of the domains that propagation leaves for the variables of the text's model
 pub record AreDomainsOf (text bytes : List ℕ) : Type 0 where
@@ -91,3 +98,15 @@ pub record IsLineOf (options : Options) (n : ℕ) (text bytes : List ℕ) : Type
   pub objective : Option ℤ
   pub known : IsKnownObjective model options answer objective
   pub printed : bytes ≡ summary n objective
+
+-- ---- limited answers
+
+-- a text has one answer where the limits pin its model's
+abbrev pub OneLimitedText : Type 0
+OneLimitedText = (model : FznModel) (o p : Options) (text bytes others : List ℕ) → IsTextOf text model → ArePinned model o p →
+    IsAnswerOf o text bytes → IsAnswerOf p text others → bytes ≡ others
+
+-- and a made text has one line
+abbrev pub OneLimitedLine : Type 0
+OneLimitedLine = (model : FznModel) (o p : Options) (n : ℕ) (text bytes others : List ℕ) → IsTextOf text model → ArePinned model o p →
+    IsLineOf o n text bytes → IsLineOf p n text others → bytes ≡ others

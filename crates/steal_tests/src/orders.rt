@@ -1,7 +1,7 @@
-//! The order in which one worker of a crew gets the numbers, while the other is held up.
+//! The order in which one worker of a crew gets the numbers, alone or while the other is held up.
 
 use crew::{Job, Work, Workers, run_numbers};
-use gate::Gate;
+use gate::{Gate, NoGate};
 use interval::NoMemory;
 use list_of::ListOf;
 use std::alloc::Global;
@@ -27,6 +27,8 @@ impl Job<(), (), u64> for Ranking {
     ghost owns = { λ _ _. ⊤ };
 
     ghost stands = { λ _ _ _. ⊤ };
+
+    ghost may_split = { λ _. ⊤ };
 
     fn own(&self, _alloc: Global) -> Result<(), NoMemory> {
         Ok(())
@@ -80,11 +82,11 @@ impl Gate for FirstAlone {
 }
 
 /// How many runs were made before that of each of the numbers 0 to 3.
-fn ranks<R: Threads + Sync>(
+fn ranks<R: Threads + Sync, C: Gate + Sync>(
     rt: &R,
     alloc: Global,
     crew: &mut Workers,
-    gate: &FirstAlone,
+    gate: &C,
 ) -> Result<ListOf<u64>, NoMemory> {
     let job = Ranking {
         made: AtomicU64::new(0),
@@ -117,5 +119,15 @@ fn a_worker_that_steals_takes_its_own_first(rt: HostRuntime) -> Result<(), Fail>
     let ends = ranks(&rt, rt.alloc(), &mut crew, &gate)?;
     assert_eq!(rt; ends.as_slice(), [0, 2, 1, 3].as_slice());
     assert!(rt; gate.was_passed());
+    Ok(())
+}
+
+#[test]
+fn one_worker_takes_the_numbers_in_turn(rt: HostRuntime) -> Result<(), Fail> {
+    for steals in [false, true] {
+        let mut crew = Workers::new(rt.alloc(), 1, steals)?;
+        let ends = ranks(&rt, rt.alloc(), &mut crew, &NoGate)?;
+        assert_eq!(rt; ends.as_slice(), [0, 1, 2, 3].as_slice());
+    }
     Ok(())
 }

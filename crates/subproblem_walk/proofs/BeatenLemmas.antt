@@ -1,5 +1,7 @@
 -- What is beaten stays so inside, and for a better cost.
-use Rattle.std.proofs.Common.{◌≡◌, ◌⊎◌, ℕ, zero, suc, ℤ, neg_ℤ, ◌≤ℤ◌, ◌-◌, ◌<◌, ◌≤◌, ◌^◌, Option, Some, None, Bool, true, false, List, [], ◌∷◌, length, refl, sym, ap, subst, ◌∙◌, inl, inr, arith}
+use mathlib.Core.Logic.{dite}
+use native.Mathlib.Decide.{ℕ_discrete}
+use Rattle.std.proofs.Common.{◌≡◌, ◌≢◌, ◌⊎◌, ℕ, zero, suc, ℤ, neg_ℤ, ◌≤ℤ◌, ◌-◌, ◌<◌, ◌≤◌, ◌^◌, Option, Some, None, Bool, true, false, List, [], ◌∷◌, length, refl, sym, ap, subst, ◌∙◌, inl, inr, arith}
 use Rattle.std.proofs.lemmas.Int.{ints}
 use Rattle.std.proofs.lemmas.List.{append-nil}
 use Rattle.std.proofs.lemmas.Bool.{cases_lt}
@@ -13,6 +15,7 @@ use Rattle.constraint_model.specs.declared.model.VarDecl.{VarDecl}
 use Rattle.constraint_model.specs.declared.model.FznModel.{FznModel}
 use Rattle.constraint_model.specs.WellFormed.{IsGoalOf}
 use Rattle.branching.specs.Fronts.{left_by, right_by}
+use Rattle.branching.specs.Parts.{IsBranch}
 use Rattle.branching.specs.declared.branch.Branching.{Branching}
 use Rattle.trailed_box.specs.Trailed.{Trailed, Left, box_of as left_box}
 use Rattle.trailed_box.specs.declared.trailed.TrailedBox.{TrailedBox}
@@ -28,7 +31,7 @@ use Rattle.subproblem_walk.specs.Turns.{side_of, IsTurn, AreTurnsTo}
 use Rattle.subproblem_walk.specs.Beaten.{CostsFrom, IsBeaten, LeadsToBeaten, LeadsBelow}
 use Rattle.subproblem_walk.specs.Walks.{AreSteps, end_of, IsEnd, EndsAt, MayEndAt, IsWayTo, IsWayTowards, IsEndFor, IsBeatenEnd, IsEndAt, IsLedTo, IsBackAt, IsOnWay, IsPathAt, IsAnswer, box_of}
 use Rattle.subproblem_walk.proofs.TurnLemmas.{end_kept}
-use Rattle.subproblem_walk.proofs.WalkLemmas.{on_side}
+use Rattle.subproblem_walk.proofs.WalkLemmas.{can_again, on_side}
 
 -- ---- costs
 
@@ -137,15 +140,56 @@ turned_into half number turn rest left right Below found h k = elim (cases_lt nu
       subst (λ (x : Bool). Below (side_of x left right) rest found) (sym t.0) (subst (λ (n : ℕ). Below right n found) (sym t.1) (k.1 high))
 ]
 
-module _ (order : InsideOrder) (paths : PathLaws) (cuts : CutLaws) (model : FznModel) (kernels : List Kernel) (cost : ℤ) where
-  -- where the turns are on the way to a number and the box at their end is beaten, so is what the number leads to
+-- the greatest closed box of a box is its own
+closed_is_greatest : (order : InsideOrder) (kernels : List Kernel) (b g : Bounds) → IsGreatest g b kernels → IsGreatest g g kernels
+closed_is_greatest order kernels b g h = record { closed = h.closed; inside = order.itself g; greatest = λ c is_closed inside. inside }
+
+module _ (order : InsideOrder) (paths : PathLaws) (cuts : CutLaws) (model : FznModel) (kernels : List Kernel) (goal : IsGoalOf model.vars model.goal) (cost : ℤ) where
+  -- what lies in the greatest closed box of a beaten box costs as much
+  costs_below : (b g x : Bounds) → CanBeCut model kernels b → IsBeaten model kernels cost b → IsGreatest g b kernels → IsInside x g → CostsFrom model.goal cost x
+  costs_below b g x can h greatest inside =
+      let same = greatest.inside.same_length in
+      let long = can.long in
+      costs_inside model.vars model.goal cost g x goal (omega (arith, same, long)) inside (h g greatest.closed greatest.inside)
+
+  -- the parts of a box lie in its greatest closed box
+  parts_inside : (b g left right : Bounds) → CanBeCut model kernels b → IsGreatest g b kernels → IsBranch model g left right → IsInside left g × IsInside right g
+  parts_inside b g left right can greatest branch =
+      let can_closed = can_again model kernels b g can greatest.inside.same_length (order.in_range g b greatest.closed.proper can.in_range greatest.inside) in
+      let parts : IsCutInto model kernels g (Parted left right) = record { closed = g; greatest = closed_is_greatest order kernels b g greatest; branch = branch } in
+      ((cuts.left model kernels g left right can_closed parts).0, (cuts.right model kernels g left right can_closed parts).0)
+
+  -- what a part of a beaten box leads to costs as much
+  below_part : (depth number : ℕ) (b g part x : Bounds) → CanBeCut model kernels b → CanBeCut model kernels part → IsBeaten model kernels cost b → IsGreatest g b kernels → IsInside part g →
+      LeadsTo model kernels depth part number (Some x) → CostsFrom model.goal cost x
+  below_part depth number b g part x can can_part h greatest inside leads =
+      costs_below b g x can h greatest (order.through x part g (paths.inside model kernels depth part number x can_part leads) inside)
+
+  below_cut : (depth number : ℕ) (b x : Bounds) (cut : Cut) → CanBeCut model kernels b → IsBeaten model kernels cost b → IsCutInto model kernels b cut →
+      IsBelow cut (2 ^ depth) (LeadsTo model kernels depth) number (Some x) → CostsFrom model.goal cost x
+  below_cut depth number b x Failed can h is leads = absurd (let none : Some x ≡ None = leads in cc)
+  below_cut depth number b x (Fixed closed) can h is leads = dite (ℕ_discrete number 0)
+      (λ (e : number ≡ 0). let k : Some x ≡ Some closed = leads.0 e in let same : closed ≡ x = cc in subst (CostsFrom model.goal cost) same (h closed is.0.closed is.0.inside))
+      (λ (ne : number ≢ 0). let k : Some x ≡ None = leads.1 ne in absurd cc)
+  below_cut depth number b x (Parted left right) can h is leads = elim (cases_lt number (2 ^ depth)) [
+    | inl low ↦ below_part depth number b is.closed left x can (cuts.left model kernels b left right can is).1 h is.greatest (parts_inside b is.closed left right can is.greatest is.branch).0 (leads.0 low)
+    | inr high ↦ below_part depth (number - 2 ^ depth) b is.closed right x can (cuts.right model kernels b left right can is).1 h is.greatest
+        (parts_inside b is.closed left right can is.greatest is.branch).1 (leads.1 high)
+  ]
+
+  -- what a number leads to below a beaten box
+  below_beaten : (depth number : ℕ) (b : Bounds) → 0 < depth → CanBeCut model kernels b → IsBeaten model kernels cost b → LeadsToBeaten model kernels depth b number cost
+  below_beaten zero number b some can h = absurd (omega arith)
+  below_beaten (suc depth) number b some can h = λ x leads. below_cut depth number b x leads.0 can h leads.1 leads.2
+
+  -- where the turns are on the way to a number and the box at their end, above what it leads to, is beaten, that costs as much
   past : (depth number below rest : ℕ) (b : Bounds) (turns : List Turn) (way : List Left) → CanBeCut model kernels b → AreSteps model kernels b turns way →
-      AreTurnsTo depth number turns below rest → IsBeaten model kernels cost (end_of b way) → LeadsToBeaten model kernels depth b number cost
-  past depth number below rest b [] [] can s t h = λ x leads c is_closed inside. h c is_closed (order.through c x b inside (paths.inside model kernels depth b number x can leads))
-  past depth number below rest b [] (left ∷ way) can s t h = absurd s
-  past depth number below rest b (turn ∷ turns) [] can s t h = absurd s
-  past zero number below rest b (turn ∷ turns) (left ∷ way) can s t h = absurd t
-  past (suc depth) number below rest b (turn ∷ turns) (left ∷ way) can s t h = λ x leads.
+      AreTurnsTo depth number turns below rest → 0 < below → IsBeaten model kernels cost (end_of b way) → LeadsToBeaten model kernels depth b number cost
+  past depth number below rest b [] [] can s t some h = below_beaten depth number b (subst (λ (n : ℕ). 0 < n) t.0 some) can h
+  past depth number below rest b [] (left ∷ way) can s t some h = absurd s
+  past depth number below rest b (turn ∷ turns) [] can s t some h = absurd s
+  past zero number below rest b (turn ∷ turns) (left ∷ way) can s t some h = absurd t
+  past (suc depth) number below rest b (turn ∷ turns) (left ∷ way) can s t some h = λ x leads.
       let first : Bounds = left_by left.base turn.branching in
       let second : Bounds = right_by left.base turn.branching in
       let parts : IsCutInto model kernels b (Parted first second) = record { closed = left.base; greatest = s.0.greatest; branch = s.0.parted.branch } in
@@ -156,7 +200,7 @@ module _ (order : InsideOrder) (paths : PathLaws) (cuts : CutLaws) (model : FznM
       turned_into (2 ^ depth) number turn.goes_right t.0 first second (LeadsTo model kernels depth) (Some x) t.1 on in
       let can_side : CanBeCut model kernels (side_of turn.goes_right first second) =
       on_side (CanBeCut model kernels) turn.goes_right first second (cuts.left model kernels b first second can parts).1 (cuts.right model kernels b first second can parts).1 in
-      past depth t.0 below rest (left_box left) turns way (subst (CanBeCut model kernels) (sym s.0.taken) can_side) s.1 t.2 h x
+      past depth t.0 below rest (left_box left) turns way (subst (CanBeCut model kernels) (sym s.0.taken) can_side) s.1 t.2 some h x
       (subst (λ (side_box : Bounds). LeadsTo model kernels depth side_box t.0 (Some x)) (sym s.0.taken) side)
 
 -- ---- answers
@@ -180,24 +224,28 @@ module _ (model : FznModel) (kernels : List Kernel) (start : Bounds) (depth numb
   found_inside paths can end None h = tt
   found_inside paths can end (Some b) h = paths.inside model kernels depth start number b can (given_path end b h)
 
-  module _ (order : InsideOrder) (paths : PathLaws) (cuts : CutLaws) (can : CanBeCut model kernels start) (best : Option ℤ) where
+  module _ (order : InsideOrder) (paths : PathLaws) (cuts : CutLaws) (can : CanBeCut model kernels start) (best : Option ℤ) (goal : IfSome best (λ z. IsGoalOf model.vars model.goal)) where
     lower_past : (cost : ℤ) (o : Option ℤ) → MatchOption o ⊥ (λ lowest. lowest ≤ℤ cost) → LeadsToBeaten model kernels depth start number cost →
         MatchOption o ⊥ (λ lowest. LeadsToBeaten model kernels depth start number lowest)
     lower_past cost None e h = absurd e
-    lower_past cost (Some lowest) e h = λ b leads c is_closed inside. costs_lower model.goal cost lowest c e (h b leads c is_closed inside)
+    lower_past cost (Some lowest) e h = λ b leads. costs_lower model.goal cost lowest b e (h b leads)
 
-    end_below : (below rest : ℕ) (turns : List Turn) (way : List Left) (end : End) → AreSteps model kernels start turns way → AreTurnsTo depth number turns below rest →
+    goal_there : (cost : ℤ) (o : Option ℤ) → MatchOption o ⊥ (λ lowest. lowest ≤ℤ cost) → IfSome o (λ z. IsGoalOf model.vars model.goal) → IsGoalOf model.vars model.goal
+    goal_there cost None e is = absurd e
+    goal_there cost (Some lowest) e is = is
+
+    end_below : (below rest : ℕ) (turns : List Turn) (way : List Left) (end : End) → AreSteps model kernels start turns way → AreTurnsTo depth number turns below rest → MayEndAt below end →
         IsEnd model kernels (end_of start way) end → IsEndFor best end → IsPathAt model kernels depth start number end None → LeadsBelow model kernels depth start number best None
-    end_below below rest turns way End.Part s t known e h = inl h
-    end_below below rest turns way End.Failed s t known e h = inl h
-    end_below below rest turns way End.Fixed s t known e h = inl h
-    end_below below rest turns way (End.Beaten cost) s t known e h =
-        inr (refl, lower_past cost best e (past order paths cuts model kernels cost depth number below rest start turns way can s t known))
+    end_below below rest turns way End.Part s t ends known e h = inl h
+    end_below below rest turns way End.Failed s t ends known e h = inl h
+    end_below below rest turns way End.Fixed s t ends known e h = inl h
+    end_below below rest turns way (End.Beaten cost) s t ends known e h =
+        inr (refl, lower_past cost best e (past order paths cuts model kernels (goal_there cost best e goal) cost depth number below rest start turns way can s t ends known))
 
     none_below : (walk : Walk) (own : Option TrailedBox) → MatchOption own ⊥ (λ boxes. IsOnWay model kernels start walk boxes) → (way : IsWayTowards depth number walk) → IsEndFor best walk.end →
         IsPathAt model kernels depth start number walk.end None → LeadsBelow model kernels depth start number best None
     none_below walk None on way e h = absurd on
-    none_below walk (Some boxes) on way e h = end_below way.below way.rest walk.turns.items on.way walk.end on.stands.steps way.turns on.stands.end e h
+    none_below walk (Some boxes) on way e h = end_below way.below way.rest walk.turns.items on.way walk.end on.stands.steps way.turns way.ends on.stands.end e h
 
     -- it is told what the number leads to, or nothing where that is beaten
     pub answer_below : (walk : Walk) (found : Option Subproblem) → IsAnswer model kernels start depth number best walk found → LeadsBelow model kernels depth start number best (box_of found)

@@ -20,9 +20,10 @@ CostsFrom (Goal.Maximize (Term.Number n)) cost b = ⊥
 abbrev pub IsBeaten : FznModel → List Kernel → ℤ → Bounds → Type 0
 IsBeaten model kernels cost b = (c : Bounds) → IsClosed c kernels → IsInside c b → CostsFrom model.goal cost c
 
--- where the number leads to a box, that is beaten
+-- where the number leads to a box, each number that it has for the objective costs at least so much: it needs no propagation
+-- to see that nothing in it costs less
 abbrev pub LeadsToBeaten : FznModel → List Kernel → ℕ → Bounds → ℕ → ℤ → Type 0
-LeadsToBeaten model kernels depth start number cost = (b : Bounds) → LeadsTo model kernels depth start number (Some b) → IsBeaten model kernels cost b
+LeadsToBeaten model kernels depth start number cost = (b : Bounds) → LeadsTo model kernels depth start number (Some b) → CostsFrom model.goal cost b
 
 -- what the number leads to; or nothing where there is a best cost, and it beats what the number leads to
 abbrev pub LeadsBelow : FznModel → List Kernel → ℕ → Bounds → ℕ → Option ℤ → Option Bounds → Type 0

@@ -202,6 +202,60 @@ const DIFFERENT_AND_TASKS: &[Case] = &[
     ),
 ];
 
+/// A duration, a usage or a limit is told to be negative before it is told to be out of range; elsewhere both signs are out of range.
+const LONG_LITERALS_OF_TASKS: &[Case] = &[
+    (
+        6,
+        "",
+        "constraint pccp_cumulative([1], [-140737488355328], [1], 1);",
+    ),
+    (
+        6,
+        "var 1..2: x; ",
+        "constraint pccp_cumulative([x], [1], [-140737488355328], 1);",
+    ),
+    (
+        6,
+        "",
+        "constraint pccp_cumulative([1], [1], [1], -140737488355328);",
+    ),
+    (
+        6,
+        "",
+        "constraint pccp_cumulative([1], [1], [1], -99999999999999999999999);",
+    ),
+    (
+        6,
+        "",
+        "constraint pccp_cumulative([1], [-0xffffffffffffffffffff], [1], 1);",
+    ),
+    (
+        6,
+        "",
+        "constraint pccp_cumulative([1, 1], [1, 1], [140737488355328, -140737488355328], 1);",
+    ),
+    (
+        8,
+        "",
+        "constraint pccp_cumulative([1, 1], [1, 1], [1, 140737488355328], 1);",
+    ),
+    (
+        8,
+        "",
+        "constraint pccp_cumulative([1], [1], [1], 99999999999999999999999);",
+    ),
+    (
+        8,
+        "",
+        "constraint pccp_cumulative([-140737488355328], [1], [1], 1);",
+    ),
+    (
+        8,
+        "",
+        "array [1..1] of int: r = [-140737488355328]; constraint pccp_cumulative([1], [1], r, 1);",
+    ),
+];
+
 /// All tables.
 const TABLES: &[&[Case]] = &[
     NAMES_AND_CONSTRAINTS,
@@ -210,6 +264,7 @@ const TABLES: &[&[Case]] = &[
     LEAST_OF_TWO,
     LEAST_OF_TWO_GREATER,
     DIFFERENT_AND_TASKS,
+    LONG_LITERALS_OF_TASKS,
 ];
 
 #[test]

@@ -251,14 +251,14 @@ const ARRAYS: &[Case] = &[
     },
 ];
 
-/// Names are told apart whose hints would all be at the same places, as those that differ in underscores, and long ones are found.
+/// Names that differ in underscores alone are told apart, and long ones are found.
 const NAMES: &[Case] = &[Case {
     part: Part::Constraints,
     text: "var 0..0: a1; var 0..1: a_1; var 0..2: a__1; var 0..3: a___1; var 0..4: a____1; \
         var 0..5: a_____1; var 0..6: a______1; var 0..7: a_______1; var 0..8: a________1; var 0..9: a_________1; \
-        int: a__________1 = 7; array [1..1] of int: a___________1 = [5]; var 0..9: a_name_of_more_bytes_than_a_hint_has; \
+        int: a__________1 = 7; array [1..1] of int: a___________1 = [5]; var 0..9: a_name_of_more_than_22_bytes; \
         constraint int_le(a1, a_1); constraint int_le(a_______1, a____1); constraint int_le(a_________1, a________1); \
-        constraint int_le(a_name_of_more_bytes_than_a_hint_has, a__________1); constraint int_lin_le(a___________1, [a__1], 3); solve satisfy;",
+        constraint int_le(a_name_of_more_than_22_bytes, a__________1); constraint int_lin_le(a___________1, [a__1], 3); solve satisfy;",
     shown: "int_le #0 #1 \n\
                     int_le #7 #4 \n\
                     int_le #9 #8 \n\

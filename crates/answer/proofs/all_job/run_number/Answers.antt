@@ -28,7 +28,7 @@ pub run_all_from-requires-clause-made : goal.run_all_from-requires-clause-made
 run_all_from-requires-clause-made g c = λ ks b. subst (IsMadeFrom (kernels_in c.args.job.now.plan.now)) c.in-Some.is c.in_ok-subproblem.ensures.made
 
 pub run_all_from-requires-clause-searcher : goal.run_all_from-requires-clause-searcher
-run_all_from-requires-clause-searcher g c = λ ks b. kept_inside (kernels_in c.args.job.now.plan.now) c.in-Some.found.boxes.current c.args.job.now.plan.now.run.now.program.now.start c.args.own.now.kept (subst (λ (f : Option Subproblem). IfSome (box_of f) (λ b. IsInside b c.args.job.now.plan.now.run.now.program.now.start)) c.in-Some.is c.in_ok-subproblem.ensures.inside) c.requires.owns.kept
+run_all_from-requires-clause-searcher g c = λ ks b. kept_inside (kernels_in c.args.job.now.plan.now) c.args.job.now.plan.now.run.now.lanes c.in-Some.found.boxes.current c.args.job.now.plan.now.run.now.program.now.start c.args.own.now.kept (subst (λ (f : Option Subproblem). IfSome (box_of f) (λ b. IsInside b c.args.job.now.plan.now.run.now.program.now.start)) c.in-Some.is c.in_ok-subproblem.ensures.inside) c.requires.owns.kept
 
 pub returns-in_ok-over-in-Some : goal.returns-in_ok-over-in-Some
 returns-in_ok-over-in-Some g c =
@@ -42,7 +42,7 @@ returns-in_ok-over-in-Some g c =
             (taken_back plan c.requires.plan c.subproblem.new.walk c.in-Some.found c.in_ok-over-in-Some.over.boxes
             (subst (StandsUnder (model_of plan) (kernels_in plan) plan.start.now c.subproblem.new.walk) c.in-Some.is c.in_ok-subproblem.ensures.under)
             (subst (λ (f : Option Subproblem). IfSome (box_of f) (λ b. IsInside b plan.run.now.program.now.start)) c.in-Some.is c.in_ok-subproblem.ensures.inside) c.in_ok-over-in-Some.ensures.over.0 c.in_ok-over-in-Some.ensures.over.1);
-        kept = kept_around (kernels_in plan) c.in-Some.found.boxes.current plan.run.now.program.now.start c.run_all_from.new.kept (subst (λ (f : Option Subproblem). IfSome (box_of f) (λ b. IsInside b c.args.job.now.plan.now.run.now.program.now.start)) c.in-Some.is c.in_ok-subproblem.ensures.inside) c.run_all_from.ensures.searcher;
+        kept = kept_around (kernels_in plan) plan.run.now.lanes c.in-Some.found.boxes.current plan.run.now.program.now.start c.run_all_from.new.kept (subst (λ (f : Option Subproblem). IfSome (box_of f) (λ b. IsInside b c.args.job.now.plan.now.run.now.program.now.start)) c.in-Some.is c.in_ok-subproblem.ensures.inside) c.run_all_from.ensures.searcher;
       };
       run = λ runs h. all_run_some plan c.requires.plan c.args.number c.in-Some.found.boxes.current c.in_ok-over-in-Some.over.end runs
           (subst (λ (f : Option Subproblem). LeadsTo (model_of plan) (kernels_in plan) plan.options.depth plan.start.now c.args.number (box_of f)) c.in-Some.is c.in_ok-subproblem.ensures.path)

@@ -14,4 +14,4 @@ returns g c =
     c.law_in_declaration_order.ensures c.law_records_solutions.ensures model is.is_run.model.search is.is_run.model.objective (is_program model run.program.now is.is_run.program) c.args.options
     (record { solutions = c.in_ok-solutions.solutions; mark = c.mark_of-mark.result }) c.in_ok-ends.ends c.as_slice.result.now
     (subst (λ (b : Bounds). AreFirstResults model c.args.options b c.in_ok-ends.ends) is.is_run.program.start c.in_ok-ends.ensures.ends) c.requires.satisfy c.requires.first
-    (c.in_ok-solutions.ensures ∙ c.first_of.ensures) c.as_slice.ensures c.is_any_spent-is_spent.result c.is_any_spent-is_spent.ensures.spent c.is_any_spent-is_spent.ensures.unspent c.mark_of-mark.ensures
+    (c.in_ok-solutions.ensures ∙ c.first_of.ensures) c.as_slice.ensures c.is_open-open_part.result c.is_open-open_part.ensures.open_part c.is_open-open_part.ensures.none_open c.mark_of-mark.ensures

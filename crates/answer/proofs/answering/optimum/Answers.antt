@@ -6,8 +6,7 @@ use Rattle.search.specs.Costs.{IsObjectiveIn}
 use Rattle.answer.specs.Cuts.{cut_to}
 use Rattle.answer.specs.Results.{AreFirstResults, first_collected}
 use Rattle.answer.proofs.ListedLaws.{is_program, long_start}
-use Rattle.answer.proofs.ObjectiveLaws.{within_length, cut_inside}
-use Rattle.answer.proofs.CoverLaws.{has_cost}
+use Rattle.answer.proofs.ObjectiveLaws.{has_cost, within_length, cut_inside}
 use Rattle.answer.proofs.NumberLaws.{objective_of, bounds_within}
 use Rattle.answer.proofs.GivenLaws.{second_given}
 use Rattle.answer.proofs.answering.optimum.Goals as goal
@@ -39,6 +38,7 @@ first_ends-requires-clause-plan g c = λ lifetimes outlive.
     let cut = c.cut_to_value.ensures cost.0 (ap (cost_of run.model.now.goal) c.as_slice.ensures ∙ cost.1) ∙ ap (cut_to run.model.now.goal cost.0) c.in_ok-cut.ensures in
     record {
       run = is.is_run;
+      lanes = is.lanes;
       node_limit = is.node_limit;
       round_limit = is.round_limit;
       depth = is.depth;
@@ -57,4 +57,4 @@ returns g c =
     (record { solutions = c.in_ok-solutions.solutions; mark = c.second_mark-mark.result }) c.requires.objective cost.0 c.args.best c.requires.best cost.1 c.in_ok-ends.ends c.as_slice-2.result.now
     (subst (λ (b : Bounds). AreFirstResults model c.args.options b c.in_ok-ends.ends) cut c.in_ok-ends.ensures.ends)
     (c.in_ok-solutions.ensures ∙ c.or_best.ensures (flat_map first_collected c.in_ok-ends.ends) c.first_of.ensures) c.as_slice-2.ensures
-    c.is_any_spent-is_spent.result c.is_any_spent-is_spent.ensures.spent c.is_any_spent-is_spent.ensures.unspent c.second_mark-mark.ensures.spent c.second_mark-mark.ensures.unspent
+    c.is_open-open_part.result c.is_open-open_part.ensures.open_part c.is_open-open_part.ensures.none_open c.second_mark-mark.ensures.open_part c.second_mark-mark.ensures.none_open

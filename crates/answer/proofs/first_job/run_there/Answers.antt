@@ -41,7 +41,7 @@ pub run_first_from-requires-clause-made : goal.run_first_from-requires-clause-ma
 run_first_from-requires-clause-made g c = λ ks b. subst (IsMadeFrom (kernels_in c.args.job.now.plan.now)) c.in-Some.is c.in_ok-subproblem.ensures.made
 
 pub run_first_from-requires-clause-searcher : goal.run_first_from-requires-clause-searcher
-run_first_from-requires-clause-searcher g c = λ ks b. kept_inside (kernels_in c.args.job.now.plan.now) c.in-Some.found.boxes.current c.args.job.now.plan.now.run.now.program.now.start c.args.own.now.kept (subst (λ (f : Option Subproblem). IfSome (box_of f) (λ b. IsInside b c.args.job.now.plan.now.run.now.program.now.start)) c.in-Some.is c.in_ok-subproblem.ensures.inside) c.requires.owns.kept
+run_first_from-requires-clause-searcher g c = λ ks b. kept_inside (kernels_in c.args.job.now.plan.now) c.args.job.now.plan.now.run.now.lanes c.in-Some.found.boxes.current c.args.job.now.plan.now.run.now.program.now.start c.args.own.now.kept (subst (λ (f : Option Subproblem). IfSome (box_of f) (λ b. IsInside b c.args.job.now.plan.now.run.now.program.now.start)) c.in-Some.is c.in_ok-subproblem.ensures.inside) c.requires.owns.kept
 
 pub returns-in_ok-over-in-Some : goal.returns-in_ok-over-in-Some
 returns-in_ok-over-in-Some g c =
@@ -55,7 +55,7 @@ returns-in_ok-over-in-Some g c =
             (taken_back plan c.requires.fits.0 c.subproblem.new.walk c.in-Some.found c.in_ok-over-in-Some.over.boxes
             (subst (StandsUnder (model_of plan) (kernels_in plan) plan.start.now c.subproblem.new.walk) c.in-Some.is c.in_ok-subproblem.ensures.under)
             (subst (λ (f : Option Subproblem). IfSome (box_of f) (λ b. IsInside b plan.run.now.program.now.start)) c.in-Some.is c.in_ok-subproblem.ensures.inside) c.in_ok-over-in-Some.ensures.over.0 c.in_ok-over-in-Some.ensures.over.1);
-        kept = kept_around (kernels_in plan) c.in-Some.found.boxes.current plan.run.now.program.now.start c.run_first_from.new.kept (subst (λ (f : Option Subproblem). IfSome (box_of f) (λ b. IsInside b c.args.job.now.plan.now.run.now.program.now.start)) c.in-Some.is c.in_ok-subproblem.ensures.inside) c.run_first_from.ensures.searcher;
+        kept = kept_around (kernels_in plan) plan.run.now.lanes c.in-Some.found.boxes.current plan.run.now.program.now.start c.run_first_from.new.kept (subst (λ (f : Option Subproblem). IfSome (box_of f) (λ b. IsInside b c.args.job.now.plan.now.run.now.program.now.start)) c.in-Some.is c.in_ok-subproblem.ensures.inside) c.run_first_from.ensures.searcher;
       };
       run = λ runs h. first_run_some plan c.requires.fits.0 (numbers_seen c.args.seat.now) (numbers_seen c.run_first_from.new.seat) (numbers_posted c.args.seat.now) (numbers_posted c.run_first_from.new.seat)
           c.args.number c.in-Some.found.boxes.current c.in_ok-over-in-Some.over.end runs

@@ -24,4 +24,4 @@ returns-clause-ends g c =
     (subst (λ (b : Bounds). AreLeastRuns (model_of plan) plan.options b (costs_seen c.run_all.new.seat) (costs_posted c.run_all.new.seat) made.runs) c.requires.start made.stand)
     (seen_was_posted c.seen.result (costs_seen c.run_all.new.seat) (costs_seen c.seen.new.seat) (costs_posted c.run_all.new.seat) (costs_posted c.seen.new.seat)
     c.seen.ensures.seen c.seen.ensures.posted (c.seen.ensures.all (c.seen.ensures.parts ∙ c.run_all.ensures.parts)))
-    made.in_order
+    made.in_order made.in_turn

@@ -1,9 +1,9 @@
-use Rattle.std.proofs.Common.{rules, ◌≡◌, ◌<◌, ℕ, length, map, get_or, ap, sym, subst, ◌∙◌}
+use Rattle.std.proofs.Common.{rules, ◌≡◌, ◌<◌, ℕ, length, map, get_or, ap, sym, subst, ◌∙◌, arith}
 use Rattle.std.proofs.lemmas.Result.{IfOk-weaker}
 use Rattle.std.specs.List.{All, AllZip}
 use Rattle.tickets.specs.Counting.{IsEachOnce}
 use Rattle.crew.specs.Rights.{KeepsSame, AreDrawn}
-use Rattle.crew.specs.Crews.{turns_of, HasAsked}
+use Rattle.crew.specs.Crews.{workers_of, turns_of, HasAsked}
 use Rattle.crew.specs.AtWork.{HaveRunSome, IsFirstSeat, MayStart, IsHired, IsBack}
 use Rattle.crew.specs.Ends.{AreEndsOf, AreInOrder, AreSomeRuns, numbers_of}
 use Rattle.crew.specs.declared.worker.Worker.{Worker}
@@ -64,10 +64,11 @@ returns-in_err-runs-clause-made g c = λ kept. on_err _ _
 pub returns-clause-ends : goal.returns-clause-ends
 returns-clause-ends g c =
     IfOk-weaker c.in_order.result (AreInOrder c.args.work.now.count c.in_ok-runs.runs.items)
-    (AreEndsOf c.args.work.now.count (g.J.Job.stands c.args.work.now.job.now c.gather.new.seat)) (λ ends order. record {
+    (AreEndsOf c.args.work.now.count (workers_of c.args.crew.now) (g.J.Job.stands c.args.work.now.job.now c.gather.new.seat)) (λ ends order. record {
       runs = c.in_ok-runs.runs.items;
       stand = c.in_ok-runs.ensures.run;
       in_order = order;
+      in_turn = λ sole. absurd (omega (arith, sole, c.requires.several));
     }) c.in_order.ensures
 
 pub returns-clause-made : goal.returns-clause-made

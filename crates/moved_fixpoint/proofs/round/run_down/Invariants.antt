@@ -1,5 +1,6 @@
-use Rattle.std.proofs.Common.{◌≡◌, ◌≤◌, length}
+use Rattle.std.proofs.Common.{◌≡◌, ◌≤◌, drop, length, Some}
 use Rattle.moved_fixpoint.specs.Heard.{GoesOn}
+use Rattle.moved_fixpoint.specs.Sweeps.{sweep_back}
 use Rattle.moved_fixpoint.specs.Resting.{FitRests, KeepStacks}
 use Rattle.moved_fixpoint.proofs.Rounding.{Stands}
 use Rattle.moved_fixpoint.proofs.round.run_down.Given as goal
@@ -12,6 +13,7 @@ invariant-kernels l = record {
   stacks : KeepStacks l.initial.sets.rests l.sets.rests;
   going : GoesOn l.progress;
   stands : Stands l.kernels l.initial.b.current l.left (length l.kernels) l.b.current l.sets.asked l.sets.rests l.progress;
+  swept : sweep_back (drop l.left l.kernels) l.initial.b.current ≡ Some l.b.current;
 }
 
 abbrev pub decreases-kernels : goal.decreases-kernels

@@ -1,5 +1,6 @@
-use Rattle.std.proofs.Common.{◌≡◌, ◌-◌, ◌≤◌, length}
+use Rattle.std.proofs.Common.{◌≡◌, ◌-◌, ◌≤◌, drop, length}
 use Rattle.moved_fixpoint.specs.Heard.{GoesOn}
+use Rattle.moved_fixpoint.specs.Sweeps.{sweep_forth}
 use Rattle.moved_fixpoint.specs.Resting.{FitRests, KeepStacks}
 use Rattle.moved_fixpoint.proofs.Rounding.{Stands}
 use Rattle.moved_fixpoint.proofs.round.run_up.Given as goal
@@ -12,6 +13,7 @@ invariant-kernels l = record {
   stacks : KeepStacks l.initial.sets.rests l.sets.rests;
   going : GoesOn l.progress;
   stands : Stands l.kernels l.initial.b.current 0 l.place l.b.current l.sets.asked l.sets.rests l.progress;
+  swept : sweep_forth l.kernels l.initial.b.current ≡ sweep_forth (drop l.place l.kernels) l.b.current;
 }
 
 abbrev pub decreases-kernels : goal.decreases-kernels

@@ -16,11 +16,11 @@ returns-clause-end g c =
 
 pub returns-clause-over : goal.returns-clause-over
 returns-clause-over g c =
-    given_back c.args.start.boxes c.into_parts-boxes.result.0 c.args.run.now.program.now.kernels c.in_ok-searcher.searcher c.search_all.new.searcher
+    given_back c.args.start.boxes c.into_parts-boxes.result.0 c.args.run.now.program.now.kernels c.args.run.now.lanes c.in_ok-searcher.searcher c.search_all.new.searcher
     c.in_ok-searcher.ensures.current c.in_ok-searcher.ensures.below c.in_ok-closing.ensures.again c.in_ok-closing.ensures.bottom c.into_parts-boxes.ensures.boxes c.into_parts-boxes.ensures.over
 
 pub returns-clause-searcher : goal.returns-clause-searcher
 returns-clause-searcher g c =
     let kernels = c.args.run.now.program.now.kernels in
-    c.keep.ensures.serves kernels _ (c.into_parts-boxes.ensures.spare kernels _
-    (serves_start c.args.start.boxes.current kernels c.in_ok-searcher.searcher c.search_all.new.searcher c.in_ok-searcher.ensures.current c.in_ok-closing.ensures.again))
+    c.keep.ensures.serves kernels _ _ (c.into_parts-boxes.ensures.spare kernels _ _
+    (serves_start c.args.start.boxes.current kernels c.args.run.now.lanes c.in_ok-searcher.searcher c.search_all.new.searcher c.in_ok-searcher.ensures.current c.in_ok-closing.ensures.again))

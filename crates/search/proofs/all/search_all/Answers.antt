@@ -1,4 +1,4 @@
-use Rattle.std.proofs.Common.{◌≡◌, None, ℕ, ◌+◌, refl, sym, subst, ◌∙◌, inl, inr, arith}
+use Rattle.std.proofs.Common.{◌≡◌, None, ℕ, ◌+◌, refl, sym, subst, ◌∙◌, inr, arith}
 use Rattle.search.specs.declared.kind.Kind.{Kind}
 use Rattle.search.specs.Machine.{begun}
 use Rattle.search.specs.Ends.{search_in}
@@ -11,7 +11,7 @@ pub boxes-init : goal.boxes-init
 boxes-init g c = record {
   count = 0;
   reached = begun (search_in c.args.run.now Kind.All c.args.searcher.now.boxes.current) (record { stack = boxes_of c.args.searcher.now; best = None; count = 0; found = c.new-found.result })
-      c.requires.boxes (inl refl) refl c.new-found.ensures;
+      c.requires.boxes refl refl c.new-found.ensures;
   counted = record { told = refl; within = inr (omega arith) };
   ready = c.requires.ready;
   same_count = refl;
@@ -26,7 +26,7 @@ boxes-smaller g c =
     let t = c.in_ok-node.ensures.visit in
     node_less (search_in c.args.run.now Kind.All c.args.searcher.now.boxes.current) (λ (e : Kind.All ≡ Kind.Least). absurd cc) (boxes_of c.boxes.searcher) c.boxes.invariant.count c.boxes.found c.boxes.invariant.reached
     c.law_inside_order.ensures c.law_branches.ensures c.requires.run.phases c.requires.run.long c.len-length.ensures.in_range t.rest t.top t.taken (boxes_of c.node.new.self) c.node.new.found
-    (of_done c.args.run.now.model.now c.args.run.now.program.now.kernels c.args.run.now.round_limit t.top t.rest (boxes_of c.node.new.self) c.boxes.found c.node.new.found c.in_ok-node.field-0 c.in-Done.is t.visit)
+    (of_done c.args.run.now.model.now c.args.run.now.program.now.kernels c.args.run.now.round_limit c.args.run.now.lanes t.top t.rest (boxes_of c.node.new.self) c.boxes.found c.node.new.found c.in_ok-node.field-0 c.in-Done.is t.visit)
 
 pub boxes-preserved : goal.boxes-preserved
 boxes-preserved g c =
@@ -35,7 +35,7 @@ boxes-preserved g c =
       count = c.boxes.invariant.count + 1;
       reached = node_reached (search_in c.args.run.now Kind.All c.args.searcher.now.boxes.current) (λ (e : Kind.All ≡ Kind.Least). absurd cc) (boxes_of c.boxes.searcher) c.boxes.invariant.count c.boxes.found c.boxes.invariant.reached
           t.rest t.top t.taken c.boxes.nodes c.if-is_full.ensures.short c.boxes.invariant.counted (λ (e : Kind.All ≡ Kind.First). absurd cc) c.if-is_full.ensures.below (boxes_of c.node.new.self) c.node.new.found
-          (of_done c.args.run.now.model.now c.args.run.now.program.now.kernels c.args.run.now.round_limit t.top t.rest (boxes_of c.node.new.self) c.boxes.found c.node.new.found c.in_ok-node.field-0 c.in-Done.is t.visit);
+          (of_done c.args.run.now.model.now c.args.run.now.program.now.kernels c.args.run.now.round_limit c.args.run.now.lanes t.top t.rest (boxes_of c.node.new.self) c.boxes.found c.node.new.found c.in_ok-node.field-0 c.in-Done.is t.visit);
       counted = (counted_more c.args.run.now.node_limit c.boxes.nodes c.boxes.invariant.count c.counted-nodes.result c.if-is_full.ensures.short c.boxes.invariant.counted c.if-is_full.ensures.below
           c.counted-nodes.ensures.more c.counted-nodes.ensures.most);
       ready = c.in_ok-node.ensures.ready c.in-Done.is;
@@ -46,7 +46,7 @@ boxes-preserved g c =
 pub returns-in-GivenUp-clause-closing : goal.returns-in-GivenUp-clause-closing
 returns-in-GivenUp-clause-closing g c =
     let t = c.in_ok-node.ensures.visit in
-    let up = (of_given_up c.args.run.now.model.now c.args.run.now.program.now.kernels c.args.run.now.round_limit t.top t.rest (boxes_of c.node.new.self) c.boxes.found c.node.new.found c.in_ok-node.field-0 c.in-GivenUp.is t.visit) in
+    let up = (of_given_up c.args.run.now.model.now c.args.run.now.program.now.kernels c.args.run.now.round_limit c.args.run.now.lanes t.top t.rest (boxes_of c.node.new.self) c.boxes.found c.node.new.found c.in_ok-node.field-0 c.in-GivenUp.is t.visit) in
     out_of_rounds (search_in c.args.run.now Kind.All c.args.searcher.now.boxes.current) (λ (e : Kind.All ≡ Kind.Least). absurd cc) (boxes_of c.boxes.searcher) c.boxes.invariant.count c.boxes.found c.boxes.invariant.reached
     t.rest t.top t.taken c.boxes.nodes c.if-is_full.ensures.short c.boxes.invariant.counted (λ (e : Kind.All ≡ Kind.First). absurd cc) c.if-is_full.ensures.below c.counted-nodes.result c.node.new.found
     (counted_more c.args.run.now.node_limit c.boxes.nodes c.boxes.invariant.count c.counted-nodes.result c.if-is_full.ensures.short c.boxes.invariant.counted c.if-is_full.ensures.below

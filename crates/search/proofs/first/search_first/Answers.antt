@@ -1,4 +1,4 @@
-use Rattle.std.proofs.Common.{◌≡◌, None, ℕ, ◌+◌, [], ◌∷◌, refl, sym, ap, subst, ◌∙◌, inl, inr, arith}
+use Rattle.std.proofs.Common.{◌≡◌, None, ℕ, ◌+◌, [], ◌∷◌, refl, sym, ap, subst, ◌∙◌, inr, arith}
 use Rattle.search.specs.declared.kind.Kind.{Kind}
 use Rattle.search.specs.declared.ends.Why.{Why}
 use Rattle.search.specs.Machine.{begun}
@@ -13,7 +13,7 @@ pub boxes-init : goal.boxes-init
 boxes-init g c = record {
   count = 0;
   reached = begun (search_in c.args.run.now Kind.First c.args.searcher.now.boxes.current) (record { stack = boxes_of c.args.searcher.now; best = None; count = 0; found = c.new-solutions.result })
-      c.requires.boxes (inl refl) refl c.new-solutions.ensures;
+      c.requires.boxes refl refl c.new-solutions.ensures;
   counted = record { told = refl; within = inr (omega arith) };
   sought = c.new-solutions.ensures;
   ready = c.requires.ready;
@@ -34,7 +34,7 @@ boxes-smaller g c =
     let t = c.in_ok-node.ensures.visit in
     node_less (search_in c.args.run.now Kind.First c.args.searcher.now.boxes.current) (λ (e : Kind.First ≡ Kind.Least). absurd cc) (boxes_of c.boxes.searcher) c.boxes.invariant.count c.boxes.solutions c.boxes.invariant.reached
     c.law_inside_order.ensures c.law_branches.ensures c.requires.run.phases c.requires.run.long c.len-length.ensures.in_range t.rest t.top t.taken (boxes_of c.node.new.self) c.node.new.found
-    (of_done c.args.run.now.model.now c.args.run.now.program.now.kernels c.args.run.now.round_limit t.top t.rest (boxes_of c.node.new.self) c.boxes.solutions c.node.new.found c.in_ok-node.field-0 c.in-Done.is t.visit)
+    (of_done c.args.run.now.model.now c.args.run.now.program.now.kernels c.args.run.now.round_limit c.args.run.now.lanes t.top t.rest (boxes_of c.node.new.self) c.boxes.solutions c.node.new.found c.in_ok-node.field-0 c.in-Done.is t.visit)
 
 pub boxes-preserved : goal.boxes-preserved
 boxes-preserved g c =
@@ -43,7 +43,7 @@ boxes-preserved g c =
       count = c.boxes.invariant.count + 1;
       reached = node_reached (search_in c.args.run.now Kind.First c.args.searcher.now.boxes.current) (λ (e : Kind.First ≡ Kind.Least). absurd cc) (boxes_of c.boxes.searcher) c.boxes.invariant.count c.boxes.solutions c.boxes.invariant.reached
           t.rest t.top t.taken c.boxes.nodes c.if-is_full.ensures.short c.boxes.invariant.counted (λ e. c.boxes.invariant.sought) c.if-is_full.ensures.below (boxes_of c.node.new.self) c.node.new.found
-          (of_done c.args.run.now.model.now c.args.run.now.program.now.kernels c.args.run.now.round_limit t.top t.rest (boxes_of c.node.new.self) c.boxes.solutions c.node.new.found c.in_ok-node.field-0 c.in-Done.is t.visit);
+          (of_done c.args.run.now.model.now c.args.run.now.program.now.kernels c.args.run.now.round_limit c.args.run.now.lanes t.top t.rest (boxes_of c.node.new.self) c.boxes.solutions c.node.new.found c.in_ok-node.field-0 c.in-Done.is t.visit);
       counted = (counted_more c.args.run.now.node_limit c.boxes.nodes c.boxes.invariant.count c.counted-nodes.result c.if-is_full.ensures.short c.boxes.invariant.counted c.if-is_full.ensures.below
           c.counted-nodes.ensures.more c.counted-nodes.ensures.most);
       sought = of_false c.is_found.result (c.node.new.found ≡ []) c.if-is_found.false c.is_found.ensures.none;
@@ -61,7 +61,7 @@ boxes-preserved g c =
 pub returns-in-GivenUp-clause-end : goal.returns-in-GivenUp-clause-end
 returns-in-GivenUp-clause-end g c =
     let t = c.in_ok-node.ensures.visit in
-    let up = (of_given_up c.args.run.now.model.now c.args.run.now.program.now.kernels c.args.run.now.round_limit t.top t.rest (boxes_of c.node.new.self) c.boxes.solutions c.node.new.found c.in_ok-node.field-0 c.in-GivenUp.is t.visit) in
+    let up = (of_given_up c.args.run.now.model.now c.args.run.now.program.now.kernels c.args.run.now.round_limit c.args.run.now.lanes t.top t.rest (boxes_of c.node.new.self) c.boxes.solutions c.node.new.found c.in_ok-node.field-0 c.in-GivenUp.is t.visit) in
     first_spent (search_in c.args.run.now Kind.First c.args.searcher.now.boxes.current) refl Why.Rounds c.counted-nodes.result c.node.new.found
     (out_of_rounds (search_in c.args.run.now Kind.First c.args.searcher.now.boxes.current) (λ (e : Kind.First ≡ Kind.Least). absurd cc) (boxes_of c.boxes.searcher) c.boxes.invariant.count c.boxes.solutions c.boxes.invariant.reached
     t.rest t.top t.taken c.boxes.nodes c.if-is_full.ensures.short c.boxes.invariant.counted (λ e. c.boxes.invariant.sought) c.if-is_full.ensures.below c.counted-nodes.result c.node.new.found
@@ -75,7 +75,7 @@ returns-then-is_found-clause-end g c =
     let done = done_first (search_in c.args.run.now Kind.First c.args.searcher.now.boxes.current) (λ (e : Kind.First ≡ Kind.Least). absurd cc) (boxes_of c.node.new.self) (c.boxes.invariant.count + 1) c.node.new.found
     (node_reached (search_in c.args.run.now Kind.First c.args.searcher.now.boxes.current) (λ (e : Kind.First ≡ Kind.Least). absurd cc) (boxes_of c.boxes.searcher) c.boxes.invariant.count c.boxes.solutions c.boxes.invariant.reached
     t.rest t.top t.taken c.boxes.nodes c.if-is_full.ensures.short c.boxes.invariant.counted (λ e. c.boxes.invariant.sought) c.if-is_full.ensures.below (boxes_of c.node.new.self) c.node.new.found
-    (of_done c.args.run.now.model.now c.args.run.now.program.now.kernels c.args.run.now.round_limit t.top t.rest (boxes_of c.node.new.self) c.boxes.solutions c.node.new.found c.in_ok-node.field-0 c.in-Done.is t.visit)) (refl, some) in
+    (of_done c.args.run.now.model.now c.args.run.now.program.now.kernels c.args.run.now.round_limit c.args.run.now.lanes t.top t.rest (boxes_of c.node.new.self) c.boxes.solutions c.node.new.found c.in_ok-node.field-0 c.in-Done.is t.visit)) (refl, some) in
     first_done c.law_inside_order.ensures c.law_branches.ensures c.law_every_list.ensures (search_in c.args.run.now Kind.First c.args.searcher.now.boxes.current) refl c.requires.run.phases c.requires.run.long c.len-length.ensures.in_range c.requires.run.kernels c.node.new.found done
     c.pop.result
     (popped_is_head c.node.new.found c.pop.new.self.items c.into_vec.result.items c.pop.result c.into_vec.result.len c.pop.new.self.len

@@ -5,4 +5,4 @@ use Rattle.answer.proofs.first_job.FirstJobJobFoundSeatOwnFirstEnd.own.Goals as 
 pub returns : goal.returns
 returns g c =
     let plan = c.args.self.now.plan.now in
-    c.new-own.ensures (model_of plan) (kernels_in plan) plan.start.now (length plan.run.now.program.now.start)
+    c.new-own.ensures (model_of plan) (kernels_in plan) plan.start.now plan.run.now.lanes (length plan.run.now.program.now.start)

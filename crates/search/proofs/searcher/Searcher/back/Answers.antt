@@ -19,6 +19,7 @@ returns-in-None-clause-ready g c =
       left = record {
         sound = sound_none c.args.run.now.model.now kernels (own_on stack c.last.new.fronts.items) c.last.new.fronts.items none c.in-None.ensures.unchanged;
         fits = c.requires.left.fits;
+        lanes = c.requires.left.lanes;
         let_rest = subst (λ (ls : List Left). LetRest c.args.self.now.narrower kernels ls) (own_none stack c.args.self.now.fronts.items c.in-None.ensures.none ∙ sym none) c.requires.left.let_rest;
       };
       quiet = λ e. absurd (let f : false ≡ true = e in cc);
@@ -67,6 +68,7 @@ returns-in_ok-put-in-Some-clause-ready g c =
             (sound_pop model kernels mine others c.args.self.now.fronts.items fronts left more c.requires.left.sound.parts c.requires.left.sound.fronts c.in-Some.front c.in-Some.ensures.some);
         fits = subst (λ (n : ℕ). Fits c.put.new.narrower kernels n) (sym lengths)
             (c.in_ok-put-in-Some.ensures.fits kernels (length c.args.self.now.boxes.current) (c.back.ensures.fits kernels (length c.args.self.now.boxes.current) c.requires.left.fits));
+        lanes = c.in_ok-put-in-Some.ensures.lanes ∙ c.back.ensures.lanes ∙ c.requires.left.lanes;
         let_rest = subst (λ (ls : List Left). LetRest c.put.new.narrower kernels ls) (sym same) (c.in_ok-put-in-Some.ensures.let_rest kernels others (c.back.ensures.let_rest kernels others left layers));
       };
       quiet = λ _. c.in_ok-put-in-Some.ensures.quiet kernels (subst (λ (n : ℕ). All (IsKernel n) kernels) (sym c.unwind-part.ensures.same_length) c.requires.run.kernels)

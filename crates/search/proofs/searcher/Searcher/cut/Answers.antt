@@ -42,6 +42,7 @@ returns-in_ok-put-in-Some-clause-ready g c =
       left = record {
         sound = subst (λ (ls : List Left). AreSound c.args.run.now.model.now c.args.run.now.program.now.kernels (own_on ls c.args.self.now.fronts.items) c.args.self.now.fronts.items) (sym c.in_ok-put-in-Some.ensures.stack) c.requires.ready.left.sound;
         fits = subst (λ (n : ℕ). Fits c.put.new.narrower c.args.run.now.program.now.kernels n) (sym lengths) (c.in_ok-put-in-Some.ensures.fits c.args.run.now.program.now.kernels (length old) c.requires.ready.left.fits);
+        lanes = c.in_ok-put-in-Some.ensures.lanes ∙ c.requires.ready.left.lanes;
         let_rest = subst (λ (ls : List Left). LetRest c.put.new.narrower c.args.run.now.program.now.kernels (own_on ls c.args.self.now.fronts.items)) (sym c.in_ok-put-in-Some.ensures.stack)
             (c.in_ok-put-in-Some.ensures.let_rest c.args.run.now.program.now.kernels (own_of c.args.self.now) c.requires.ready.left.let_rest);
       };

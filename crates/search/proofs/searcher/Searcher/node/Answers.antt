@@ -1,7 +1,7 @@
 use Rattle.std.proofs.Common.{List, [], ◌∷◌, ◌++◌, ap, sym, subst, refl, ◌∙◌}
 use Rattle.branching.specs.declared.fronts.Front.{Front}
 use Rattle.trailed_box.specs.Trailed.{Left, boxes_of as left_boxes}
-use Rattle.narrowing.specs.Narrowing.{IsNarrowed}
+use Rattle.narrowing.specs.Narrowing.{IsNarrowed, IsNarrowedAlone}
 use Rattle.narrowing.specs.Narrowers.{LetsRestWhereFixed}
 use Rattle.search.specs.Nodes.{IsSettled}
 use Rattle.search.specs.Stacks.{boxes_of, own_of, IsFrontNear}
@@ -14,13 +14,16 @@ cut-requires-clause-open g c = opened c.args.self.now.is_open (left_boxes (own_o
 
 pub returns-in-GivenUp-clause-visit : goal.returns-in-GivenUp-clause-visit
 returns-in-GivenUp-clause-visit g c =
-    top_given_up c.args.run.now.model.now c.args.run.now.program.now.kernels c.args.run.now.round_limit c.args.best (boxes_of c.args.self.now) (left_boxes (own_of c.args.self.now)) (boxes_of c.narrow.new.self) c.args.self.now.boxes.current c.cut.new.self.boxes.current c.args.found.now c.args.found.now
-    (when_open c.args.self.now.is_open _ (opened c.args.self.now.is_open _ c.requires.next)) c.in_ok-cut.ensures.current (subst (IsNarrowed c.args.run.now.program.now.kernels c.args.run.now.round_limit c.cut.new.self.boxes.current c.narrow.new.self.boxes.current) c.in-GivenUp.is c.in_ok-narrow.ensures.narrowed).0 refl
+    top_given_up c.args.run.now.model.now c.args.run.now.program.now.kernels c.args.run.now.round_limit c.args.run.now.lanes c.args.best (boxes_of c.args.self.now) (left_boxes (own_of c.args.self.now)) (boxes_of c.narrow.new.self) c.args.self.now.boxes.current c.cut.new.self.boxes.current c.args.found.now c.args.found.now
+    (when_open c.args.self.now.is_open _ (opened c.args.self.now.is_open _ c.requires.next)) c.in_ok-cut.ensures.current (subst (IsNarrowed c.args.run.now.program.now.kernels c.args.run.now.round_limit c.cut.new.self.boxes.current c.narrow.new.self.boxes.current) c.in-GivenUp.is c.in_ok-narrow.ensures.narrowed).0
+    (λ one. subst (IsNarrowedAlone c.args.run.now.program.now.kernels c.args.run.now.round_limit c.cut.new.self.boxes.current) c.in-GivenUp.is (c.in_ok-narrow.ensures.alone one)) refl
 
 pub returns-in_ok-back-in-Failed-clause-visit : goal.returns-in_ok-back-in-Failed-clause-visit
 returns-in_ok-back-in-Failed-clause-visit g c =
-    top_dropped c.args.run.now.model.now c.args.run.now.program.now.kernels c.args.run.now.round_limit c.args.best (boxes_of c.args.self.now) (left_boxes (own_of c.args.self.now)) (boxes_of c.back.new.self) c.args.self.now.boxes.current c.cut.new.self.boxes.current c.args.found.now c.args.found.now
-    (when_open c.args.self.now.is_open _ (opened c.args.self.now.is_open _ c.requires.next)) c.in_ok-cut.ensures.current (subst (IsNarrowed c.args.run.now.program.now.kernels c.args.run.now.round_limit c.cut.new.self.boxes.current c.narrow.new.self.boxes.current) c.in-Failed.is c.in_ok-narrow.ensures.narrowed).0
+    top_dropped c.args.run.now.model.now c.args.run.now.program.now.kernels c.args.run.now.round_limit c.args.run.now.lanes c.args.best (boxes_of c.args.self.now) (left_boxes (own_of c.args.self.now)) (boxes_of c.back.new.self) c.args.self.now.boxes.current c.cut.new.self.boxes.current c.args.found.now c.args.found.now
+    (when_open c.args.self.now.is_open _ (opened c.args.self.now.is_open _ c.requires.next)) c.in_ok-cut.ensures.current
+    (λ one. subst (IsNarrowedAlone c.args.run.now.program.now.kernels c.args.run.now.round_limit c.cut.new.self.boxes.current) c.in-Failed.is (c.in_ok-narrow.ensures.alone one))
+    (subst (IsNarrowed c.args.run.now.program.now.kernels c.args.run.now.round_limit c.cut.new.self.boxes.current c.narrow.new.self.boxes.current) c.in-Failed.is c.in_ok-narrow.ensures.narrowed).0
     (c.in_ok-back-in-Failed.ensures.boxes ∙ ap left_boxes (c.in_ok-narrow.ensures.own ∙ c.in_ok-cut.ensures.own)) refl
 
 pub settle-requires-clause-closed : goal.settle-requires-clause-closed
@@ -36,8 +39,10 @@ settle-requires-clause-front g c =
 
 pub returns-in_ok-settle-in-Fixed-clause-visit : goal.returns-in_ok-settle-in-Fixed-clause-visit
 returns-in_ok-settle-in-Fixed-clause-visit g c =
-    top_settled c.args.run.now.model.now c.args.run.now.program.now.kernels c.args.run.now.round_limit c.args.best (boxes_of c.args.self.now) (left_boxes (own_of c.args.self.now)) (boxes_of c.settle.new.self) c.args.self.now.boxes.current c.cut.new.self.boxes.current c.args.found.now c.settle.new.found
-    (when_open c.args.self.now.is_open _ (opened c.args.self.now.is_open _ c.requires.next)) c.in_ok-cut.ensures.current c.narrow.new.self.boxes.current (subst (IsNarrowed c.args.run.now.program.now.kernels c.args.run.now.round_limit c.cut.new.self.boxes.current c.narrow.new.self.boxes.current) c.in-Fixed.is c.in_ok-narrow.ensures.narrowed).0
+    top_settled c.args.run.now.model.now c.args.run.now.program.now.kernels c.args.run.now.round_limit c.args.run.now.lanes c.args.best (boxes_of c.args.self.now) (left_boxes (own_of c.args.self.now)) (boxes_of c.settle.new.self) c.args.self.now.boxes.current c.cut.new.self.boxes.current c.args.found.now c.settle.new.found
+    (when_open c.args.self.now.is_open _ (opened c.args.self.now.is_open _ c.requires.next)) c.in_ok-cut.ensures.current
+    (λ one. subst (IsNarrowedAlone c.args.run.now.program.now.kernels c.args.run.now.round_limit c.cut.new.self.boxes.current) c.in-Fixed.is (c.in_ok-narrow.ensures.alone one))
+    c.narrow.new.self.boxes.current (subst (IsNarrowed c.args.run.now.program.now.kernels c.args.run.now.round_limit c.cut.new.self.boxes.current c.narrow.new.self.boxes.current) c.in-Fixed.is c.in_ok-narrow.ensures.narrowed).0
     (within_rounds c.args.run.now.program.now.kernels c.args.run.now.round_limit c.cut.new.self.boxes.current c.narrow.new.self.boxes.current c.in-Fixed.rounds
     (subst (IsNarrowed c.args.run.now.program.now.kernels c.args.run.now.round_limit c.cut.new.self.boxes.current c.narrow.new.self.boxes.current) c.in-Fixed.is c.in_ok-narrow.ensures.narrowed))
     (subst (λ (ls : List Left). IsSettled c.args.run.now.model.now c.narrow.new.self.boxes.current (left_boxes ls) (boxes_of c.settle.new.self) c.args.found.now c.settle.new.found) (c.in_ok-narrow.ensures.own ∙ c.in_ok-cut.ensures.own)

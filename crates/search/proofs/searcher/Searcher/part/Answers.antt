@@ -43,6 +43,7 @@ returns-clause-ready g c =
         sound = sound_push c.args.run.now.model.now c.args.run.now.program.now.kernels mine (own_on c.put.new.boxes.stack c.keep.new.fronts.items) c.args.self.now.fronts.items c.keep.new.fronts.items left c.args.front
             more c.in_ok-keep.ensures (record { closed = c.requires.closed; inside = c.requires.parts.second_part.inside; proper = c.requires.parts.second_part.proper }) c.requires.front c.requires.left.sound;
         fits = subst (λ (n : ℕ). Fits c.put.new.narrower c.args.run.now.program.now.kernels n) (sym lengths) (c.in_ok-put.ensures.fits c.args.run.now.program.now.kernels (length base) (c.in_ok-leave-2.ensures.fits kernels (length base) c.requires.left.fits));
+        lanes = c.in_ok-put.ensures.lanes ∙ c.in_ok-leave-2.ensures.lanes ∙ c.requires.left.lanes;
         let_rest = subst (λ (ls : List Left). LetRest c.put.new.narrower kernels ls) (sym more)
             (c.in_ok-put.ensures.let_rest kernels _ (c.in_ok-leave-2.ensures.let_rest kernels mine base c.args.parts.pair c.args.parts.right_low c.args.parts.right_high c.requires.rests c.requires.left.let_rest));
       };

@@ -9,7 +9,7 @@ returns-clause-path c =
     if_ok c.go.result (λ found answer.
     answer_below c.args.tree.now.model.now c.args.tree.now.program.now.kernels c.args.tree.now.start.now c.args.tree.now.depth c.args.number c.law_inside_order.ensures c.law_paths.ensures c.law_cuts.ensures
     (start_can c.args.tree.now.model.now c.args.tree.now.program.now c.args.tree.now.start.now c.requires.program c.requires.phases c.requires.length c.len-length.ensures.in_range)
-    c.args.best c.go.new.self found answer) c.go.ensures.answer
+    c.args.best c.requires.goal c.go.new.self found answer) c.go.ensures.answer
 
 pub returns-clause-inside : goal.returns-clause-inside
 returns-clause-inside c =

@@ -1,0 +1,4 @@
+pub mod Between
+pub mod PointDoms
+pub mod PointMixes
+pub mod SolutionLaws

@@ -24,7 +24,7 @@ pub enum End {
 }
 
 /// Whether the box at the end of a way is what the number leads to: a solution is so by number 0 alone.
-pub(crate) fn is_led_to(end: End, number: u32) -> bool
+pub(crate) fn is_led_to(end: End, number: u64) -> bool
     ensures led { OnTrue result (IsLedTo end number) }
     ensures not { OnFalse result (IsLedTo end number → ⊥) }
 {

@@ -16,6 +16,6 @@ pub struct Tree<'a> {
     pub masks: &'a Masks,
     /// The box that is cut.
     pub start: &'a BoxOf,
-    /// How many turns lead to a part.
+    /// How many turns lead to a part, at most 62.
     pub depth: u32,
 }

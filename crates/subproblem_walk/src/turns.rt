@@ -7,7 +7,7 @@ ghost use Rattle.branching.specs.Fronts.{FitsBox, left_by, right_by};
 ghost use Rattle.subproblem_walk.specs.Turns.{side_of, IsTurn, AreTurnsTo};
 
 use branching::Branching;
-use subproblems::numbers_to;
+use subproblems::count_to;
 use trailed_box::Part;
 
 /// A turn on the way down: how a closed box is parted, and whether the way goes on to the right.
@@ -23,7 +23,7 @@ pub struct Address {
     /// How many turns lead to it.
     pub(crate) depth: u32,
     /// The turns, the highest bit first.
-    pub(crate) number: u32,
+    pub(crate) number: u64,
 }
 
 /// How far two ways are the same.
@@ -38,12 +38,12 @@ pub(crate) struct Shared {
 /// Whether the way turns to the right, and the number to which it goes on in the part on that side.
 pub(crate) fn first_turn(address: Address) -> (bool, Address)
     requires some { 0 < address.depth }
-    requires depth { address.depth ≤ 16 }
+    requires depth { address.depth ≤ 62 }
     ensures depth { result.1.depth ≡ address.depth - 1 }
     ensures turn { IsTurn (2 ^ (address.depth - 1)) address.number result.0 result.1.number }
 {
     let depth = address.depth - 1;
-    let half = numbers_to(depth);
+    let half = count_to(depth);
     if address.number < half {
         return (
             false,
@@ -83,7 +83,7 @@ pub(crate) fn part_on(goes_right: bool, branching: &Branching) -> Part
 /// How many of the turns, of the first `limit`, are on the way to a number too.
 pub(crate) fn shared_turns(turns: &[Turn], limit: usize, address: Address) -> Shared
     requires limit { limit ≤ length turns.now }
-    requires depth { address.depth ≤ 16 }
+    requires depth { address.depth ≤ 62 }
     ensures count { result.count ≤ limit }
     ensures depth { result.rest.depth + result.count ≡ address.depth }
     ensures turns { AreTurnsTo address.depth address.number (take result.count turns.now) result.rest.depth result.rest.number }
@@ -104,7 +104,7 @@ pub(crate) fn shared_turns(turns: &[Turn], limit: usize, address: Address) -> Sh
 
 /// Where the way to a number leaves the turns: at the last one at the latest. None: before the first.
 pub(crate) fn fork(turns: &[Turn], address: Address) -> Option<Shared>
-    requires depth { address.depth ≤ 16 }
+    requires depth { address.depth ≤ 62 }
     ensures count { IfSome result (λ shared. shared.count < length turns.now) }
     ensures depth { IfSome result (λ shared. shared.rest.depth + shared.count ≡ address.depth) }
     ensures some { IfSome result (λ shared. 0 < shared.rest.depth) }

@@ -100,7 +100,7 @@ fn take_turn(
     address: Address,
 ) -> Result<Address, NoMemory>
     requires some { 0 < address.depth }
-    requires depth { address.depth ≤ 16 }
+    requires depth { address.depth ≤ 62 }
     requires fits { FitsBox sub.old.boxes.current branching }
     ensures depth { IfOk result (λ rest. rest.depth ≡ address.depth - 1) }
     ensures turn { IfOk result (λ rest. (turn : Turn) × IsTurn (2 ^ (address.depth - 1)) address.number turn.goes_right rest.number ×
@@ -136,7 +136,7 @@ fn lead(
     requires masks { AreMasksOf tree.now.program.now.kernels (length sub.old.boxes.current) tree.now.masks.now }
     requires made { IsMadeBy sub.old.changed tree.now.program.now.kernels sub.old.boxes.current }
     requires sets { Serve sets.old tree.now.program.now.kernels (length sub.old.boxes.current) }
-    requires depth { address.depth ≤ 16 }
+    requires depth { address.depth ≤ 62 }
     requires goal { IfSome best (λ _. IsGoalOf tree.now.model.now.vars tree.now.model.now.goal) }
     ensures way { IfOk result (IsReached tree.now.model.now tree.now.program.now.kernels address sub.old.boxes sub.new.boxes turns.old.items turns.new.items) }
     ensures end_for { IfOk result (λ reached. IsEndFor best reached.end) }
@@ -181,7 +181,7 @@ fn lead(
 /// Goes back to the closed box where the way took the turn at this place, and says how that box is parted.
 fn back_to(boxes: &mut TrailedBox, turns: &mut Vec<Turn>, place: usize) -> Branching
     requires place { place < length turns.old.items }
-    requires short { place ≤ 16 }
+    requires short { place ≤ 62 }
     ensures turns { turns.new.items ≡ take place turns.old.items }
     ensures back { (model : FznModel) (kernels : List Kernel) (start : Bounds) (way : List Left) → AreSteps model kernels start turns.old.items way →
         IsOver way boxes.old.stack → IsBackAt model kernels start turns.new.items boxes.new result }
@@ -214,13 +214,13 @@ impl Walk {
         &mut self,
         alloc: Global,
         tree: &Tree<'_>,
-        number: u32,
+        number: u64,
     ) -> Result<Option<Subproblem>, NoMemory>
         requires program { IsProgramOf tree.now.model.now tree.now.program.now }
         requires masks { AreMasksOf tree.now.program.now.kernels (length tree.now.program.now.start) tree.now.masks.now }
         requires phases { IsSearchOf tree.now.model.now }
         requires length { length tree.now.start.now ≡ length tree.now.program.now.start }
-        requires depth { tree.now.depth ≤ 16 }
+        requires depth { tree.now.depth ≤ 62 }
         requires number { number < 2 ^ tree.now.depth }
         requires walk { IsWalkFrom tree.now.model.now tree.now.program.now.kernels tree.now.start.now self.old }
         ensures path { IfOk result (λ found. LeadsTo tree.now.model.now tree.now.program.now.kernels tree.now.depth tree.now.start.now number (box_of found)) }
@@ -242,14 +242,14 @@ impl Walk {
         &mut self,
         alloc: Global,
         tree: &Tree<'_>,
-        number: u32,
+        number: u64,
         best: Option<i64>,
     ) -> Result<Option<Subproblem>, NoMemory>
         requires program { IsProgramOf tree.now.model.now tree.now.program.now }
         requires masks { AreMasksOf tree.now.program.now.kernels (length tree.now.program.now.start) tree.now.masks.now }
         requires phases { IsSearchOf tree.now.model.now }
         requires length { length tree.now.start.now ≡ length tree.now.program.now.start }
-        requires depth { tree.now.depth ≤ 16 }
+        requires depth { tree.now.depth ≤ 62 }
         requires number { number < 2 ^ tree.now.depth }
         requires walk { IsWalkFrom tree.now.model.now tree.now.program.now.kernels tree.now.start.now self.old }
         requires goal { IfSome best (λ _. IsGoalOf tree.now.model.now.vars tree.now.model.now.goal) }
@@ -275,14 +275,14 @@ impl Walk {
         &mut self,
         alloc: Global,
         tree: &Tree<'_>,
-        number: u32,
+        number: u64,
         best: Option<i64>,
     ) -> Result<Option<Subproblem>, NoMemory>
         requires program { IsProgramOf tree.now.model.now tree.now.program.now }
         requires masks { AreMasksOf tree.now.program.now.kernels (length tree.now.program.now.start) tree.now.masks.now }
         requires phases { IsSearchOf tree.now.model.now }
         requires length { length tree.now.start.now ≡ length tree.now.program.now.start }
-        requires depth { tree.now.depth ≤ 16 }
+        requires depth { tree.now.depth ≤ 62 }
         requires number { number < 2 ^ tree.now.depth }
         requires walk { IsWalkFrom tree.now.model.now tree.now.program.now.kernels tree.now.start.now self.old }
         requires goal { IfSome best (λ _. IsGoalOf tree.now.model.now.vars tree.now.model.now.goal) }
@@ -312,7 +312,7 @@ impl Walk {
     ) -> Result<Option<Subproblem>, NoMemory>
         requires cut { CanBeCut tree.now.model.now tree.now.program.now.kernels tree.now.start.now }
         requires masks { AreMasksOf tree.now.program.now.kernels (length tree.now.start.now) tree.now.masks.now }
-        requires depth { address.depth ≤ 16 }
+        requires depth { address.depth ≤ 62 }
         requires goal { IfSome best (λ _. IsGoalOf tree.now.model.now.vars tree.now.model.now.goal) }
         requires sets { MayServe self.old.sets tree.now.program.now.kernels (length tree.now.start.now) }
         requires none { self.old.boxes ≡ None }
@@ -347,7 +347,7 @@ impl Walk {
 
     /// Whether the way to the last number ends at a box below which this number leads nowhere, or to what the best cost beats.
     fn ends_before(&self, address: Address, best: Option<i64>) -> bool
-        requires { address.depth ≤ 16 }
+        requires { address.depth ≤ 62 }
         ensures none { (model : FznModel) (kernels : List Kernel) (start : Bounds) (way : List Left) → StandsOn model kernels start self.now way →
             OnTrue result (IsPathAt model kernels address.depth start address.number self.now.end None) }
         ensures end_for { OnTrue result (IsEndFor best self.now.end) }
@@ -380,7 +380,7 @@ impl Walk {
     ) -> Result<Option<Subproblem>, NoMemory>
         requires cut { CanBeCut tree.now.model.now tree.now.program.now.kernels tree.now.start.now }
         requires masks { AreMasksOf tree.now.program.now.kernels (length tree.now.start.now) tree.now.masks.now }
-        requires depth { address.depth ≤ 16 }
+        requires depth { address.depth ≤ 62 }
         requires goal { IfSome best (λ _. IsGoalOf tree.now.model.now.vars tree.now.model.now.goal) }
         requires sets { MayServe self.old.sets tree.now.program.now.kernels (length tree.now.start.now) }
         requires none { self.old.boxes ≡ None }
@@ -407,7 +407,7 @@ impl Walk {
     ) -> Result<Option<Subproblem>, NoMemory>
         requires cut { CanBeCut tree.now.model.now tree.now.program.now.kernels tree.now.start.now }
         requires masks { AreMasksOf tree.now.program.now.kernels (length tree.now.start.now) tree.now.masks.now }
-        requires depth { rest.depth ≤ 16 }
+        requires depth { rest.depth ≤ 62 }
         requires goal { IfSome best (λ _. IsGoalOf tree.now.model.now.vars tree.now.model.now.goal) }
         requires sets { MayServe self.old.sets tree.now.program.now.kernels (length tree.now.start.now) }
         requires none { self.old.boxes ≡ None }

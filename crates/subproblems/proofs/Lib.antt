@@ -2,3 +2,4 @@ pub mod CutLemmas
 pub mod SubproblemLemmas
 pub mod PathLemmas
 pub mod StepLemmas
+pub mod DeeperLemmas

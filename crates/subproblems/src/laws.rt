@@ -3,8 +3,9 @@
 ghost use Rattle.subproblems.specs.Cuts.{CutLaws};
 ghost use Rattle.subproblems.specs.Subproblems.{SubproblemLaws};
 ghost use Rattle.subproblems.specs.Paths.{PathLaws};
+ghost use Rattle.subproblems.specs.Deeper.{DeeperLaws};
 
-use branching::law_branches;
+use branching::{law_branches, law_one_list};
 use fixpoint_laws::law_one_fixpoint;
 use interval::law_inside_order;
 
@@ -32,4 +33,14 @@ pub fn law_paths()
     law_inside_order();
     law_cuts();
     law_subproblems();
+}
+
+/// What a number leads to has the solutions of what the two numbers one turn deeper lead to, one behind the other.
+pub fn law_deeper()
+    ensures { DeeperLaws }
+{
+    law_inside_order();
+    law_cuts();
+    law_paths();
+    law_one_list();
 }

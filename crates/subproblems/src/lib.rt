@@ -12,5 +12,5 @@ mod path;
 
 pub use cutting::Cut;
 pub use expansion::expand;
-pub use laws::{law_cuts, law_paths, law_subproblems};
-pub use path::{numbers_to, path_box};
+pub use laws::{law_cuts, law_deeper, law_paths, law_subproblems};
+pub use path::{count_to, numbers_to, path_box};

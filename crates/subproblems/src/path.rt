@@ -48,6 +48,14 @@ pub fn numbers_to(depth: u32) -> u32
     1 << depth
 }
 
+/// How many numbers there are to a depth of at most 62.
+pub fn count_to(depth: u32) -> u64
+    requires { depth ≤ 62 }
+    ensures { result ≡ 2 ^ depth }
+{
+    1 << depth
+}
+
 /// What the number leads to from a box.
 fn below(
     alloc: Global,

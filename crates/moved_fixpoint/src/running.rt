@@ -27,7 +27,7 @@ use guarded_tell::{
 };
 use interval::{BoxOf, law_inside_order};
 use moved_set::{AskedSet, Masks};
-use trailed_box::TrailedBox;
+use trailed_box::{Cause, TrailedBox};
 
 /// Asks for the bound of each of these tells.
 fn ask_told(masks: &Masks, told: &[Tell], b: &BoxOf, rests: &Rests, asked: &mut AskedSet)
@@ -85,13 +85,28 @@ pub(crate) fn run_kernel(
                 Progress::Refused
             }
         }
-        None => match masks.shape(place) {
-            Shape::Slight | Shape::Other => run_unseen(kernels, masks, place, b, sets, progress),
-            Shape::Three { .. } => run_three(kernels, masks, place, b, sets, progress),
-            Shape::Product { .. } => run_product(kernels, masks, place, b, sets, progress),
-            Shape::Greatest { .. } => run_greatest(kernels, masks, place, b, sets, progress),
-            _ => run_told(kernels, masks, place, b, sets, progress),
-        },
+        None => {
+            because(b, place);
+            match masks.shape(place) {
+                Shape::Slight | Shape::Other => run_unseen(
+                    kernels, masks, place, b, sets, progress,
+                ),
+                Shape::Three { .. } => run_three(kernels, masks, place, b, sets, progress),
+                Shape::Product { .. } => run_product(kernels, masks, place, b, sets, progress),
+                Shape::Greatest { .. } => run_greatest(kernels, masks, place, b, sets, progress),
+                _ => run_told(kernels, masks, place, b, sets, progress),
+            }
+        }
+    }
+}
+
+/// Says that what is put from now on is told by the kernel at a place.
+#[inline(always)]
+fn because(b: &mut TrailedBox, place: usize)
+    ensures { b.new ≡ b.old }
+{
+    if let Ok(number) = u32::try_from(place) {
+        b.because(Cause::Kernel(number));
     }
 }
 

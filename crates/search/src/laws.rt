@@ -104,7 +104,7 @@ pub fn law_limits()
 }
 
 /// A run can search each box inside its program's start.
-pub(crate) fn law_can_search<L>(run: &Run<'_, L>, sub: &BoxOf)
+pub fn law_can_search<L>(run: &Run<'_, L>, sub: &BoxOf)
     requires run { IsRun run.now }
     requires inside { IsInside sub.now run.now.program.now.start }
     ensures { CanSearch run.now (length sub.now) }

@@ -35,6 +35,8 @@ pub(crate) struct Change {
 #[derive(Clone, Copy)]
 pub(crate) struct Mark {
     pub(crate) from: usize,
+    // the length of the log there, a hint
+    pub(crate) logged: usize,
     pub(crate) part: Part,
 }
 

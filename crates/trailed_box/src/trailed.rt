@@ -5,6 +5,7 @@ ghost use Rattle.interval.specs.Limits.{IsBound};
 ghost use Rattle.interval.specs.Boxes.{low_of, high_of, put_of, IsInRange};
 ghost use Rattle.trailed_box.specs.Trailed.{left_of, IsPart};
 
+use crate::log::{Cause, Log};
 use crate::trail::{Change, Mark, Part, note, undo};
 use interval::{BoxOf, NoMemory};
 use std::alloc::Global;
@@ -20,6 +21,8 @@ pub struct TrailedBox {
     marks: Vec<Mark>,
     // for each variable the place on the trail of its last change
     last: Vec<u32>,
+    // what was put and why, a hint
+    log: Log,
 }
 
 impl Model for TrailedBox {
@@ -35,6 +38,16 @@ impl Model for TrailedBox {
     ghost invariant = { IsOrderly };
 }
 
+/// Notes in the log, where bounds are kept, that these are put.
+#[inline(always)]
+fn log_put(log: &mut Log, b: &BoxOf, v: u32, low: i64, high: i64)
+    requires { v < length b.now }
+{
+    if log.is_open() {
+        log.note(v, (b.low(v), b.high(v)), (low, high));
+    }
+}
+
 impl TrailedBox {
     /// The box `start`, with nothing left for later.
     pub fn new(alloc: Global, start: BoxOf) -> Result<TrailedBox, NoMemory>
@@ -47,6 +60,7 @@ impl TrailedBox {
             trail: Vec::new(alloc),
             marks: Vec::new(alloc),
             last,
+            log: Log::closed(alloc),
         })
     }
 
@@ -59,6 +73,35 @@ impl TrailedBox {
         self.current.copy_from(start);
         self.trail.clear();
         self.marks.clear();
+        self.log.forget(0);
+    }
+
+    /// Keeps a log of what is put from now on, if there is memory for it.
+    pub fn keep_log(&mut self, alloc: Global)
+        ensures { self.new ≡ self.old }
+    {
+        self.log.open(alloc, self.current.len());
+    }
+
+    /// Says why what is put from now on is put.
+    #[inline(always)]
+    pub fn because(&mut self, cause: Cause)
+        ensures { self.new ≡ self.old }
+    {
+        self.log.because(cause);
+    }
+
+    /// What was put and why.
+    pub fn log(&self) -> &Log {
+        &self.log
+    }
+
+    /// How long the log was when the last box was left for later; 0 where none is left.
+    pub fn level_start(&self) -> usize {
+        match self.marks.as_slice().last() {
+            Some(mark) => mark.logged,
+            None => 0,
+        }
     }
 
     /// The box.
@@ -110,6 +153,7 @@ impl TrailedBox {
             self.last.as_mut_slice(),
             v,
         )?;
+        log_put(&mut self.log, &self.current, v, low, high);
         self.current.put(v, low, high);
         Ok(())
     }
@@ -125,6 +169,7 @@ impl TrailedBox {
     {
         let mark = Mark {
             from: self.trail.as_slice().len(),
+            logged: self.log.len(),
             part: Part { var: v, low, high },
         };
         if self.marks.push(mark).is_err() {
@@ -157,6 +202,7 @@ impl TrailedBox {
             self.last.as_mut_slice(),
             mark.from,
         );
+        self.log.forget(mark.logged);
         Some(mark.part)
     }
 }

@@ -7,7 +7,7 @@ use Rattle.trailed_box.proofs.trailed.TrailedBox.push.Goals as goal
 
 pub invariant_of-self-2 : goal.invariant_of-self-2
 invariant_of-self-2 c =
-    let m : Mark = record { from = length c.as_slice.result.now; part = record { var = c.args.v; low = c.args.low; high = c.args.high } } in
+    let m : Mark = record { from = length c.as_slice.result.now; logged = c.len.result; part = record { var = c.args.v; low = c.args.low; high = c.args.high } } in
     let items : c.push.new.self.items ≡ c.self.inside.marks.items ++ m ∷ [] = grind (arith, common_steps) in
     let from = ap length c.as_slice.ensures.value in
     let part : IsPart (length c.self.inside.current) c.args.v c.args.low c.args.high =
@@ -24,7 +24,7 @@ invariant_of-self-2 c =
 
 pub returns-clause-stack : goal.returns-clause-stack
 returns-clause-stack c =
-    let m : Mark = record { from = length c.as_slice.result.now; part = record { var = c.args.v; low = c.args.low; high = c.args.high } } in
+    let m : Mark = record { from = length c.as_slice.result.now; logged = c.len.result; part = record { var = c.args.v; low = c.args.low; high = c.args.high } } in
     let items : c.push.new.self.items ≡ c.self.inside.marks.items ++ m ∷ [] = grind (arith, common_steps) in
     let from = ap length c.as_slice.ensures.value in
     stack_after_push c.self.inside.trail.items c.self.inside.current c.self.inside.marks.items c.push.new.self.items m items from

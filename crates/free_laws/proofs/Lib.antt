@@ -1,0 +1,3 @@
+pub mod AssumptionProofs
+pub mod KeyProofs
+pub mod StepProofs

@@ -1,0 +1,3 @@
+pub mod Assumptions
+pub mod Keys
+pub mod Steps

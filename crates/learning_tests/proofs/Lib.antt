@@ -1,0 +1,3 @@
+mod SmallSums
+mod Zeros
+mod Serving

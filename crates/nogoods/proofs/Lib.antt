@@ -1,0 +1,3 @@
+pub mod NogoodLaws
+pub mod Watching
+pub mod Keeping

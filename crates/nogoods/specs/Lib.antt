@@ -1,0 +1,5 @@
+pub mod Nogoods
+pub mod Laws
+pub mod Bearings
+pub mod Learnings
+pub mod Learners

@@ -1,0 +1,4 @@
+pub mod FreeLaws
+pub mod KeyLaws
+pub mod ReadyLaws
+pub mod ValueLaws

@@ -1,0 +1,291 @@
+//! What guides a free search. All of it are hints: no contract speaks of them.
+
+ghost use Rattle.std.specs.List.{All};
+ghost use Rattle.guarded_tell.specs.Kernels.{HasNumbers};
+ghost use Rattle.search.specs.Premises.{IsRun};
+
+use constraint_model::{FznModel, Goal, Phase, Term, ValSel};
+use guarded_tell::Kernel;
+use interval::{BoxOf, NoMemory};
+use search::Run;
+use std::alloc::Global;
+use trailed_box::Log;
+
+/// How many failures the shortest restart waits for.
+const RESTART_UNIT: u64 = 100;
+
+/// What a variable gets that is in a nogood which is learned, at first.
+const FIRST_STEP: u64 = 1024;
+
+/// Where the steps are so great that all is divided.
+const GREATEST_STEP: u64 = 1_125_899_906_842_624;
+
+/// What guides a free search, kept over several: hints alone.
+#[derive(Drop)]
+pub struct Guide {
+    // the variables, in the order of the text's search
+    order: Vec<u32>,
+    // for each variable how often it lately was in a nogood that was learned
+    activity: Vec<u64>,
+    step: u64,
+    // for each variable the number that is tried first: that of the last solution
+    values: Vec<i64>,
+    // for each variable what the visits cost that a move of it asks for
+    costs: Vec<u64>,
+    // the units of work that were spent
+    spent: u64,
+    nodes: u64,
+    // the state of the sequence of restarts, and how many failures are left before the next
+    turn: u64,
+    length: u64,
+    failures_left: u64,
+}
+
+/// The number that is tried first where none is known.
+fn first_value(phase: &Phase) -> i64 {
+    match phase.val_sel {
+        ValSel::Min | ValSel::Split => i64::MIN,
+        ValSel::Max | ValSel::ReverseSplit => i64::MAX,
+    }
+}
+
+/// Sets an entry, if there is one.
+fn set(entries: &mut [i64], place: usize, value: i64) {
+    if place < entries.len() {
+        entries[place] = value;
+    }
+}
+
+/// Appends the variables of a phase that aren't there, and what is tried first for each.
+fn order_phase(
+    phase: &Phase,
+    order: &mut Vec<u32>,
+    values: &mut [i64],
+    are_in: &mut [bool],
+) -> Result<(), NoMemory> {
+    'on: for var in phase.vars.as_slice() {
+        let v = var.saturating_add(1);
+        let place = v as usize;
+        if place >= are_in.len() || are_in[place] {
+            continue 'on;
+        }
+        are_in[place] = true;
+        set(values, place, first_value(phase));
+        if order.push(v).is_err() {
+            return Err(NoMemory);
+        }
+    }
+    Ok(())
+}
+
+/// The variables in the order of the text's search, and what is tried first for each.
+fn order_of(alloc: Global, model: &FznModel, values: &mut [i64]) -> Result<Vec<u32>, NoMemory> {
+    let mut order = Vec::new(alloc);
+    let mut are_in = vec![in alloc; false; values.len()]?;
+    for phase in model.search.as_slice() {
+        order_phase(phase, &mut order, values, are_in.as_mut_slice())?;
+    }
+    Ok(order)
+}
+
+/// The greatest number of the objective is tried first where that is asked for.
+fn aim(model: &FznModel, values: &mut [i64]) {
+    match model.goal {
+        Goal::Maximize(Term::Var(var)) => set(values, (var as usize).saturating_add(1), i64::MAX),
+        Goal::Minimize(Term::Var(var)) => set(values, (var as usize).saturating_add(1), i64::MIN),
+        _ => {}
+    }
+}
+
+/// Adds what a visit of the kernel costs to each of its variables.
+fn add_costs(kernel: &Kernel, costs: &mut [u64])
+    requires { HasNumbers kernel.now }
+{
+    let count = kernel.var_count();
+    for i in 0..count {
+        let place = kernel.var_at(i) as usize;
+        if place < costs.len() {
+            costs[place] = costs[place].saturating_add(count as u64);
+        }
+    }
+}
+
+/// For each of so many variables what the visits cost that a move of it asks for.
+fn costs_of(alloc: Global, kernels: &[Kernel], count: u32) -> Result<Vec<u64>, NoMemory>
+    requires { All HasNumbers kernels.now }
+{
+    let mut costs = vec![in alloc; 1; count as usize]?;
+    for place in 0..kernels.len() {
+        add_costs(&kernels[place], costs.as_mut_slice());
+    }
+    Ok(costs)
+}
+
+/// The part of a variable's numbers that is tried first: the wanted number alone where that is a bound, else those up to it.
+fn first_part(low: i64, high: i64, wanted: i64) -> (i64, i64) {
+    if wanted >= high {
+        (high, high)
+    } else if wanted <= low {
+        (low, low)
+    } else {
+        (low, wanted)
+    }
+}
+
+impl Guide {
+    /// One that knows of no search yet. Errors: memory.
+    pub fn new<L>(alloc: Global, run: &Run<'_, L>) -> Result<Guide, NoMemory>
+        requires { IsRun run.now }
+    {
+        let model = run.model;
+        let kernels = run.program.kernels.as_slice();
+        let count = run.program.start.len();
+        let mut values = vec![in alloc; 0; count as usize]?;
+        let order = order_of(alloc, model, values.as_mut_slice())?;
+        aim(model, values.as_mut_slice());
+        Ok(Guide {
+            order,
+            activity: vec![in alloc; 0; count as usize]?,
+            step: FIRST_STEP,
+            values,
+            costs: costs_of(alloc, kernels, count)?,
+            spent: 0,
+            nodes: 0,
+            turn: 1,
+            length: 1,
+            failures_left: RESTART_UNIT,
+        })
+    }
+
+    /// How many units of work were spent so far: a visit costs as many as it has arguments, a nogood that is looked at and an
+    /// entry of the log one.
+    pub fn spent(&self) -> u64 {
+        self.spent
+    }
+
+    /// How many nodes were visited so far: boxes that failed, or of which something was decided.
+    pub fn nodes(&self) -> u64 {
+        self.nodes
+    }
+
+    /// Counts a node.
+    pub(crate) fn count_node(&mut self) {
+        self.nodes = self.nodes.saturating_add(1);
+    }
+
+    /// Counts units of work.
+    pub(crate) fn spend(&mut self, units: u64) {
+        self.spent = self.spent.saturating_add(units);
+    }
+
+    /// Counts the visits that the events from a place of the log on asked for.
+    pub(crate) fn spend_visits(&mut self, log: &Log, from: usize) {
+        self.spend(1);
+        for place in from..log.len() {
+            if let Some(event) = log.at(place) {
+                self.spend_at(event.var as usize);
+            }
+        }
+    }
+
+    /// Counts the visits that a move of a variable asks for.
+    fn spend_at(&mut self, place: usize) {
+        if let Some(cost) = self.costs.as_slice().get(place) {
+            self.spent = self.spent.saturating_add(*cost);
+        }
+    }
+
+    /// What is tried next in a box: a variable, and a part of its numbers.
+    pub(crate) fn choose(&self, b: &BoxOf) -> (u32, i64, i64) {
+        let mut best = (0, 1, 0);
+        let mut most = None;
+        for v in self.order.as_slice() {
+            if *v < b.len() && b.low(*v) < b.high(*v) {
+                let activity = self.activity_of(*v);
+                if is_more(activity, most) {
+                    most = Some(activity);
+                    let (low, high) = first_part(b.low(*v), b.high(*v), self.wanted(*v));
+                    best = (*v, low, high);
+                }
+            }
+        }
+        best
+    }
+
+    /// How often a variable lately was in a nogood.
+    fn activity_of(&self, v: u32) -> u64 {
+        match self.activity.as_slice().get(v as usize) {
+            Some(activity) => *activity,
+            None => 0,
+        }
+    }
+
+    /// The number that is tried first.
+    fn wanted(&self, v: u32) -> i64 {
+        match self.values.as_slice().get(v as usize) {
+            Some(value) => *value,
+            None => 0,
+        }
+    }
+
+    /// Keeps the numbers of a solution.
+    pub(crate) fn keep_values(&mut self, a: &[i64]) {
+        for place in 0..a.len() {
+            set(
+                self.values.as_mut_slice(),
+                place.saturating_add(1),
+                a[place],
+            );
+        }
+    }
+
+    /// Hears of a failure, and which variables were looked at where the nogood was made.
+    pub(crate) fn hear(&mut self, touched: &[u32]) {
+        for v in touched {
+            self.raise(*v as usize);
+        }
+        self.failures_left = self.failures_left.saturating_sub(1);
+        self.step = self.step.saturating_add(self.step / 20);
+        if self.step > GREATEST_STEP {
+            self.lower();
+        }
+    }
+
+    /// Raises the activity of a variable.
+    fn raise(&mut self, place: usize) {
+        if place < self.activity.as_slice().len() {
+            self.activity[place] = self.activity[place].saturating_add(self.step);
+        }
+    }
+
+    /// Divides all activities, and the step, by the same.
+    fn lower(&mut self) {
+        self.step >>= 40;
+        for activity in self.activity.as_mut_slice() {
+            *activity >>= 40;
+        }
+    }
+
+    /// Whether the search is to begin anew; if so it counts to the next time.
+    pub(crate) fn restarts(&mut self) -> bool {
+        if self.failures_left > 0 {
+            return false;
+        }
+        if self.turn & self.turn.wrapping_neg() == self.length {
+            self.turn = self.turn.saturating_add(1);
+            self.length = 1;
+        } else {
+            self.length = self.length.saturating_mul(2);
+        }
+        self.failures_left = RESTART_UNIT.saturating_mul(self.length);
+        true
+    }
+}
+
+/// Whether an activity is more than the most so far.
+fn is_more(activity: u64, most: Option<u64>) -> bool {
+    match most {
+        Some(most) => activity > most,
+        None => true,
+    }
+}

@@ -1,15 +1,17 @@
--- Results beside what their numbers lead to.
-use Rattle.std.proofs.Common.{◌≡◌, ℕ, suc, ◌+◌, ◌<◌, ◌^◌, List, [], ◌∷◌, length, get_or, All, flat_map, Option, None, refl, sym, subst, ◌∙◌, arith}
+-- Results beside what their parts lead to.
+use Rattle.std.proofs.Common.{◌≡◌, ℕ, suc, ◌+◌, ◌<◌, List, [], ◌∷◌, length, get_or, All, flat_map, Option, None, refl, sym, subst, ◌∙◌, arith}
 use Rattle.std.proofs.lemmas.Option.{slice_get_within}
 use Rattle.std.proofs.lemmas.List.Elements.{All-nil, All-cons, All-append}
 use Rattle.interval.specs.Boxes.{Bounds}
 use Rattle.constraint_model.specs.declared.model.FznModel.{FznModel}
 use Rattle.constraint_model.specs.Searches.{IsSearchOf}
 use Rattle.decompose.specs.Kernels.{kernels_of}
-use Rattle.subproblems.specs.Paths.{ArePaths, PathLaws}
+use Rattle.subproblems.specs.Paths.{PathLaws}
+use Rattle.tree_cover.specs.declared.part.Part.{Part}
 use Rattle.answer.specs.Places.{StandsAt, AreResults}
+use Rattle.answer.proofs.PartPaths.{ArePathsOf, one_at}
 
--- each result is one of what its number leads to, from this number on
+-- each result is one of what stands beside it, from this place on
 abbrev pub Along : {E : Type 0} → (ℕ → Option Bounds → E → Type 0) → ℕ → List (Option Bounds) → List E → Type 0
 Along Is number [] [] = Unit {0}
 Along Is number [] (r ∷ rs) = ⊥
@@ -49,13 +51,13 @@ all_in_each {E = E} P f (r ∷ rs) each =
 pub one_entry : {E : Type 0} (xs : List E) (place : ℕ) (x y : E) → StandsAt xs place x → StandsAt xs place y → x ≡ y
 one_entry xs place x y h k = cc
 
--- the results of all numbers stand beside what the numbers lead to
-pub results_along : (laws : PathLaws) (model : FznModel) → IsSearchOf model → (depth : ℕ) (b : Bounds) (paths : List (Option Bounds)) → ArePaths model (kernels_of model) depth b paths →
-    {E : Type 0} (Is : ℕ → Option Bounds → E → Type 0) (results : List E) → AreResults model depth b Is results → Along Is 0 paths results
-results_along laws model rule depth b paths are {E} Is results h =
+-- the results of all parts stand beside what the parts lead to
+pub results_along : (laws : PathLaws) (model : FznModel) → IsSearchOf model → (parts : List Part) (b : Bounds) (paths : List (Option Bounds)) → ArePathsOf model (kernels_of model) parts b paths →
+    {E : Type 0} (Is : ℕ → Option Bounds → E → Type 0) (results : List E) → AreResults model parts b Is results → Along Is 0 paths results
+results_along laws model rule parts b paths are {E} Is results h =
     along Is 0 paths results (are.count ∙ sym h.count) (λ (j : ℕ) (r : E) (s : StandsAt results j r).
     let own = h.each j r s in
-    let below : j < 2 ^ depth = let e = h.count in let l = slice_get_within results j r s in omega arith in
-    let same = laws.one model (kernels_of model) depth b j own.path (get_or paths j None) rule own.leads (are.each j below) in
+    let below : j < length parts = let e = h.count in let l = slice_get_within results j r s in omega arith in
+    let same = one_at laws model (kernels_of model) parts b j own.path (get_or paths j None) rule own.leads (are.each j below) in
     let number : j ≡ 0 + j = omega arith in
     subst (λ (n : ℕ). Is n (get_or paths j None) r) number (subst (λ (p : Option Bounds). Is j p r) same own.is_result))

@@ -1,5 +1,5 @@
 -- An answer that was asked for alike is an answer by other workers and lanes, where that makes no difference.
-use Rattle.std.proofs.Common.{◌≡◌, ◌⊎◌, inl, inr, ℕ, ℤ, Bool, true, false, List, [], Option, None, Some, refl, sym, subst, ◌∙◌}
+use Rattle.std.proofs.Common.{◌≡◌, ◌⊎◌, inl, inr, ℕ, ℤ, Bool, true, false, List, [], Option, None, Some, sym, subst, ◌∙◌}
 use Rattle.interval.specs.Boxes.{Bounds}
 use Rattle.constraint_model.specs.declared.model.Goal.{Goal}
 use Rattle.constraint_model.specs.declared.model.FznModel.{FznModel}
@@ -13,14 +13,15 @@ use Rattle.search.specs.Ends.{EndsDone, EndsSpent}
 use Rattle.search.specs.LeastEnds.{least_of, EndsLeast}
 use Rattle.search.specs.Laws.{LaneLaws}
 use Rattle.fzn_print.specs.declared.answers.Answer.{Answer}
+use Rattle.tree_cover.specs.declared.part.Part.{Part}
+use Rattle.tree_cover.specs.Covers.{parts_to}
 use Rattle.answer.specs.declared.options.Options.{Options}
 use Rattle.answer.specs.Cuts.{cut_to}
 use Rattle.answer.specs.Lists.{Assignment}
-use Rattle.answer.specs.Places.{AreResults}
-use Rattle.answer.specs.Results.{program_of, first_of, IsFirstResult, AreFirstResults, all_of, IsAllResult, AreAllResults, LeastResult, IsLeastResult, IsResultFrom, ComesInTurn, AreInTurn, AreLeastResults}
-use Rattle.answer.specs.Unfinished.{FindsBest, IsFirstCollected, AreAllCollected, IsBestCollected, IsLeastCollected, GivesCollected, IsUnfinished}
-use Rattle.answer.specs.Unspent.{IsUnspentFirst, IsUnspentAll, IsUnspentLeast, IsUnspentFor}
-use Rattle.answer.specs.Answers.{IsWhole, IsAnswer}
+use Rattle.answer.specs.Results.{program_of, first_of, IsFirstResult, AreFirstResults, all_of, IsAllResult, AreAllResults, LeastResult, IsLeastResult, IsResultFrom, AreInTurn, AreLeastResults}
+use Rattle.answer.specs.Unfinished.{FindsBest, IsFirstCollected, AreAllCollected, IsBestCollected, IsLeastCollected, GivesCollected}
+use Rattle.answer.specs.Unspent.{IsUnspentFirst, IsUnspentLeast, IsUnspentFor}
+use Rattle.answer.specs.Answers.{IsAnswer}
 use Rattle.answer.specs.Laws.{AskAlike, IsPinned}
 use Rattle.answer.proofs.RunLists.{result_kept}
 
@@ -45,20 +46,21 @@ module _ (laws : LaneLaws) (lanes : ℕ) where
 
 -- ---- by other workers and lanes
 
-abbrev by_others : Options → ℕ → ℕ → Bool → Options
-by_others options workers lanes steal = record {
+abbrev by_others : Options → ℕ → ℕ → ℕ → Bool → Options
+by_others options workers lanes most_parts steal = record {
   all = options.all;
   workers = workers;
   lanes = lanes;
   depth = options.depth;
+  most_parts = most_parts;
   node_limit = options.node_limit;
   round_limit = options.round_limit;
   steal = steal;
 }
 
-module _ (laws : LaneLaws) (model : FznModel) (options : Options) (workers lanes : ℕ) (steal : Bool) (free : (options.round_limit ≡ 0) ⊎ (lanes ≡ options.lanes)) where
+module _ (laws : LaneLaws) (model : FznModel) (options : Options) (workers lanes most_parts : ℕ) (steal : Bool) (free : (options.round_limit ≡ 0) ⊎ (lanes ≡ options.lanes)) where
   abbrev others : Options
-  others = by_others options workers lanes steal
+  others = by_others options workers lanes most_parts steal
 
   -- ---- results
 
@@ -76,10 +78,10 @@ module _ (laws : LaneLaws) (model : FznModel) (options : Options) (workers lanes
   }
   first_as results number (Some sub) (FirstEnd.Spent nodes why) h = spent_by laws options.lanes (first_of model others sub) why nodes [] free h
 
-  firsts_as : (b : Bounds) (results : List FirstEnd) → AreFirstResults model others b results → AreFirstResults model options b results
-  firsts_as b results h = record {
+  firsts_as : (parts : List Part) (b : Bounds) (results : List FirstEnd) → AreFirstResults model others parts b results → AreFirstResults model options parts b results
+  firsts_as parts b results h = record {
     count = h.count;
-    each = λ number end there. result_kept model options.depth b (IsFirstResult model others results) (IsFirstResult model options results) (first_as results) number end (h.each number end there);
+    each = λ number end there. result_kept model parts b (IsFirstResult model others results) (IsFirstResult model options results) (first_as results) number end (h.each number end there);
   }
 
   all_as : (number : ℕ) (path : Option Bounds) (end : AllEnd) → IsAllResult model others number path end → IsAllResult model options number path end
@@ -87,10 +89,10 @@ module _ (laws : LaneLaws) (model : FznModel) (options : Options) (workers lanes
   all_as number (Some sub) (AllEnd.Done found) h = record { ends = done_by laws options.lanes (all_of model others sub) found free h.ends; listed = h.listed }
   all_as number (Some sub) (AllEnd.Spent nodes why found) h = spent_by laws options.lanes (all_of model others sub) why nodes found free h
 
-  alls_as : (results : List AllEnd) → AreAllResults model others results → AreAllResults model options results
-  alls_as results h = record {
+  alls_as : (parts : List Part) (results : List AllEnd) → AreAllResults model others parts results → AreAllResults model options parts results
+  alls_as parts results h = record {
     count = h.count;
-    each = λ number end there. result_kept model options.depth (start_of model) (IsAllResult model others) (IsAllResult model options) all_as number end (h.each number end there);
+    each = λ number end there. result_kept model parts (start_of model) (IsAllResult model others) (IsAllResult model options) all_as number end (h.each number end there);
   }
 
   least_as : (posted : List ℤ) (number : ℕ) (path : Option Bounds) (result : LeastResult) → IsLeastResult model others posted number path result → IsLeastResult model options posted number path result
@@ -104,49 +106,49 @@ module _ (laws : LaneLaws) (model : FznModel) (options : Options) (workers lanes
       least_by laws options.lanes (least_of model (program_of model) options.node_limit options.round_limit lanes known [] sub) result.0 result.1 free h
 
   module _ (one : workers ≡ 1) where
-    turns_as : (results : List LeastResult) → AreInTurn model others results → AreInTurn model options results
-    turns_as results h = λ number result there.
+    turns_as : (parts : List Part) (results : List LeastResult) → AreInTurn model others parts results → AreInTurn model options parts results
+    turns_as parts results h = λ number result there.
         let own = h number result there in
         record {
           known = own.known;
           is_known = own.is_known;
-          has_result = result_kept model options.depth (start_of model) (IsResultFrom model others own.known) (IsResultFrom model options own.known) (from_as own.known) number result own.has_result;
+          has_result = result_kept model parts (start_of model) (IsResultFrom model others own.known) (IsResultFrom model options own.known) (from_as own.known) number result own.has_result;
         }
 
-    leasts_as : (results : List LeastResult) → AreLeastResults model others results → AreLeastResults model options results
-    leasts_as results h = record {
+    leasts_as : (parts : List Part) (results : List LeastResult) → AreLeastResults model others parts results → AreLeastResults model options parts results
+    leasts_as parts results h = record {
       posted = h.posted;
       recorded = h.recorded;
       are = record {
         count = h.are.count;
         each = λ number result there.
-            result_kept model options.depth (start_of model) (IsLeastResult model others h.posted) (IsLeastResult model options h.posted) (least_as h.posted) number result (h.are.each number result there);
+            result_kept model parts (start_of model) (IsLeastResult model others h.posted) (IsLeastResult model options h.posted) (least_as h.posted) number result (h.are.each number result there);
       };
-      in_turn = λ own. turns_as results (h.in_turn one);
+      in_turn = λ own. turns_as parts results (h.in_turn one);
     }
 
-    best_as : (best : Assignment) → FindsBest model others best → FindsBest model options best
-    best_as best h = record { results = h.results; are = leasts_as h.results h.are; unspent = h.unspent; is_best = h.is_best }
+    best_as : (parts : List Part) (best : Assignment) → FindsBest model others parts best → FindsBest model options parts best
+    best_as parts best h = record { results = h.results; are = leasts_as parts h.results h.are; unspent = h.unspent; is_best = h.is_best }
 
   -- ---- answers
 
   module _ (answer : Answer) where
     first_collected_as : IsFirstCollected model others answer → IsFirstCollected model options answer
-    first_collected_as h = record { results = h.results; are = firsts_as (start_of model) h.results h.are; is_open = h.is_open; solutions = h.solutions; mark = h.mark }
+    first_collected_as h = record { results = h.results; are = firsts_as (parts_to options.depth) (start_of model) h.results h.are; is_open = h.is_open; solutions = h.solutions; mark = h.mark }
 
     all_collected_as : AreAllCollected model others answer → AreAllCollected model options answer
-    all_collected_as h = record { results = h.results; are = alls_as h.results h.are; spent = h.spent; solutions = h.solutions; mark = h.mark }
+    all_collected_as h = record { results = h.results; are = alls_as (parts_to options.depth) h.results h.are; spent = h.spent; solutions = h.solutions; mark = h.mark }
 
     cost_collected_as : workers ≡ 1 → IsBestCollected model others answer ⊎ IsLeastCollected model others answer → IsBestCollected model options answer ⊎ IsLeastCollected model options answer
     cost_collected_as one (inl h) =
-        inl (record { results = h.results; are = leasts_as one h.results h.are; spent = h.spent; best = h.best; is_best = h.is_best; solutions = h.solutions; mark = h.mark })
+        inl (record { results = h.results; are = leasts_as one (parts_to options.depth) h.results h.are; spent = h.spent; best = h.best; is_best = h.is_best; solutions = h.solutions; mark = h.mark })
     cost_collected_as one (inr h) = inr (record {
       cost = h.cost;
       least = h.least;
       best = h.best;
-      found = best_as one h.best h.found;
+      found = best_as one (parts_to options.depth) h.best h.found;
       results = h.results;
-      are = firsts_as (cut_to model.goal h.cost (start_of model)) h.results h.are;
+      are = firsts_as (parts_to options.depth) (cut_to model.goal h.cost (start_of model)) h.results h.are;
       is_open = h.is_open;
       solutions = h.solutions;
       mark = h.mark;
@@ -161,19 +163,19 @@ module _ (laws : LaneLaws) (model : FznModel) (options : Options) (workers lanes
     collected_as (Goal.Maximize t) all (inr one) h = cost_collected_as one h
 
   unspent_first_as : (b : Bounds) → IsUnspentFirst model others b → IsUnspentFirst model options b
-  unspent_first_as b h = record { results = h.results; are = firsts_as b h.results h.are; none_open = h.none_open }
+  unspent_first_as b h = record { results = h.results; are = firsts_as (parts_to options.depth) b h.results h.are; none_open = h.none_open }
 
   unspent_least_as : workers ≡ 1 → IsUnspentLeast model others → IsUnspentLeast model options
   unspent_least_as one h = record {
     results = h.results;
-    are = leasts_as one h.results h.are;
+    are = leasts_as one (parts_to options.depth) h.results h.are;
     unspent = h.unspent;
     second = λ cost least. unspent_first_as (cut_to model.goal cost (start_of model)) (h.second cost least);
   }
 
   unspent_as : (goal : Goal) (all : Bool) → (goal ≡ Goal.Satisfy) ⊎ (workers ≡ 1) → IsUnspentFor goal all model others → IsUnspentFor goal all model options
   unspent_as Goal.Satisfy false sole h = unspent_first_as (start_of model) h
-  unspent_as Goal.Satisfy true sole h = record { results = h.results; are = alls_as h.results h.are; unspent = h.unspent }
+  unspent_as Goal.Satisfy true sole h = record { results = h.results; are = alls_as (parts_to options.depth) h.results h.are; unspent = h.unspent }
   unspent_as (Goal.Minimize t) all (inl e) h = absurd cc
   unspent_as (Goal.Minimize t) all (inr one) h = unspent_least_as one h
   unspent_as (Goal.Maximize t) all (inl e) h = absurd cc
@@ -184,12 +186,13 @@ module _ (laws : LaneLaws) (model : FznModel) (options : Options) (workers lanes
   answer_as sole answer (inr h) = inr (collected_as answer model.goal options.all sole h)
 
 -- options that ask alike are by other workers and lanes
-same_asked : (o p : Options) → AskAlike o p → p ≡ by_others o p.workers p.lanes p.steal
+same_asked : (o p : Options) → AskAlike o p → p ≡ by_others o p.workers p.lanes p.most_parts p.steal
 same_asked o p alike = λ i. record {
   all = sym alike.all i;
   workers = p.workers;
   lanes = p.lanes;
   depth = sym alike.depth i;
+  most_parts = p.most_parts;
   node_limit = sym alike.node_limit i;
   round_limit = sym alike.round_limit i;
   steal = p.steal;
@@ -202,4 +205,4 @@ free_lanes o p alike (inr own) (inr its) = inr (its ∙ sym own)
 
 pub asked_alike : (laws : LaneLaws) (model : FznModel) (o p : Options) (answer : Answer) → AskAlike o p → IsPinned model o → IsPinned model p → IsAnswer model p answer → IsAnswer model o answer
 asked_alike laws model o p answer alike own its h =
-    answer_as laws model o p.workers p.lanes p.steal (free_lanes o p alike own.0 its.0) its.1 answer (subst (λ (q : Options). IsAnswer model q answer) (same_asked o p alike) h)
+    answer_as laws model o p.workers p.lanes p.most_parts p.steal (free_lanes o p alike own.0 its.0) its.1 answer (subst (λ (q : Options). IsAnswer model q answer) (same_asked o p alike) h)

@@ -1,41 +1,40 @@
--- A number whose box the best cost beats: its search drops the box, and is at its end.
-use Rattle.std.proofs.Common.{◌≡◌, ◌≢◌, ℕ, zero, suc, ◌+◌, ◌^◌, ◌<◌, ℤ, pos, neg_ℤ, ◌-ℤ◌, ◌≤ℤ◌, ◌<ℤ◌, List, [], ◌∷◌, ◌++◌, length, Any, Contains, Bool, true, false, cond, Option, None, Some, refl, sym, subst, ◌∙◌, ◌⊎◌, inl, inr, arith}
+-- A part whose box the best cost beats: its search drops the box, and is at its end.
+use Rattle.std.proofs.Common.{◌≡◌, ◌≢◌, ℕ, zero, suc, ◌<◌, ℤ, pos, neg_ℤ, ◌-ℤ◌, ◌≤ℤ◌, ◌<ℤ◌, List, [], ◌∷◌, ◌++◌, length, Contains, Option, None, Some, refl, sym, subst, ◌⊎◌, inl, inr, arith}
 use Rattle.std.proofs.lemmas.Int.{ints}
 use Rattle.std.proofs.lemmas.List.{length-set}
-use Rattle.std.specs.Prelude.{slice_index_or, int_le, IfSome, MatchOption}
+use Rattle.std.specs.Prelude.{slice_index_or, IfSome, MatchOption}
 use Rattle.std.specs.Int.{int_min, int_max}
-use Rattle.interval.specs.Boxes.{Bounds, low_of, high_of, put_of, IsInside, IsInRange, IsCrossed, InsideOrder}
+use Rattle.interval.specs.Boxes.{Bounds, low_of, high_of, IsInside, IsInRange, IsCrossed, InsideOrder}
 use Rattle.guarded_tell.specs.declared.kernel.Kernel.{Kernel}
 use Rattle.constraint_model.specs.declared.model.Term.{Term}
 use Rattle.constraint_model.specs.declared.model.VarDecl.{VarDecl}
 use Rattle.constraint_model.specs.declared.model.Goal.{Goal}
 use Rattle.constraint_model.specs.declared.model.FznModel.{FznModel}
-use Rattle.constraint_model.specs.Relations.{cost_of}
 use Rattle.constraint_model.specs.WellFormed.{IsGoalOf}
 use Rattle.decompose.specs.Kernels.{kernels_of}
-use Rattle.solution_lists.specs.Solutions.{LiesIn, SolvesInside}
 use Rattle.best_bound.specs.Lists.{Among, with_seen, IsLeastCost, IsCostBelow}
 use Rattle.subproblems.specs.Cuts.{CanBeCut, CutLaws}
 use Rattle.subproblems.specs.Paths.{LeadsTo, PathLaws}
 use Rattle.subproblem_walk.specs.Beaten.{CostsFrom, LeadsToBeaten, LeadsBelow}
 use Rattle.search.specs.declared.kind.Kind.{Kind}
 use Rattle.search.specs.declared.ends.LeastEnd.{LeastEnd}
-use Rattle.search.specs.Costs.{up_to, from_on, at_most, IsAtMost}
+use Rattle.search.specs.Costs.{up_to, from_on, at_most}
 use Rattle.search.specs.Machine.{Search, State, MayFall, Step, Reached, cut_by, best_after}
 use Rattle.search.specs.Machine.Node.{is_dropped}
 use Rattle.search.specs.Machine.Reached.{begun, stepped}
 use Rattle.search.specs.Ends.{EndsDone}
 use Rattle.search.specs.Laws.{IsInsideStart, MorePosted, CostsFall, FindsLeast}
-use Rattle.search.specs.LeastEnds.{EndsLeast, CostAtLeast}
+use Rattle.search.specs.LeastEnds.{CostAtLeast}
+use Rattle.tree_cover.specs.declared.part.Part.{Part}
 use Rattle.answer.specs.declared.plan.Plan.{Plan}
-use Rattle.answer.specs.Places.{HasResult}
+use Rattle.answer.specs.Places.{StandsAt, PartLeadsTo, PartLeadsBelow, HasResult}
 use Rattle.answer.specs.Plans.{IsPlan, model_of, kernels_in}
-use Rattle.answer.specs.Results.{program_of, IsResultFrom}
+use Rattle.answer.specs.Results.{IsResultFrom}
 use Rattle.answer.specs.Runs.{IsLeastRun, AreLeastRuns}
 use Rattle.answer.proofs.ObjectiveLaws.{low_put, high_put, least_le_right, greatest_le_right}
 use Rattle.answer.proofs.SweepLaws.{crossed_fails, crossed_spends_nothing}
 use Rattle.answer.proofs.ListedLaws.{is_program, can_be_cut}
-use Rattle.answer.proofs.PathBoxes.{path_can}
+use Rattle.answer.proofs.PartPaths.{same_part, inside_at, can_at, every_at}
 use Rattle.answer.proofs.RunLists.{AllAmong, nothing_there}
 use Rattle.answer.proofs.LeastRunLists.{among_contains, least_run_more}
 use Rattle.answer.proofs.LeastJobLaws.{search, inside_start}
@@ -139,22 +138,22 @@ module _ (more : MorePosted) (fall : CostsFall) (finds : FindsLeast) (order : In
 
   -- the number has no solution that costs less: so it is where the best cost is seen, and where it is known
   record HasNothing (seen : List ℤ) (number : ℕ) (best : Option ℤ) : Type 0 where
-    of_seen : HasResult model plan.options.depth plan.start.now (IsLeastRun model plan.options seen) number ([], LeastEnd.Done None)
-    of_known : HasResult model plan.options.depth plan.start.now (IsResultFrom model plan.options best) number ([], LeastEnd.Done None)
+    of_seen : HasResult model plan.parts.now plan.start.now (IsLeastRun model plan.options seen) number ([], LeastEnd.Done None)
+    of_known : HasResult model plan.parts.now plan.start.now (IsResultFrom model plan.options best) number ([], LeastEnd.Done None)
 
-  leads_nowhere : (seen : List ℤ) (number : ℕ) (best : Option ℤ) → LeadsTo model (kernels_of model) plan.options.depth plan.start.now number None → HasNothing seen number best
+  leads_nowhere : (seen : List ℤ) (number : ℕ) (best : Option ℤ) → PartLeadsTo model (kernels_of model) plan.parts.now plan.start.now number None → HasNothing seen number best
   leads_nowhere seen number best leads = record {
     of_seen = record { path = None; leads = leads; is_result = (refl, tt) };
     of_known = record { path = None; leads = leads; is_result = refl };
   }
 
-  dropped_result : (seen : List ℤ) (number : ℕ) (cost : ℤ) (sub : Bounds) → Among seen cost → LeadsTo model (kernels_of model) plan.options.depth plan.start.now number (Some sub) →
+  dropped_result : (seen : List ℤ) (number : ℕ) (cost : ℤ) (sub : Bounds) → Among seen cost → PartLeadsTo model (kernels_of model) plan.parts.now plan.start.now number (Some sub) →
       CostsFrom model.goal cost sub → HasNothing seen number (Some cost)
   dropped_result seen number cost sub there leads beaten =
       let s = search more fall plan is objective None seen sub in
       let alone = search more fall plan is objective (Some cost) [] sub in
-      let can_sub = path_can cuts model (kernels_of model) plan.options.depth plan.start.now number sub can leads in
-      let inside = order.through sub plan.start.now plan.run.now.program.now.start (paths.inside model (kernels_of model) plan.options.depth plan.start.now number sub can leads) is.inside in
+      let can_sub = can_at cuts model (kernels_of model) plan.parts.now plan.start.now number sub can leads in
+      let inside = order.through sub plan.start.now plan.run.now.program.now.start (inside_at paths model (kernels_of model) plan.parts.now plan.start.now number sub can leads) is.inside in
       let posted = among_contains seen cost there in
       let crossed = cut_crossed model.vars cost sub can_sub.long model.goal is.run.model.objective beaten in
       let falls : MayFall seen None (Some cost) = inr (cost, (posted, (tt, refl))) in
@@ -168,32 +167,41 @@ module _ (more : MorePosted) (fall : CostsFall) (finds : FindsLeast) (order : In
         of_known = record { path = Some sub; leads = leads; is_result = (drop_ends alone refl cost stays crossed, refl) };
       }
 
-  result_at : (seen : List ℤ) (number : ℕ) (cost : ℤ) (path : Option Bounds) → Among seen cost → LeadsTo model (kernels_of model) plan.options.depth plan.start.now number path →
-      LeadsToBeaten model (kernels_of model) plan.options.depth plan.start.now number cost → HasNothing seen number (Some cost)
+  -- each number that the box to which the part leads has for the objective costs so much at least
+  abbrev IsBeatenAt : ℕ → ℤ → Type 0
+  IsBeatenAt number cost = (b : Bounds) → PartLeadsTo model (kernels_of model) plan.parts.now plan.start.now number (Some b) → CostsFrom model.goal cost b
+
+  beaten_at : (number : ℕ) (cost : ℤ) (part : Part) → StandsAt plan.parts.now number part → LeadsToBeaten model (kernels_of model) part.depth plan.start.now part.number cost → IsBeatenAt number cost
+  beaten_at number cost part stands beaten b h =
+      let same = same_part plan.parts.now number h.part part h.stands stands in
+      beaten b (subst (λ (p : Part). LeadsTo model (kernels_of model) p.depth plan.start.now p.number (Some b)) same h.leads)
+
+  result_at : (seen : List ℤ) (number : ℕ) (cost : ℤ) (path : Option Bounds) → Among seen cost → PartLeadsTo model (kernels_of model) plan.parts.now plan.start.now number path →
+      IsBeatenAt number cost → HasNothing seen number (Some cost)
   result_at seen number cost None there leads beaten = leads_nowhere seen number (Some cost) leads
   result_at seen number cost (Some sub) there leads beaten = dropped_result seen number cost sub there leads (beaten sub leads)
 
-  result_below : (seen : List ℤ) (number : ℕ) (best : Option ℤ) → number < 2 ^ plan.options.depth → IfSome best (λ cost. Among seen cost) →
-      MatchOption best ⊥ (λ cost. LeadsToBeaten model (kernels_of model) plan.options.depth plan.start.now number cost) → HasNothing seen number best
-  result_below seen number None below there beaten = absurd beaten
-  result_below seen number (Some cost) below there beaten =
-      let all = paths.every model (kernels_of model) plan.options.depth plan.start.now can in
-      result_at seen number cost (slice_index_or all.0 number None) there (all.1.each number below) beaten
+  result_below : (seen : List ℤ) (number : ℕ) (best : Option ℤ) (part : Part) → number < length plan.parts.now → StandsAt plan.parts.now number part → IfSome best (λ cost. Among seen cost) →
+      MatchOption best ⊥ (λ cost. LeadsToBeaten model (kernels_of model) part.depth plan.start.now part.number cost) → HasNothing seen number best
+  result_below seen number None part below stands there beaten = absurd beaten
+  result_below seen number (Some cost) part below stands there beaten =
+      let all = every_at paths model (kernels_of model) plan.parts.now plan.start.now is.parts can in
+      result_at seen number cost (slice_index_or all.0 number None) there (all.1.each number below) (beaten_at number cost part stands beaten)
 
-  has_nothing : (seen : List ℤ) (number : ℕ) (best : Option ℤ) → number < 2 ^ plan.options.depth → IfSome best (λ cost. Among seen cost) →
-      LeadsBelow model (kernels_in plan) plan.options.depth plan.start.now number best None → HasNothing seen number best
-  has_nothing seen number best below there leads =
-      elim (subst (λ (ks : List Kernel). LeadsBelow model ks plan.options.depth plan.start.now number best None) is.run.program.kernels leads) [
-        | inl nowhere ↦ leads_nowhere seen number best nowhere
-        | inr beaten ↦ result_below seen number best below there beaten.1
+  has_nothing : (seen : List ℤ) (number : ℕ) (best : Option ℤ) → number < length plan.parts.now → IfSome best (λ cost. Among seen cost) →
+      PartLeadsBelow model (kernels_in plan) plan.parts.now plan.start.now number best None → HasNothing seen number best
+  has_nothing seen number best below there h =
+      elim (subst (λ (ks : List Kernel). LeadsBelow model ks h.part.depth plan.start.now h.part.number best None) is.run.program.kernels h.leads) [
+        | inl nowhere ↦ leads_nowhere seen number best (record { part = h.part; stands = h.stands; leads = nowhere })
+        | inr beaten ↦ result_below seen number best h.part below h.stands there beaten.1
       ]
 
-  pub least_run_past : (seen posted : List ℤ) (number : ℕ) (best : Option ℤ) (runs : List (ℕ × LeastEnd)) → number < 2 ^ plan.options.depth → IfSome best (λ cost. Among seen cost) →
-      (plan.options.workers ≡ 1 → IsLeastCost posted best) → LeadsBelow model (kernels_in plan) plan.options.depth plan.start.now number best None →
-      AreLeastRuns model plan.options plan.start.now seen posted runs → AreLeastRuns model plan.options plan.start.now seen posted (runs ++ (number, LeastEnd.Done None) ∷ [])
+  pub least_run_past : (seen posted : List ℤ) (number : ℕ) (best : Option ℤ) (runs : List (ℕ × LeastEnd)) → number < length plan.parts.now → IfSome best (λ cost. Among seen cost) →
+      (plan.options.workers ≡ 1 → IsLeastCost posted best) → PartLeadsBelow model (kernels_in plan) plan.parts.now plan.start.now number best None →
+      AreLeastRuns model plan.options plan.parts.now plan.start.now seen posted runs → AreLeastRuns model plan.options plan.parts.now plan.start.now seen posted (runs ++ (number, LeastEnd.Done None) ∷ [])
   least_run_past seen posted number best runs below there least leads k =
       let nothing = has_nothing seen number best below there leads in
-      least_run_more more model plan.options plan.start.now objective seen seen posted posted runs number ([], LeastEnd.Done None) k (λ x h. h) (λ x h. h) nothing.of_seen (λ cost h. inl h)
+      least_run_more more model plan.options plan.parts.now plan.start.now objective seen seen posted posted runs number ([], LeastEnd.Done None) k (λ x h. h) (λ x h. h) nothing.of_seen (λ cost h. inl h)
       (λ a cost h costs. absurd (nothing_there a h)) (λ one. (best, least one, nothing.of_known))
 
 -- what a look saw is among what was seen, and so is what was seen before
@@ -213,11 +221,14 @@ seen_before best before after e x h = subst (λ (xs : List ℤ). Among xs x) (sy
     still None = h
     still (Some y) = inr h
 
--- a box that is found is what the number leads to
-pub found_leads : (model : FznModel) (kernels : List Kernel) (depth : ℕ) (start : Bounds) (number : ℕ) (best : Option ℤ) (b : Bounds) → LeadsBelow model kernels depth start number best (Some b) →
-    LeadsTo model kernels depth start number (Some b)
-found_leads model kernels depth start number best b (inl h) = h
-found_leads model kernels depth start number best b (inr h) = absurd (other h.0)
+-- a box that is found is what the part leads to
+pub found_leads : (model : FznModel) (kernels : List Kernel) (parts : List Part) (start : Bounds) (number : ℕ) (best : Option ℤ) (b : Bounds) → PartLeadsBelow model kernels parts start number best (Some b) →
+    PartLeadsTo model kernels parts start number (Some b)
+found_leads model kernels parts start number best b h = record { part = h.part; stands = h.stands; leads = found h.leads }
   where
     other : Some b ≡ None → ⊥
     other e = cc
+
+    found : LeadsBelow model kernels h.part.depth start h.part.number best (Some b) → LeadsTo model kernels h.part.depth start h.part.number (Some b)
+    found (inl leads) = leads
+    found (inr none) = absurd (other none.0)

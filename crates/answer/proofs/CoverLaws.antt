@@ -1,5 +1,5 @@
--- Each solution of the model lies in what some number leads to, so that the searches of all numbers reach its cost.
-use Rattle.std.proofs.Common.{◌≡◌, ◌≢◌, ℕ, zero, suc, ℤ, ◌<◌, ◌^◌, ◌≤ℤ◌, ◌<ℤ◌, List, [], ◌∷◌, ◌++◌, length, map, take, get_or, slice_get, flat_map, All, Any, Contains, Option, None, Some, refl, sym, ap, subst, ◌∙◌, inl, inr, arith}
+-- Each solution of the model lies in what some part of a cover leads to, so that the searches of all parts reach its cost.
+use Rattle.std.proofs.Common.{◌≡◌, ◌≢◌, ℕ, zero, suc, ℤ, ◌<◌, ◌≤ℤ◌, ◌<ℤ◌, List, [], ◌∷◌, ◌++◌, length, take, get_or, slice_get, flat_map, All, Any, Contains, Option, None, Some, refl, sym, ap, subst, ◌∙◌, inl, inr, arith}
 use Rattle.std.specs.List.{range_with_len}
 use Rattle.std.proofs.lemmas.Int.{ints}
 use Rattle.std.proofs.lemmas.List.{take-map}
@@ -12,19 +12,22 @@ use Rattle.constraint_model.specs.Relations.{cost_of, IsSolution}
 use Rattle.constraint_model.specs.Searches.{IsSearchOf}
 use Rattle.decompose.specs.Kernels.{kernels_of}
 use Rattle.decompose.specs.Program.{start_of, IsProgramOf}
-use Rattle.branching.specs.Tree.{EveryList, SolutionsIn}
+use Rattle.branching.specs.Tree.{OneList, EveryList, SolutionsIn}
 use Rattle.best_bound.specs.Lists.{Among}
 use Rattle.solution_lists.specs.Solutions.{SolvesInside, SolutionsAreListed, ListsSolutionsInside}
 use Rattle.subproblems.specs.Cuts.{CutLaws}
-use Rattle.subproblems.specs.Paths.{LeadsTo, SolutionsOfAll, PathLaws}
+use Rattle.subproblems.specs.Paths.{SolutionsOfAll, PathLaws}
 use Rattle.search.specs.declared.ends.LeastEnd.{LeastEnd}
 use Rattle.search.specs.LeastEnds.{CostAtLeast}
 use Rattle.tickets.specs.Counting.{IsEachOnce, CountingLaws}
 use Rattle.crew.specs.Ends.{numbers_of, AreInOrder}
+use Rattle.tree_cover.specs.declared.part.Part.{Part}
+use Rattle.tree_parts.specs.Whole.{WholeOfParts}
 use Rattle.answer.specs.declared.options.Options.{Options}
 use Rattle.answer.specs.Lists.{Assignment}
 use Rattle.answer.specs.Least.{IsLeastCost}
-use Rattle.answer.specs.Places.{StandsAt}
+use Rattle.answer.specs.Places.{StandsAt, PartLeadsTo}
+use Rattle.answer.specs.Parts.{AreParts}
 use Rattle.answer.specs.Results.{program_of, LeastResult, IsLeastResult, ComesInTurn, AreInTurn, least_collected, collected_in, IsLeastSpent, CostsAtMost, AreLeastResults}
 use Rattle.answer.specs.Runs.{IsCovered, IsLeastRun, AreLeastRuns, ReachAll, AreWholeResults, AreWholeEnds}
 use Rattle.answer.specs.Unfinished.{CostsMore, CostsAsMuch, IsFirstLeast}
@@ -34,7 +37,7 @@ use Rattle.answer.proofs.Chosen.{mapped_at, chosen, chosen_images, same_numbers}
 use Rattle.answer.proofs.TurnLaws.{number_at, same_results}
 use Rattle.answer.proofs.ObjectiveLaws.{has_cost}
 use Rattle.answer.proofs.ListedLaws.{lies_in_start, start_can_be_cut}
-use Rattle.answer.proofs.PathBoxes.{path_can}
+use Rattle.answer.proofs.PartPaths.{one_at, inside_at, can_at, every_at, listed_by_parts}
 
 -- whatever an entry gives is given by all
 contains_given : {E X : Type 0} (f : E → List X) (rs : List E) (k : ℕ) (r : E) (x : X) → slice_get rs k ≡ Some r → Contains (f r) x → Contains (flat_map f rs) x
@@ -50,7 +53,7 @@ end_of result = result.1
 any_given : {E : Type 0} (f : E → List Assignment) (rs : List E) (k : ℕ) (r : E) (P : Assignment → Type 0) → slice_get rs k ≡ Some r → Any P (f r) → Any P (flat_map f rs)
 any_given f rs k r P e (i, a, l, m, p) = let there = contains_given f rs k r a e (i, l, m) in (there.0, a, there.1, there.2, p)
 
--- a subproblem on the way to which the assignment lies
+-- a subproblem in which the assignment lies
 record LiesBelow (model : FznModel) (paths : List (Option Bounds)) (a : Assignment) : Type 0 where
   number : ℕ
   sub : Bounds
@@ -73,14 +76,14 @@ lies_below model (Some sub ∷ paths) found a (first, rest, own, others, e) h =
       | inr r ↦ later_below model (Some sub) paths a (lies_below model paths rest a others r)
     ]
 
-module _ (order : InsideOrder) (every : EveryList) (laws : PathLaws) (cuts : CutLaws) (listed : SolutionsAreListed) (model : FznModel) (rule : IsSearchOf model)
-    (f : IsProgramOf model (program_of model)) (options : Options) where
-  -- a number and its subproblem, in which the assignment solves the model
+module _ (order : InsideOrder) (one : OneList) (every : EveryList) (laws : PathLaws) (cuts : CutLaws) (whole : WholeOfParts) (listed : SolutionsAreListed) (model : FznModel) (rule : IsSearchOf model)
+    (f : IsProgramOf model (program_of model)) (options : Options) (parts : List Part) (are_parts : AreParts parts) where
+  -- a part and its subproblem, in which the assignment solves the model
   record IsCoveredAt (a : Assignment) : Type 0 where
     number : ℕ
-    below : number < 2 ^ options.depth
+    below : number < length parts
     sub : Bounds
-    leads : LeadsTo model (kernels_of model) options.depth (start_of model) number (Some sub)
+    leads : PartLeadsTo model (kernels_of model) parts (start_of model) number (Some sub)
     solves : SolvesInside model sub a
 
   covered : (a : Assignment) → IsSolution model a → IsCoveredAt a
@@ -89,21 +92,21 @@ module _ (order : InsideOrder) (every : EveryList) (laws : PathLaws) (cuts : Cut
       let can = start_can_be_cut order model rule f in
       let list = every model (kernels_of model) start rule can.long can.in_range can.fit in
       let all : ListsSolutionsInside model start list.0 = listed model (program_of model) start list.0 f rule can.in_range (order.itself start) list.1 in
-      let paths = laws.every model (kernels_of model) options.depth start can in
-      let parts = laws.solutions_back model (kernels_of model) options.depth start paths.0 list.0 can paths.1 list.1 in
-      let here = lies_below model paths.0 list.0 a parts ((all.each a).1 (record { solves = h; inside = lies_in_start order model rule f a h })) in
+      let paths = every_at laws model (kernels_of model) parts start are_parts.each can in
+      let lists = listed_by_parts whole one every cuts model (kernels_of model) parts start paths.0 list.0 can are_parts paths.1 list.1 in
+      let here = lies_below model paths.0 list.0 a lists ((all.each a).1 (record { solves = h; inside = lies_in_start order model rule f a h })) in
       let within = slice_get_within paths.0 here.number (Some here.sub) here.there in
-      let below : here.number < 2 ^ options.depth = let e = paths.1.count in omega arith in
-      let leads : LeadsTo model (kernels_of model) options.depth start here.number (Some here.sub) =
-      subst (LeadsTo model (kernels_of model) options.depth start here.number) (get_or_from_slice_get paths.0 here.number (Some here.sub) None here.there) (paths.1.each here.number below) in
-      let sub_can = path_can cuts model (kernels_of model) options.depth start here.number here.sub can leads in
-      let sub_in = laws.inside model (kernels_of model) options.depth start here.number here.sub can leads in
+      let below : here.number < length parts = let e = paths.1.count in omega arith in
+      let leads : PartLeadsTo model (kernels_of model) parts start here.number (Some here.sub) =
+      subst (PartLeadsTo model (kernels_of model) parts start here.number) (get_or_from_slice_get paths.0 here.number (Some here.sub) None here.there) (paths.1.each here.number below) in
+      let sub_can = can_at cuts model (kernels_of model) parts start here.number here.sub can leads in
+      let sub_in = inside_at laws model (kernels_of model) parts start here.number here.sub can leads in
       let sub_all : ListsSolutionsInside model here.sub here.own = listed model (program_of model) here.sub here.own f rule sub_can.in_range sub_in here.listed in
       record { number = here.number; below = below; sub = here.sub; leads = leads; solves = (sub_all.each a).0 here.stands }
 
-  -- the results of the runs of all numbers, where all costs that were seen were posted
-  module _ (seen posted : List ℤ) (runs : List (ℕ × LeastEnd)) (h : AreLeastRuns model options (start_of model) seen posted runs) (all : AllAmong seen posted) (results : List LeastResult)
-      (in_order : AreInOrder (2 ^ options.depth) h.results results) (rising : options.workers ≡ 1 → numbers_of h.results ≡ range_with_len 0 (2 ^ options.depth)) where
+  -- the results of the runs of all parts, where all costs that were seen were posted
+  module _ (seen posted : List ℤ) (runs : List (ℕ × LeastEnd)) (h : AreLeastRuns model options parts (start_of model) seen posted runs) (all : AllAmong seen posted) (results : List LeastResult)
+      (in_order : AreInOrder (length parts) h.results results) (rising : options.workers ≡ 1 → numbers_of h.results ≡ range_with_len 0 (length parts)) where
     given : (cost : ℤ) → Among seen cost → Any (CostsAtMost model.goal cost) (collected_in results)
     given cost there =
         let r = h.reached cost (all cost there) in
@@ -117,22 +120,22 @@ module _ (order : InsideOrder) (every : EveryList) (laws : PathLaws) (cuts : Cut
         (r.number, r.result, slice_get_within results r.number r.result place, get_or_from_slice_get results r.number r.result r.result place, r.recorded)
 
     -- one worker's results are those of its runs, in turn
-    in_turn : options.workers ≡ 1 → numbers_of h.results ≡ range_with_len 0 (2 ^ options.depth) → AreInTurn model options results
+    in_turn : options.workers ≡ 1 → numbers_of h.results ≡ range_with_len 0 (length parts) → AreInTurn model options parts results
     in_turn one rise number result there =
-        let same = same_results (2 ^ options.depth) h.results results in_order rise in
+        let same = same_results (length parts) h.results results in_order rise in
         let from = mapped_at (λ (run : ℕ × LeastResult). run.1) h.results number result (subst (λ (rs : List LeastResult). StandsAt rs number result) (sym same) there) in
-        let place = number_at (2 ^ options.depth) h.results results in_order rise number from.0 from.1 in
+        let place = number_at (length parts) h.results results in_order rise number from.0 from.1 in
         let earlier = sym (take-map (λ (run : ℕ × LeastResult). run.1) number h.results) ∙ ap (take number) same in
-        subst (λ (n : ℕ). ComesInTurn model options (start_of model) (take number results) n result) place
-        (subst (λ (r : LeastResult). ComesInTurn model options (start_of model) (take number results) from.0.0 r) from.2
-        (subst (λ (rs : List LeastResult). ComesInTurn model options (start_of model) rs from.0.0 from.0.1) earlier (h.in_turn one number from.0 from.1)))
+        subst (λ (n : ℕ). ComesInTurn model options parts (start_of model) (take number results) n result) place
+        (subst (λ (r : LeastResult). ComesInTurn model options parts (start_of model) (take number results) from.0.0 r) from.2
+        (subst (λ (rs : List LeastResult). ComesInTurn model options parts (start_of model) rs from.0.0 from.0.1) earlier (h.in_turn one number from.0 from.1)))
 
-    are_results : AreLeastResults model options results
+    are_results : AreLeastResults model options parts results
     are_results = record {
       posted = seen;
       recorded = λ cost there. recorded cost (contains_among seen cost there);
-      are = results_of model options.depth (start_of model) (IsLeastResult model options seen) h.results results in_order
-          (λ number result there. result_kept model options.depth (start_of model) (IsLeastRun model options seen) (IsLeastResult model options seen) (λ n p r k. k.0) number result (h.each number result there));
+      are = results_of model parts (start_of model) (IsLeastResult model options seen) h.results results in_order
+          (λ number result there. result_kept model parts (start_of model) (IsLeastRun model options seen) (IsLeastResult model options seen) (λ n p r k. k.0) number result (h.each number result there));
       in_turn = λ one. in_turn one (rising one);
     }
 
@@ -156,23 +159,23 @@ module _ (order : InsideOrder) (every : EveryList) (laws : PathLaws) (cuts : Cut
         let result = get_or results c.number nothing in
         let place : slice_get results c.number ≡ Some result = slice_get-get_or results c.number nothing below in
         let own = h.each c.number result ((in_order.places c.number result).1 place) in
-        let same = laws.one model (kernels_of model) options.depth (start_of model) c.number own.path (Some c.sub) rule own.leads c.leads in
+        let same = one_at laws model (kernels_of model) parts (start_of model) c.number own.path (Some c.sub) rule own.leads c.leads in
         let is_covered = subst (λ (p : Option Bounds). IsCovered model seen p result.1) same own.is_result.1 in
         let some = at_end result.1 c.sub (unspent c.number nothing below) is_covered a cost c.solves costs_so in
         lower_any cost some.1 some.4 (given some.1 (contains_among seen some.1 (some.0, some.2, some.3)))
 
-    pub whole_results : AreWholeResults model options results
+    pub whole_results : AreWholeResults model options parts results
     whole_results = record { are = are_results; reach = reach }
 
-  -- so it is of the ends of all numbers: one of what the runs recorded is chosen for each
-  pub whole_ends : CountingLaws → (seen posted : List ℤ) (runs : List (ℕ × LeastEnd)) (ends : List LeastEnd) → AreLeastRuns model options (start_of model) seen posted runs → AllAmong seen posted →
-      AreInOrder (2 ^ options.depth) runs ends → (options.workers ≡ 1 → numbers_of runs ≡ range_with_len 0 (2 ^ options.depth)) → AreWholeEnds model options ends
+  -- so it is of the ends of all parts: one of what the runs recorded is chosen for each
+  pub whole_ends : CountingLaws → (seen posted : List ℤ) (runs : List (ℕ × LeastEnd)) (ends : List LeastEnd) → AreLeastRuns model options parts (start_of model) seen posted runs → AllAmong seen posted →
+      AreInOrder (length parts) runs ends → (options.workers ≡ 1 → numbers_of runs ≡ range_with_len 0 (length parts)) → AreWholeEnds model options parts ends
   whole_ends counting seen posted runs ends h all order rising =
       let numbers : numbers_of h.results ≡ numbers_of runs = sym (same_numbers end_of h.results) ∙ ap (λ (rs : List (ℕ × LeastEnd)). numbers_of rs) h.of_runs in
-      let these = chosen counting (2 ^ options.depth) h.results (subst (IsEachOnce (2 ^ options.depth)) (sym numbers) order.each_once) in
+      let these = chosen counting (length parts) h.results (subst (IsEachOnce (length parts)) (sym numbers) order.each_once) in
       record {
         results = these.0;
-        of_results = chosen_images counting end_of (2 ^ options.depth) h.results these.0 runs ends these.1 h.of_runs order;
+        of_results = chosen_images counting end_of (length parts) h.results these.0 runs ends these.1 h.of_runs order;
         whole = whole_results seen posted runs h all these.0 these.1 (λ one. numbers ∙ rising one);
       }
 

@@ -1,5 +1,7 @@
 -- What is put together of the results is an answer.
 use Rattle.std.proofs.Common.{◌≡◌, ◌≢◌, ℕ, zero, suc, ℤ, Bool, true, false, List, [], ◌∷◌, ◌++◌, map, take, flat_map, All, Any, Contains, Option, None, Some, refl, sym, ap, subst, subst₂, ◌∙◌, ◌⊎◌, inl, inr, arith}
+use mathlib.Core.Logic.{dite}
+use native.Mathlib.Decide.{ℕ_discrete}
 use Rattle.std.specs.Bool.{OnTrue, OnFalse}
 use Rattle.std.proofs.lemmas.Option.{slice_get-get_or}
 use Rattle.std.proofs.lemmas.List.Elements.{All-nil, All-cons, All-append, All-head, All-tail}
@@ -16,6 +18,9 @@ use Rattle.solution_lists.specs.Solutions.{SolutionsAreListed}
 use Rattle.solution_lists.specs.Order.{InDeclarationOrder}
 use Rattle.subproblems.specs.Cuts.{CutLaws, CanBeCut}
 use Rattle.subproblems.specs.Paths.{PathLaws}
+use Rattle.tree_cover.specs.declared.part.Part.{Part}
+use Rattle.tree_cover.specs.Covers.{parts_to}
+use Rattle.tree_parts.specs.Whole.{WholeOfParts}
 use Rattle.search.specs.declared.ends.Why.{Why}
 use Rattle.search.specs.declared.ends.FirstEnd.{FirstEnd}
 use Rattle.search.specs.declared.ends.AllEnd.{AllEnd}
@@ -31,19 +36,29 @@ use Rattle.answer.specs.Cuts.{cut_to}
 use Rattle.answer.specs.Lists.{Assignment, ListsSolutions, IsSolutionAt}
 use Rattle.answer.specs.Finished.{IsFinished, IsOptimal, Gives}
 use Rattle.answer.specs.Places.{AreResults}
-use Rattle.answer.specs.Results.{program_of, listed, IsFirstResult, AreFirstResults, first_collected, IsOpen, IsAllResult, AreAllResults, all_collected, IsAllSpent, LeastResult, IsLeastResult, least_collected, collected_in, IsLeastSpent}
+use Rattle.answer.specs.Answers.{HasLimit}
+use Rattle.answer.specs.Parts.{ArePartsFor}
+use Rattle.answer.specs.Results.{program_of, listed, IsFirstResult, AreFirstResults, first_collected, IsOpen, IsAllResult, AreAllResults, all_collected, IsAllSpent, LeastResult, IsLeastResult, AreLeastResults, least_collected, collected_in, IsLeastSpent}
 use Rattle.answer.specs.Unfinished.{mark_where, IsFirstLeast, IsBestOf, FindsBest, IsBestCollected, IsLeastCollected, GivesCollected}
 use Rattle.answer.specs.Unspent.{IsUnspentFirst, IsUnspentLeast, IsUnspentFor, IsUnspentSearch}
 use Rattle.answer.specs.Runs.{AreWholeResults, AreWholeEnds}
-use Rattle.answer.specs.Given.{mark_for, IsBestKnown, IsGiven}
+use Rattle.answer.specs.Given.{mark_for, IsBestKnown, IsBestOfParts, IsGiven}
+use Rattle.answer.proofs.PartPaths.{ListedByParts, listed_by_parts}
 use Rattle.answer.proofs.HeadLaws.{first_of_all, all_of_all}
 use Rattle.answer.proofs.ListedLaws.{start_can_be_cut, can_be_cut, lists_solutions, cut_in_start, cut_in_range, lists_solutions_at}
 use Rattle.answer.proofs.SolveLaws.{firsts_solve, all_solve, least_solve}
 use Rattle.answer.proofs.CoverLaws.{nothing_solves, best_is_solution, least_is_best}
 use Rattle.answer.proofs.OneFinished.{same_cost}
 
--- ---- without limits no search is stopped by one
+-- ---- limits
 
+-- where it isn't so that no limit is set, one is
+pub some_limit : (options : Options) → (options.node_limit ≡ 0 → options.round_limit ≡ 0 → ⊥) → HasLimit options
+some_limit options some = dite (ℕ_discrete options.node_limit 0)
+    (λ (none : options.node_limit ≡ 0). inr (λ no_rounds. some none no_rounds))
+    (λ (nodes : options.node_limit ≢ 0). inl nodes)
+
+-- without limits no search is stopped by one
 limited : (s : Search) (why : Why) (nodes : ℕ) (found : List Assignment) → s.node_limit ≡ 0 → s.round_limit ≡ 0 → EndsSpent s why nodes found → ⊥
 limited s Why.Nodes nodes found n r h = h.out.limited n
 limited s Why.Rounds nodes found n r h = h.out.given_up.limited r
@@ -53,8 +68,8 @@ module _ (model : FznModel) (options : Options) (n : options.node_limit ≡ 0) (
   first_unlimited results number None nodes why h = h
   first_unlimited results number (Some sub) nodes why h = limited _ why nodes [] n r h
 
-  pub none_open : (b : Bounds) (results : List FirstEnd) → AreFirstResults model options b results → IsOpen results → ⊥
-  none_open b results are (number, h) =
+  pub none_open : (parts : List Part) (b : Bounds) (results : List FirstEnd) → AreFirstResults model options parts b results → IsOpen results → ⊥
+  none_open parts b results are (number, h) =
       let own = are.each number (FirstEnd.Spent h.nodes h.why) h.stopped in
       first_unlimited results number own.path h.nodes h.why own.is_result
 
@@ -101,9 +116,9 @@ all_of_results ends results e h = of_ends results (subst (All (λ end. IsLeastSp
         (of_ends rs (All-tail (λ end. IsLeastSpent end → ⊥) r.1 (map (λ (r : LeastResult). r.1) rs) h))
 
 -- no result is stopped, if each that is one of its number isn't
-pub none_spent : {E : Type 0} (model : FznModel) (depth : ℕ) (b : Bounds) (Is : ℕ → Option Bounds → E → Type 0) (Spent : E → Type 0) (results : List E) → AreResults model depth b Is results →
+pub none_spent : {E : Type 0} (model : FznModel) (parts : List Part) (b : Bounds) (Is : ℕ → Option Bounds → E → Type 0) (Spent : E → Type 0) (results : List E) → AreResults model parts b Is results →
     ((number : ℕ) (path : Option Bounds) (end : E) → Is number path end → Spent end → ⊥) → Any Spent results → ⊥
-none_spent model depth b Is Spent results are unlimited (k, x, l, e, s) =
+none_spent model parts b Is Spent results are unlimited (k, x, l, e, s) =
     let own = are.each k x (slice_get-get_or results k x l ∙ ap (λ y. Some y) e) in
     unlimited k own.path x own.is_result s
 
@@ -126,13 +141,16 @@ optimal_given model answer Goal.Satisfy all o h = absurd (o refl)
 optimal_given model answer (Goal.Minimize t) all o h = h
 optimal_given model answer (Goal.Maximize t) all o h = h
 
-module _ (order : InsideOrder) (one : OneList) (every : EveryList) (laws : PathLaws) (cuts : CutLaws) (are : SolutionsAreListed) (declared : InDeclarationOrder) (records : RecordsSolutions)
-    (model : FznModel) (rule : IsSearchOf model) (goal : IsGoalOf model.vars model.goal) (f : IsProgramOf model (program_of model)) (options : Options) (answer : Answer) where
+module _ (order : InsideOrder) (one : OneList) (every : EveryList) (laws : PathLaws) (cuts : CutLaws) (whole : WholeOfParts) (are : SolutionsAreListed) (declared : InDeclarationOrder) (records : RecordsSolutions)
+    (model : FznModel) (rule : IsSearchOf model) (goal : IsGoalOf model.vars model.goal) (f : IsProgramOf model (program_of model)) (options : Options) (parts : List Part) (serve : ArePartsFor options parts) (answer : Answer) where
   abbrev start : Bounds
   start = start_of model
 
   can : CanBeCut model (kernels_of model) start
   can = start_can_be_cut order model rule f
+
+  by_parts : ListedByParts
+  by_parts = listed_by_parts whole one every cuts
 
   -- the list of the start
   all_list : (found : List Assignment) × SolutionsIn model (kernels_of model) start found
@@ -141,21 +159,35 @@ module _ (order : InsideOrder) (one : OneList) (every : EveryList) (laws : PathL
   unsatisfiable : ListsSolutions model [] → answer.solutions ≡ [] → answer.mark ≡ Mark.Unsatisfiable → IsFinished model options.all answer
   unsatisfiable l e m = inl (record { none = λ a h. nothing_in a ((l.each a).1 h); solutions = e; mark = m })
 
+  -- under a limit the parts are those of the depth that is asked for
+  first_limited : (b : Bounds) (results : List FirstEnd) → AreFirstResults model options parts b results → HasLimit options → AreFirstResults model options (parts_to options.depth) b results
+  first_limited b results h limit = subst (λ (ps : List Part). AreFirstResults model options ps b results) (serve.limited limit) h
+
+  all_limited : (results : List AllEnd) → AreAllResults model options parts results → HasLimit options → AreAllResults model options (parts_to options.depth) results
+  all_limited results h limit = subst (λ (ps : List Part). AreAllResults model options ps results) (serve.limited limit) h
+
+  least_limited : (results : List LeastResult) → AreLeastResults model options parts results → HasLimit options → AreLeastResults model options (parts_to options.depth) results
+  least_limited results h limit = subst (λ (ps : List Part). AreLeastResults model options ps results) (serve.limited limit) h
+
   -- ---- the first solution
 
-  module _ (results : List FirstEnd) (h : AreFirstResults model options start results) (satisfy : model.goal ≡ Goal.Satisfy) (first : options.all ≡ false)
+  module _ (results : List FirstEnd) (h : AreFirstResults model options parts start results) (satisfy : model.goal ≡ Goal.Satisfy) (first : options.all ≡ false)
       (e : answer.solutions ≡ take 1 (flat_map first_collected results)) where
     first_solve : All (IsSolution model) answer.solutions
     first_solve =
         subst (All (IsSolution model)) (sym e)
-        (first_of_list (IsSolution model) (flat_map first_collected results) (firsts_solve order laws cuts records model rule goal f options start can (order.itself start) results h))
+        (first_of_list (IsSolution model) (flat_map first_collected results) (firsts_solve order laws cuts records model rule goal f options parts start can (order.itself start) results h))
 
     pub first_open : IsOpen results → answer.mark ≡ mark_where answer.solutions → IsGiven model options answer
     first_open part m = record {
-      is_answer = inr (subst₂ (λ (g : Goal) (b : Bool). GivesCollected g b model options answer) (sym satisfy) (sym first) (record { results = results; are = h; is_open = part; solutions = e; mark = m }));
-      whole = λ n r. absurd (none_open model options n r start results h part);
+      is_answer = inr (subst₂ (λ (g : Goal) (b : Bool). GivesCollected g b model options answer) (sym satisfy) (sym first)
+          (record { results = results; are = first_limited start results h limit; is_open = part; solutions = e; mark = m }));
+      whole = λ n r. absurd (none_open model options n r parts start results h part);
       solve = first_solve;
     }
+      where
+        limit : HasLimit options
+        limit = some_limit options (λ n r. none_open model options n r parts start results h part)
 
     finished : (found : List Assignment) → SolutionsIn model (kernels_of model) start found → take 1 (flat_map first_collected results) ≡ take 1 found → answer.mark ≡ mark_for false answer.solutions Mark.Plain →
         IsFinished model options.all answer
@@ -171,25 +203,29 @@ module _ (order : InsideOrder) (one : OneList) (every : EveryList) (laws : PathL
 
     pub first_closed : (IsOpen results → ⊥) → answer.mark ≡ mark_for false answer.solutions Mark.Plain → IsGiven model options answer
     first_closed closed m =
-        let done = finished all_list.0 all_list.1 (first_of_all one laws model options start results all_list.0 can h closed all_list.1) m in
-        record { is_answer = inl (record { finished = done; unspent = λ limit. searched }); whole = λ n r. done; solve = first_solve }
+        let done = finished all_list.0 all_list.1 (first_of_all one laws by_parts model options parts serve.are start results all_list.0 can h closed all_list.1) m in
+        record { is_answer = inl (record { finished = done; unspent = λ limit. searched limit }); whole = λ n r. done; solve = first_solve }
       where
-        searched : IsUnspentSearch model options
-        searched = subst₂ (λ (g : Goal) (b : Bool). IsUnspentFor g b model options) (sym satisfy) (sym first) (record { results = results; are = h; none_open = closed })
+        searched : HasLimit options → IsUnspentSearch model options
+        searched limit = subst₂ (λ (g : Goal) (b : Bool). IsUnspentFor g b model options) (sym satisfy) (sym first) (record { results = results; are = first_limited start results h limit; none_open = closed })
 
   -- ---- all solutions
 
-  module _ (results : List AllEnd) (h : AreAllResults model options results) (satisfy : model.goal ≡ Goal.Satisfy) (all : options.all ≡ true)
+  module _ (results : List AllEnd) (h : AreAllResults model options parts results) (satisfy : model.goal ≡ Goal.Satisfy) (all : options.all ≡ true)
       (e : answer.solutions ≡ flat_map all_collected results) where
     all_solutions_solve : All (IsSolution model) answer.solutions
-    all_solutions_solve = subst (All (IsSolution model)) (sym e) (all_solve order laws cuts records model rule goal f options start can (order.itself start) results h)
+    all_solutions_solve = subst (All (IsSolution model)) (sym e) (all_solve order laws cuts records model rule goal f options parts start can (order.itself start) results h)
 
     pub all_spent : Any IsAllSpent results → answer.mark ≡ mark_where answer.solutions → IsGiven model options answer
     all_spent spent m = record {
-      is_answer = inr (subst₂ (λ (g : Goal) (b : Bool). GivesCollected g b model options answer) (sym satisfy) (sym all) (record { results = results; are = h; spent = spent; solutions = e; mark = m }));
-      whole = λ n r. absurd (none_spent model options.depth start (IsAllResult model options) IsAllSpent results h (all_unlimited model options n r) spent);
+      is_answer = inr (subst₂ (λ (g : Goal) (b : Bool). GivesCollected g b model options answer) (sym satisfy) (sym all)
+          (record { results = results; are = all_limited results h limit; spent = spent; solutions = e; mark = m }));
+      whole = λ n r. absurd (none_spent model parts start (IsAllResult model options) IsAllSpent results h (all_unlimited model options n r) spent);
       solve = all_solutions_solve;
     }
+      where
+        limit : HasLimit options
+        limit = some_limit options (λ n r. none_spent model parts start (IsAllResult model options) IsAllSpent results h (all_unlimited model options n r) spent)
 
     all_finished : (found : List Assignment) → SolutionsIn model (kernels_of model) start found → flat_map all_collected results ≡ found → answer.mark ≡ mark_for false answer.solutions Mark.Complete →
         IsFinished model options.all answer
@@ -205,11 +241,11 @@ module _ (order : InsideOrder) (one : OneList) (every : EveryList) (laws : PathL
 
     pub all_unspent : All (λ end. IsAllSpent end → ⊥) results → answer.mark ≡ mark_for false answer.solutions Mark.Complete → IsGiven model options answer
     all_unspent unspent m =
-        let done = all_finished all_list.0 all_list.1 (all_of_all one laws model options start results all_list.0 can h unspent all_list.1) m in
-        record { is_answer = inl (record { finished = done; unspent = λ limit. searched }); whole = λ n r. done; solve = all_solutions_solve }
+        let done = all_finished all_list.0 all_list.1 (all_of_all one laws by_parts model options parts serve.are start results all_list.0 can h unspent all_list.1) m in
+        record { is_answer = inl (record { finished = done; unspent = λ limit. searched limit }); whole = λ n r. done; solve = all_solutions_solve }
       where
-        searched : IsUnspentSearch model options
-        searched = subst₂ (λ (g : Goal) (b : Bool). IsUnspentFor g b model options) (sym satisfy) (sym all) (record { results = results; are = h; unspent = unspent })
+        searched : HasLimit options → IsUnspentSearch model options
+        searched limit = subst₂ (λ (g : Goal) (b : Bool). IsUnspentFor g b model options) (sym satisfy) (sym all) (record { results = results; are = all_limited results h limit; unspent = unspent })
 
   -- ---- the least cost
 
@@ -225,10 +261,10 @@ module _ (order : InsideOrder) (one : OneList) (every : EveryList) (laws : PathL
     least_unspent (Goal.Maximize t) all o h = h
 
     -- what the first phase gives, where a limit stopped it or nothing was collected
-    module _ (results : List LeastResult) (h : AreWholeResults model options results) (best : Option Assignment) (is_best : IsBestOf model.goal (collected_in results) best)
+    module _ (results : List LeastResult) (h : AreWholeResults model options parts results) (best : Option Assignment) (is_best : IsBestOf model.goal (collected_in results) best)
         (e : answer.solutions ≡ listed best) where
       least_solutions_solve : All (IsSolution model) (collected_in results)
-      least_solutions_solve = least_solve order laws cuts records model rule goal f options start can (order.itself start) h.are.posted results h.are.are
+      least_solutions_solve = least_solve order laws cuts records model rule goal f options parts start can (order.itself start) h.are.posted results h.are.are
 
       best_solves : (best : Option Assignment) → IsBestOf model.goal (collected_in results) best → All (IsSolution model) (listed best)
       best_solves None b = All-nil (IsSolution model)
@@ -239,10 +275,17 @@ module _ (order : InsideOrder) (one : OneList) (every : EveryList) (laws : PathL
 
       pub least_spent : Any (λ result. IsLeastSpent result.1) results → answer.mark ≡ mark_where answer.solutions → IsGiven model options answer
       least_spent spent m = record {
-        is_answer = inr (collected_given model.goal options.all objective (inl (record { results = results; are = h.are; spent = spent; best = best; is_best = is_best; solutions = e; mark = m })));
-        whole = λ n r. absurd (none_spent model options.depth start (IsLeastResult model options h.are.posted) (λ (result : LeastResult). IsLeastSpent result.1) results h.are.are (least_unlimited model options n r h.are.posted) spent);
+        is_answer = inr (collected_given model.goal options.all objective
+            (inl (record { results = results; are = least_limited results h.are limit; spent = spent; best = best; is_best = is_best; solutions = e; mark = m })));
+        whole = λ n r. absurd (unlimited n r);
         solve = solved;
       }
+        where
+          unlimited : options.node_limit ≡ 0 → options.round_limit ≡ 0 → ⊥
+          unlimited n r = none_spent model parts start (IsLeastResult model options h.are.posted) (λ (result : LeastResult). IsLeastSpent result.1) results h.are.are (least_unlimited model options n r h.are.posted) spent
+
+          limit : HasLimit options
+          limit = some_limit options unlimited
 
       pub least_nothing : All (λ result. IsLeastSpent result.1 → ⊥) results → best ≡ None → answer.mark ≡ mark_for false answer.solutions Mark.Complete → IsGiven model options answer
       least_nothing unspent none m =
@@ -253,17 +296,17 @@ module _ (order : InsideOrder) (one : OneList) (every : EveryList) (laws : PathL
             solutions = empty;
             mark = same_mark false false answer.solutions [] Mark.Complete answer.mark refl empty m;
           }) in
-          let searched : IsUnspentLeast model options = record {
+          let searched : HasLimit options → IsUnspentLeast model options = (λ limit. record {
             results = results;
-            are = h.are;
+            are = least_limited results h.are limit;
             unspent = unspent;
             second = λ cost least. absurd (nothing least.some.assignment least.some.solves);
-          } in
-          record { is_answer = inl (record { finished = done; unspent = λ limit. least_unspent model.goal options.all objective searched }); whole = λ n r. done; solve = solved }
+          }) in
+          record { is_answer = inl (record { finished = done; unspent = λ limit. least_unspent model.goal options.all objective (searched limit) }); whole = λ n r. done; solve = solved }
 
     -- what the second phase gives
-    module _ (cost : ℤ) (least : IsLeastCost model cost) (best : Assignment) (finds : FindsBest model options best) (best_is : IsSolutionAt model cost best) (results : List FirstEnd)
-        (h : AreFirstResults model options (cut_to model.goal cost start) results) (e : answer.solutions ≡ take 1 (flat_map first_collected results ++ best ∷ [])) where
+    module _ (cost : ℤ) (least : IsLeastCost model cost) (best : Assignment) (finds : HasLimit options → FindsBest model options (parts_to options.depth) best) (best_is : IsSolutionAt model cost best) (results : List FirstEnd)
+        (h : AreFirstResults model options parts (cut_to model.goal cost start) results) (e : answer.solutions ≡ take 1 (flat_map first_collected results ++ best ∷ [])) where
       abbrev cut : Bounds
       cut = cut_to model.goal cost start
 
@@ -274,7 +317,7 @@ module _ (order : InsideOrder) (one : OneList) (every : EveryList) (laws : PathL
       cut_can = can_be_cut order model rule f cut inside (cut_in_range order model rule f are declared goal cost least.some)
 
       both_solve : All (IsSolution model) (flat_map first_collected results ++ best ∷ [])
-      both_solve = All-append (IsSolution model) (flat_map first_collected results) (best ∷ []) (firsts_solve order laws cuts records model rule goal f options cut cut_can inside results h)
+      both_solve = All-append (IsSolution model) (flat_map first_collected results) (best ∷ []) (firsts_solve order laws cuts records model rule goal f options parts cut cut_can inside results h)
           (All-cons (IsSolution model) best [] best_is.solves (All-nil (IsSolution model)))
 
       second_solve : All (IsSolution model) answer.solutions
@@ -282,10 +325,23 @@ module _ (order : InsideOrder) (one : OneList) (every : EveryList) (laws : PathL
 
       pub second_open : IsOpen results → answer.mark ≡ Mark.Plain → IsGiven model options answer
       second_open part m = record {
-        is_answer = inr (collected_given model.goal options.all objective (inr (record { cost = cost; least = least; best = best; found = finds; results = results; are = h; is_open = part; solutions = e; mark = m })));
-        whole = λ n r. absurd (none_open model options n r cut results h part);
+        is_answer = inr (collected_given model.goal options.all objective (inr (record {
+          cost = cost;
+          least = least;
+          best = best;
+          found = finds limit;
+          results = results;
+          are = first_limited cut results h limit;
+          is_open = part;
+          solutions = e;
+          mark = m;
+        })));
+        whole = λ n r. absurd (none_open model options n r parts cut results h part);
         solve = second_solve;
       }
+        where
+          limit : HasLimit options
+          limit = some_limit options (λ n r. none_open model options n r parts cut results h part)
 
       front : (xs : List Assignment) (a : Assignment) (others : List Assignment) → take 1 xs ≡ a ∷ [] → take 1 (xs ++ best ∷ []) ≡ a ∷ []
       front [] a others t = absurd cc
@@ -307,38 +363,39 @@ module _ (order : InsideOrder) (one : OneList) (every : EveryList) (laws : PathL
       second_closed closed m =
           let list = every model (kernels_of model) cut rule cut_can.long cut_can.in_range cut_can.fit in
           let done : IsFinished model options.all answer =
-          inr (optimal_given model answer model.goal options.all objective (optimum list.0 list.1 (first_of_all one laws model options cut results list.0 cut_can h closed list.1) m)) in
-          let searched : IsUnspentLeast model options = record {
-            results = finds.results;
-            are = finds.are;
-            unspent = finds.unspent;
-            second = λ other k. subst (λ (c : ℤ). IsUnspentFirst model options (cut_to model.goal c start)) (same_cost model cost other least k) (record { results = results; are = h; none_open = closed });
-          } in
-          record { is_answer = inl (record { finished = done; unspent = λ limit. least_unspent model.goal options.all objective searched }); whole = λ n r. done; solve = second_solve }
+          inr (optimal_given model answer model.goal options.all objective (optimum list.0 list.1 (first_of_all one laws by_parts model options parts serve.are cut results list.0 cut_can h closed list.1) m)) in
+          let searched : HasLimit options → IsUnspentLeast model options = (λ limit. record {
+            results = (finds limit).results;
+            are = (finds limit).are;
+            unspent = (finds limit).unspent;
+            second = λ other k. subst (λ (c : ℤ). IsUnspentFirst model options (cut_to model.goal c start)) (same_cost model cost other least k)
+                (record { results = results; are = first_limited cut results h limit; none_open = closed });
+          }) in
+          record { is_answer = inl (record { finished = done; unspent = λ limit. least_unspent model.goal options.all objective (searched limit) }); whole = λ n r. done; solve = second_solve }
 
-module _ (order : InsideOrder) (one : OneList) (every : EveryList) (laws : PathLaws) (cuts : CutLaws) (are : SolutionsAreListed) (declared : InDeclarationOrder) (records : RecordsSolutions)
-    (model : FznModel) (rule : IsSearchOf model) (goal : IsGoalOf model.vars model.goal) (f : IsProgramOf model (program_of model)) (options : Options) (answer : Answer) where
-  pub first_given : (results slice : List FirstEnd) → AreFirstResults model options (start_of model) results → model.goal ≡ Goal.Satisfy → options.all ≡ false → answer.solutions ≡ take 1 (flat_map first_collected results) →
+module _ (order : InsideOrder) (one : OneList) (every : EveryList) (laws : PathLaws) (cuts : CutLaws) (whole : WholeOfParts) (are : SolutionsAreListed) (declared : InDeclarationOrder) (records : RecordsSolutions)
+    (model : FznModel) (rule : IsSearchOf model) (goal : IsGoalOf model.vars model.goal) (f : IsProgramOf model (program_of model)) (options : Options) (parts : List Part) (serve : ArePartsFor options parts) (answer : Answer) where
+  pub first_given : (results slice : List FirstEnd) → AreFirstResults model options parts (start_of model) results → model.goal ≡ Goal.Satisfy → options.all ≡ false → answer.solutions ≡ take 1 (flat_map first_collected results) →
       slice ≡ results → (open_part : Bool) → OnTrue open_part (IsOpen slice) → OnFalse open_part (IsOpen slice → ⊥) → answer.mark ≡ mark_for open_part answer.solutions Mark.Plain → IsGiven model options answer
   first_given results slice h satisfy first e same true s u m =
-      first_open order one every laws cuts are declared records model rule goal f options answer results h satisfy first e (subst (λ (rs : List FirstEnd). IsOpen rs) same s) m
+      first_open order one every laws cuts whole are declared records model rule goal f options parts serve answer results h satisfy first e (subst (λ (rs : List FirstEnd). IsOpen rs) same s) m
   first_given results slice h satisfy first e same false s u m =
-      first_closed order one every laws cuts are declared records model rule goal f options answer results h satisfy first e (subst (λ (rs : List FirstEnd). IsOpen rs → ⊥) same u) m
+      first_closed order one every laws cuts whole are declared records model rule goal f options parts serve answer results h satisfy first e (subst (λ (rs : List FirstEnd). IsOpen rs → ⊥) same u) m
 
-  pub all_given : (results slice : List AllEnd) → AreAllResults model options results → model.goal ≡ Goal.Satisfy → options.all ≡ true → answer.solutions ≡ flat_map all_collected results →
+  pub all_given : (results slice : List AllEnd) → AreAllResults model options parts results → model.goal ≡ Goal.Satisfy → options.all ≡ true → answer.solutions ≡ flat_map all_collected results →
       slice ≡ results → (spent : Bool) → OnTrue spent (Any IsAllSpent slice) → OnFalse spent (All (λ end. IsAllSpent end → ⊥) slice) → answer.mark ≡ mark_for spent answer.solutions Mark.Complete → IsGiven model options answer
   all_given results slice h satisfy all e same true s u m =
-      all_spent order one every laws cuts are declared records model rule goal f options answer results h satisfy all e (subst (λ (rs : List AllEnd). Any IsAllSpent rs) same s) m
+      all_spent order one every laws cuts whole are declared records model rule goal f options parts serve answer results h satisfy all e (subst (λ (rs : List AllEnd). Any IsAllSpent rs) same s) m
   all_given results slice h satisfy all e same false s u m =
-      all_unspent order one every laws cuts are declared records model rule goal f options answer results h satisfy all e (subst (λ (rs : List AllEnd). All (λ end. IsAllSpent end → ⊥) rs) same u) m
+      all_unspent order one every laws cuts whole are declared records model rule goal f options parts serve answer results h satisfy all e (subst (λ (rs : List AllEnd). All (λ end. IsAllSpent end → ⊥) rs) same u) m
 
-  of_results_best : (ends : List LeastEnd) (h : AreWholeEnds model options ends) (best : Option Assignment) → IsBestOf model.goal (flat_map least_collected ends) best → IsBestOf model.goal (collected_in h.results) best
+  of_results_best : (ends : List LeastEnd) (h : AreWholeEnds model options parts ends) (best : Option Assignment) → IsBestOf model.goal (flat_map least_collected ends) best → IsBestOf model.goal (collected_in h.results) best
   of_results_best ends h best is_best = subst (λ (xs : List Assignment). IsBestOf model.goal xs best) (sym (collected_same ends h.results h.of_results)) is_best
 
-  best_of_results : model.goal ≢ Goal.Satisfy → (results : List LeastResult) → AreWholeResults model options results → All (λ result. IsLeastSpent result.1 → ⊥) results → (best : Assignment) →
-      IsFirstLeast model.goal (collected_in results) best → IsBestKnown model options best
+  best_of_results : model.goal ≢ Goal.Satisfy → (results : List LeastResult) → AreWholeResults model options parts results → All (λ result. IsLeastSpent result.1 → ⊥) results → (best : Assignment) →
+      IsFirstLeast model.goal (collected_in results) best → IsBestKnown model options parts best
   best_of_results objective results h unspent best is_best =
-      let solve = least_solve order laws cuts records model rule goal f options (start_of model) (start_can_be_cut order model rule f) (order.itself (start_of model)) h.are.posted results h.are.are in
+      let solve = least_solve order laws cuts records model rule goal f options parts (start_of model) (start_can_be_cut order model rule f) (order.itself (start_of model)) h.are.posted results h.are.are in
       record {
         found = record { results = results; are = h.are; unspent = unspent; is_best = is_best };
         solves = best_is_solution model (collected_in results) best solve is_best;
@@ -346,36 +403,40 @@ module _ (order : InsideOrder) (one : OneList) (every : EveryList) (laws : PathL
       }
 
   -- what the first phase gives, where a limit stopped it or nothing was collected
-  pub ends_spent : (objective : model.goal ≢ Goal.Satisfy) (ends slice : List LeastEnd) → AreWholeEnds model options ends → (best : Option Assignment) → IsBestOf model.goal (flat_map least_collected ends) best →
+  pub ends_spent : (objective : model.goal ≢ Goal.Satisfy) (ends slice : List LeastEnd) → AreWholeEnds model options parts ends → (best : Option Assignment) → IsBestOf model.goal (flat_map least_collected ends) best →
       answer.solutions ≡ listed best → slice ≡ ends → Any IsLeastSpent slice → answer.mark ≡ mark_where answer.solutions → IsGiven model options answer
   ends_spent objective ends slice h best is_best e same spent m =
-      least_spent order one every laws cuts are declared records model rule goal f options answer objective h.results h.whole best (of_results_best ends h best is_best) e
+      least_spent order one every laws cuts whole are declared records model rule goal f options parts serve answer objective h.results h.whole best (of_results_best ends h best is_best) e
       (any_of_results ends h.results h.of_results (subst (λ (rs : List LeastEnd). Any IsLeastSpent rs) same spent)) m
 
-  pub ends_nothing : (objective : model.goal ≢ Goal.Satisfy) (ends slice : List LeastEnd) → AreWholeEnds model options ends → (best : Option Assignment) → IsBestOf model.goal (flat_map least_collected ends) best →
+  pub ends_nothing : (objective : model.goal ≢ Goal.Satisfy) (ends slice : List LeastEnd) → AreWholeEnds model options parts ends → (best : Option Assignment) → IsBestOf model.goal (flat_map least_collected ends) best →
       answer.solutions ≡ listed best → slice ≡ ends → All (λ end. IsLeastSpent end → ⊥) slice → best ≡ None → answer.mark ≡ mark_for false answer.solutions Mark.Complete → IsGiven model options answer
   ends_nothing objective ends slice h best is_best e same unspent none m =
-      least_nothing order one every laws cuts are declared records model rule goal f options answer objective h.results h.whole best (of_results_best ends h best is_best) e
+      least_nothing order one every laws cuts whole are declared records model rule goal f options parts serve answer objective h.results h.whole best (of_results_best ends h best is_best) e
       (all_of_results ends h.results h.of_results (subst (λ (rs : List LeastEnd). All (λ end. IsLeastSpent end → ⊥) rs) same unspent)) none m
 
   -- what is known of the best, if no search for the least cost was stopped
-  pub best_known : model.goal ≢ Goal.Satisfy → (ends slice : List LeastEnd) → AreWholeEnds model options ends → slice ≡ ends → All (λ end. IsLeastSpent end → ⊥) slice → (best : Assignment) →
-      IsFirstLeast model.goal (flat_map least_collected ends) best → IsBestKnown model options best
+  pub best_known : model.goal ≢ Goal.Satisfy → (ends slice : List LeastEnd) → AreWholeEnds model options parts ends → slice ≡ ends → All (λ end. IsLeastSpent end → ⊥) slice → (best : Assignment) →
+      IsFirstLeast model.goal (flat_map least_collected ends) best → IsBestKnown model options parts best
   best_known objective ends slice h same unspent best is_best =
       best_of_results objective h.results h.whole (all_of_results ends h.results h.of_results (subst (λ (rs : List LeastEnd). All (λ end. IsLeastSpent end → ⊥) rs) same unspent)) best
       (of_results_best ends h (Some best) is_best)
 
-  pub second_given : (objective : model.goal ≢ Goal.Satisfy) (cost : ℤ) (best : Assignment) → IsBestKnown model options best → cost_of model.goal best ≡ Some cost → (results slice : List FirstEnd) →
-      AreFirstResults model options (cut_to model.goal cost (start_of model)) results → answer.solutions ≡ take 1 (flat_map first_collected results ++ best ∷ []) → slice ≡ results → (open_part : Bool) →
+  -- under a limit the first search too was one of the parts of the depth that is asked for
+  found_limited : (best : Assignment) → IsBestOfParts model options best → HasLimit options → FindsBest model options (parts_to options.depth) best
+  found_limited best known limit = subst (λ (ps : List Part). FindsBest model options ps best) (known.are.limited limit) known.known.found
+
+  pub second_given : (objective : model.goal ≢ Goal.Satisfy) (cost : ℤ) (best : Assignment) → IsBestOfParts model options best → cost_of model.goal best ≡ Some cost → (results slice : List FirstEnd) →
+      AreFirstResults model options parts (cut_to model.goal cost (start_of model)) results → answer.solutions ≡ take 1 (flat_map first_collected results ++ best ∷ []) → slice ≡ results → (open_part : Bool) →
       OnTrue open_part (IsOpen slice) → OnFalse open_part (IsOpen slice → ⊥) → OnTrue open_part (answer.mark ≡ Mark.Plain) → OnFalse open_part (answer.mark ≡ Mark.Complete) → IsGiven model options answer
   second_given objective cost best known costs results slice h e same true s u plain complete =
-      second_open order one every laws cuts are declared records model rule goal f options answer objective cost (known.least cost costs) best known.found (record { solves = known.solves; costs = costs }) results h e
+      second_open order one every laws cuts whole are declared records model rule goal f options parts serve answer objective cost (known.known.least cost costs) best (found_limited best known) (record { solves = known.known.solves; costs = costs }) results h e
       (subst (λ (rs : List FirstEnd). IsOpen rs) same s) plain
   second_given objective cost best known costs results slice h e same false s u plain complete =
-      second_closed order one every laws cuts are declared records model rule goal f options answer objective cost (known.least cost costs) best known.found (record { solves = known.solves; costs = costs }) results h e
+      second_closed order one every laws cuts whole are declared records model rule goal f options parts serve answer objective cost (known.known.least cost costs) best (found_limited best known) (record { solves = known.known.solves; costs = costs }) results h e
       (subst (λ (rs : List FirstEnd). IsOpen rs → ⊥) same u) complete
 
-  pub whole_solve : (ends : List LeastEnd) → AreWholeEnds model options ends → All (IsSolution model) (flat_map least_collected ends)
+  pub whole_solve : (ends : List LeastEnd) → AreWholeEnds model options parts ends → All (IsSolution model) (flat_map least_collected ends)
   whole_solve ends h =
       subst (All (IsSolution model)) (collected_same ends h.results h.of_results)
-      (least_solve order laws cuts records model rule goal f options (start_of model) (start_can_be_cut order model rule f) (order.itself (start_of model)) h.whole.are.posted h.results h.whole.are.are)
+      (least_solve order laws cuts records model rule goal f options parts (start_of model) (start_can_be_cut order model rule f) (order.itself (start_of model)) h.whole.are.posted h.results h.whole.are.are)

@@ -14,6 +14,7 @@ use Rattle.solution_lists.specs.Order.{InDeclarationOrder}
 use Rattle.subproblems.specs.Cuts.{CanBeCut, CutLaws}
 use Rattle.subproblems.specs.Paths.{PathLaws}
 use Rattle.search.specs.Laws.{RecordsSolutions}
+use Rattle.tree_cover.specs.Covers.{parts_to}
 use Rattle.answer.specs.declared.options.Options.{Options}
 use Rattle.fzn_print.specs.declared.answers.Answer.{Answer}
 use Rattle.answer.specs.Lists.{Assignment}
@@ -63,8 +64,8 @@ module _ (order : InsideOrder) (laws : PathLaws) (cuts : CutLaws) (are : Solutio
   can : CanBeCut model (kernels_of model) (start_of model)
   can = start_can_be_cut order model form.search f
 
-  least_all_solve : (results : List LeastResult) → AreLeastResults model options results → Solve (collected_in results)
-  least_all_solve results h = least_solve order laws cuts records model form.search form.objective f options (start_of model) can (order.itself (start_of model)) h.posted results h.are
+  least_all_solve : (results : List LeastResult) → AreLeastResults model options (parts_to options.depth) results → Solve (collected_in results)
+  least_all_solve results h = least_solve order laws cuts records model form.search form.objective f options (parts_to options.depth) (start_of model) can (order.itself (start_of model)) h.posted results h.are
 
   best_solves : (collected : List Assignment) (best : Option Assignment) → Solve collected → IsBestOf model.goal collected best → Solve (listed best)
   best_solves collected None solve b = All-nil (IsSolution model)
@@ -75,7 +76,7 @@ module _ (order : InsideOrder) (laws : PathLaws) (cuts : CutLaws) (are : Solutio
       let cut = cut_to model.goal h.cost (start_of model) in
       let inside = cut_in_start order model form.search f are declared form.objective h.cost h.least.some in
       let cut_can = can_be_cut order model form.search f cut inside (cut_in_range order model form.search f are declared form.objective h.cost h.least.some) in
-      let firsts = firsts_solve order laws cuts records model form.search form.objective f options cut cut_can inside h.results h.are in
+      let firsts = firsts_solve order laws cuts records model form.search form.objective f options (parts_to options.depth) cut cut_can inside h.results h.are in
       let best = best_is_solution model (collected_in h.found.results) h.best (least_all_solve h.found.results h.found.are) h.found.is_best in
       let both = All-append (IsSolution model) (flat_map first_collected h.results) (h.best ∷ []) firsts (All-cons (IsSolution model) h.best [] best (All-nil (IsSolution model))) in
       subst Solve (sym h.solutions) (first_of_list (IsSolution model) (flat_map first_collected h.results ++ h.best ∷ []) both)
@@ -87,9 +88,9 @@ module _ (order : InsideOrder) (laws : PathLaws) (cuts : CutLaws) (are : Solutio
   what_is_collected : (goal : Goal) (all : Bool) → GivesCollected goal all model options answer → Solve answer.solutions
   what_is_collected Goal.Satisfy false h =
       subst Solve (sym h.solutions)
-      (first_of_list (IsSolution model) (flat_map first_collected h.results) (firsts_solve order laws cuts records model form.search form.objective f options (start_of model) can (order.itself (start_of model)) h.results h.are))
+      (first_of_list (IsSolution model) (flat_map first_collected h.results) (firsts_solve order laws cuts records model form.search form.objective f options (parts_to options.depth) (start_of model) can (order.itself (start_of model)) h.results h.are))
   what_is_collected Goal.Satisfy true h =
-      subst Solve (sym h.solutions) (all_solve order laws cuts records model form.search form.objective f options (start_of model) can (order.itself (start_of model)) h.results h.are)
+      subst Solve (sym h.solutions) (all_solve order laws cuts records model form.search form.objective f options (parts_to options.depth) (start_of model) can (order.itself (start_of model)) h.results h.are)
   what_is_collected (Goal.Minimize t) all h = of_cost h
   what_is_collected (Goal.Maximize t) all h = of_cost h
 

@@ -13,10 +13,13 @@ use Rattle.subproblems.specs.Paths.{SolutionsOf, SolutionsOfAll, PathLaws}
 use Rattle.search.specs.declared.ends.FirstEnd.{FirstEnd}
 use Rattle.search.specs.declared.ends.AllEnd.{AllEnd}
 use Rattle.search.specs.Ends.{head_of}
+use Rattle.tree_cover.specs.declared.part.Part.{Part}
 use Rattle.answer.specs.declared.options.Options.{Options}
 use Rattle.answer.specs.Lists.{Assignment}
 use Rattle.answer.specs.Places.{StandsAt, AreResults}
 use Rattle.answer.specs.Results.{IsFirstResult, AreFirstResults, first_collected, IsOpen, IsAllResult, all_collected, IsAllSpent}
+use Rattle.answer.specs.Parts.{AreParts}
+use Rattle.answer.proofs.PartPaths.{ListedByParts, every_at}
 use Rattle.answer.proofs.AlongLaws.{Along, one_entry, stands_first, stands_later, results_along}
 
 no_head : (xs : List Assignment) → None ≡ head_of xs → xs ≡ []
@@ -83,14 +86,14 @@ module _ (one : OneList) (model : FznModel) (rule : IsSearchOf model) (options :
       ap (take 1) (sym (e ∙ ap (λ (xs : List Assignment). xs ++ others) head.1))
 
 -- the first of all solutions
-pub first_of_all : (one : OneList) (laws : PathLaws) (model : FznModel) (options : Options) (b : Bounds) (results : List FirstEnd) (found : List Assignment) →
-    CanBeCut model (kernels_of model) b → AreFirstResults model options b results → (IsOpen results → ⊥) → SolutionsIn model (kernels_of model) b found →
+pub first_of_all : (one : OneList) (laws : PathLaws) (by_parts : ListedByParts) (model : FznModel) (options : Options) (parts : List Part) (are_parts : AreParts parts) (b : Bounds) (results : List FirstEnd) (found : List Assignment) →
+    CanBeCut model (kernels_of model) b → AreFirstResults model options parts b results → (IsOpen results → ⊥) → SolutionsIn model (kernels_of model) b found →
     take 1 (flat_map first_collected results) ≡ take 1 found
-first_of_all one laws model options b results found can are closed s =
-    let paths = laws.every model (kernels_of model) options.depth b can in
+first_of_all one laws by_parts model options parts are_parts b results found can are closed s =
+    let paths = every_at laws model (kernels_of model) parts b are_parts.each can in
     heads one model can.search options results closed 0 paths.0 results found
-    (results_along laws model can.search options.depth b paths.0 paths.1 (IsFirstResult model options results) results are)
-    (laws.solutions_back model (kernels_of model) options.depth b paths.0 found can paths.1 s)
+    (results_along laws model can.search parts b paths.0 paths.1 (IsFirstResult model options results) results are)
+    (by_parts model (kernels_of model) parts b paths.0 found can are_parts paths.1 s)
     (λ (j : ℕ) (r : FirstEnd) (h : StandsAt results j r). let same : j ≡ 0 + j = omega arith in subst (λ (n : ℕ). StandsAt results n r) same h)
     (λ (j : ℕ) (a : Assignment) (below : j < 0) (h : StandsAt results j (FirstEnd.Done (Some a))). omega arith)
 
@@ -118,11 +121,11 @@ module _ (one : OneList) (model : FznModel) (rule : IsSearchOf model) (options :
       ∙ sym e
 
 -- the list of all solutions
-pub all_of_all : (one : OneList) (laws : PathLaws) (model : FznModel) (options : Options) (b : Bounds) (results : List AllEnd) (found : List Assignment) →
-    CanBeCut model (kernels_of model) b → AreResults model options.depth b (IsAllResult model options) results → All (λ r. IsAllSpent r → ⊥) results → SolutionsIn model (kernels_of model) b found →
+pub all_of_all : (one : OneList) (laws : PathLaws) (by_parts : ListedByParts) (model : FznModel) (options : Options) (parts : List Part) (are_parts : AreParts parts) (b : Bounds) (results : List AllEnd) (found : List Assignment) →
+    CanBeCut model (kernels_of model) b → AreResults model parts b (IsAllResult model options) results → All (λ r. IsAllSpent r → ⊥) results → SolutionsIn model (kernels_of model) b found →
     flat_map all_collected results ≡ found
-all_of_all one laws model options b results found can are unspent s =
-    let paths = laws.every model (kernels_of model) options.depth b can in
+all_of_all one laws by_parts model options parts are_parts b results found can are unspent s =
+    let paths = every_at laws model (kernels_of model) parts b are_parts.each can in
     lists one model can.search options 0 paths.0 results found
-    (results_along laws model can.search options.depth b paths.0 paths.1 (IsAllResult model options) results are)
-    (laws.solutions_back model (kernels_of model) options.depth b paths.0 found can paths.1 s) unspent
+    (results_along laws model can.search parts b paths.0 paths.1 (IsAllResult model options) results are)
+    (by_parts model (kernels_of model) parts b paths.0 found can are_parts paths.1 s) unspent

@@ -1,5 +1,5 @@
 -- One run of a job.
-use Rattle.std.proofs.Common.{◌≡◌, ℕ, ◌<◌, ◌^◌, ℤ, List, [], ◌∷◌, ◌++◌, length, Option, None, Some, refl, sym, ◌∙◌, subst, inr}
+use Rattle.std.proofs.Common.{◌≡◌, ℕ, ◌<◌, ℤ, List, [], ◌∷◌, ◌++◌, length, Option, None, Some, refl, sym, ◌∙◌, subst, inr}
 use Rattle.std.specs.Prelude.{slice_index_or, IfSome}
 use Rattle.interval.specs.Boxes.{Bounds, IsInside, IsInRange, InsideOrder}
 use Rattle.guarded_tell.specs.declared.kernel.Kernel.{Kernel}
@@ -11,7 +11,7 @@ use Rattle.subproblem_walk.specs.declared.cutter.Subproblem.{Subproblem}
 use Rattle.subproblem_walk.specs.declared.walk.Walk.{Walk}
 use Rattle.subproblem_walk.specs.Walks.{IsOnWay, StandsUnder, box_of}
 use Rattle.subproblems.specs.Cuts.{CanBeCut}
-use Rattle.subproblems.specs.Paths.{LeadsTo, PathLaws}
+use Rattle.subproblems.specs.Paths.{PathLaws}
 use Rattle.search.specs.declared.kind.Kind.{Kind}
 use Rattle.search.specs.declared.ends.FirstEnd.{FirstEnd}
 use Rattle.search.specs.declared.ends.AllEnd.{AllEnd}
@@ -21,9 +21,10 @@ use Rattle.search.specs.Keeping.{IsKeptFor}
 use Rattle.search.specs.Ends.{search_of, IsFirstEnd, IsAllEnd, posts_of}
 use Rattle.answer.specs.declared.plan.Plan.{Plan}
 use Rattle.answer.specs.Plans.{IsPlan, model_of, kernels_in}
-use Rattle.answer.specs.Places.{HasResult}
+use Rattle.answer.specs.Places.{PartLeadsTo, HasResult}
 use Rattle.answer.specs.Results.{first_of}
 use Rattle.answer.specs.Runs.{IsFirstRun, AreFirstRuns, AreAllRuns}
+use Rattle.answer.proofs.PartPaths.{every_at}
 use Rattle.answer.proofs.RunLists.{AllAmong, first_run_more, all_run_more}
 use Rattle.answer.proofs.ListedLaws.{is_program, can_be_cut}
 
@@ -31,9 +32,9 @@ module _ {L : Type 0} (plan : Plan L) (is : IsPlan plan) where
   abbrev model : FznModel
   model = model_of plan
 
-  pub plan_leads : (number : ℕ) (path : Option Bounds) → LeadsTo model (kernels_in plan) plan.options.depth plan.start.now number path →
-      LeadsTo model (kernels_of model) plan.options.depth plan.start.now number path
-  plan_leads number path h = subst (λ (ks : List Kernel). LeadsTo model ks plan.options.depth plan.start.now number path) is.run.program.kernels h
+  pub plan_leads : (number : ℕ) (path : Option Bounds) → PartLeadsTo model (kernels_in plan) plan.parts.now plan.start.now number path →
+      PartLeadsTo model (kernels_of model) plan.parts.now plan.start.now number path
+  plan_leads number path h = subst (λ (ks : List Kernel). PartLeadsTo model ks plan.parts.now plan.start.now number path) is.run.program.kernels h
 
   -- the search of a run, as the definitions name it
   pub plan_search : (kind : Kind) (known : Option ℤ) (posted : List ℤ) (sub : Bounds) →
@@ -71,8 +72,8 @@ module _ {L : Type 0} (plan : Plan L) (is : IsPlan plan) where
     posted = posted;
   }
 
-  first_none : (number : ℕ) (seen : List ℕ) → LeadsTo model (kernels_in plan) plan.options.depth plan.start.now number None →
-      HasResult model plan.options.depth plan.start.now (IsFirstRun model plan.options seen) number (FirstEnd.Done None)
+  first_none : (number : ℕ) (seen : List ℕ) → PartLeadsTo model (kernels_in plan) plan.parts.now plan.start.now number None →
+      HasResult model plan.parts.now plan.start.now (IsFirstRun model plan.options seen) number (FirstEnd.Done None)
   first_none number seen h = record { path = None; leads = plan_leads number None h; is_result = refl }
 
   -- what ends a run of the search ends that of the number
@@ -81,9 +82,9 @@ module _ {L : Type 0} (plan : Plan L) (is : IsPlan plan) where
   first_ends_run number seen sub (FirstEnd.Spent nodes why) h = h
   first_ends_run number seen sub (FirstEnd.Cut lesser) h = (h.0, h.1.0)
 
-  first_some : (number : ℕ) (seen : List ℕ) (sub : Bounds) (end : FirstEnd) → LeadsTo model (kernels_in plan) plan.options.depth plan.start.now number (Some sub) →
+  first_some : (number : ℕ) (seen : List ℕ) (sub : Bounds) (end : FirstEnd) → PartLeadsTo model (kernels_in plan) plan.parts.now plan.start.now number (Some sub) →
       IsFirstEnd (search_of model plan.run.now.program.now plan.run.now.node_limit plan.run.now.round_limit plan.run.now.lanes Kind.First sub) number seen end →
-      HasResult model plan.options.depth plan.start.now (IsFirstRun model plan.options seen) number end
+      HasResult model plan.parts.now plan.start.now (IsFirstRun model plan.options seen) number end
   first_some number seen sub end h k = record {
     path = Some sub;
     leads = plan_leads number (Some sub) h;
@@ -91,27 +92,27 @@ module _ {L : Type 0} (plan : Plan L) (is : IsPlan plan) where
   }
 
   -- a number that leads to nothing has no solution
-  pub first_run_none : (seen posted : List ℕ) (number : ℕ) (runs : List (ℕ × FirstEnd)) → LeadsTo model (kernels_in plan) plan.options.depth plan.start.now number None →
-      AreFirstRuns model plan.options plan.start.now seen posted runs → AreFirstRuns model plan.options plan.start.now seen posted (runs ++ (number, FirstEnd.Done None) ∷ [])
+  pub first_run_none : (seen posted : List ℕ) (number : ℕ) (runs : List (ℕ × FirstEnd)) → PartLeadsTo model (kernels_in plan) plan.parts.now plan.start.now number None →
+      AreFirstRuns model plan.options plan.parts.now plan.start.now seen posted runs → AreFirstRuns model plan.options plan.parts.now plan.start.now seen posted (runs ++ (number, FirstEnd.Done None) ∷ [])
   first_run_none seen posted number runs h k =
-      first_run_more model plan.options plan.start.now seen seen posted posted runs number (FirstEnd.Done None) k (λ x there. there) (first_none number seen h) refl
+      first_run_more model plan.options plan.parts.now plan.start.now seen seen posted posted runs number (FirstEnd.Done None) k (λ x there. there) (first_none number seen h) refl
 
   -- the run of a subproblem
   pub first_run_some : (seen after posted posts : List ℕ) (number : ℕ) (sub : Bounds) (end : FirstEnd) (runs : List (ℕ × FirstEnd)) →
-      LeadsTo model (kernels_in plan) plan.options.depth plan.start.now number (Some sub) → AllAmong seen after →
+      PartLeadsTo model (kernels_in plan) plan.parts.now plan.start.now number (Some sub) → AllAmong seen after →
       IsFirstEnd (search_of model plan.run.now.program.now plan.run.now.node_limit plan.run.now.round_limit plan.run.now.lanes Kind.First sub) number after end →
-      posts ≡ posts_of number posted end → AreFirstRuns model plan.options plan.start.now seen posted runs →
-      AreFirstRuns model plan.options plan.start.now after posts (runs ++ (number, end) ∷ [])
+      posts ≡ posts_of number posted end → AreFirstRuns model plan.options plan.parts.now plan.start.now seen posted runs →
+      AreFirstRuns model plan.options plan.parts.now plan.start.now after posts (runs ++ (number, end) ∷ [])
   first_run_some seen after posted posts number sub end runs h all is_end e k =
-      first_run_more model plan.options plan.start.now seen after posted posts runs number end k all (first_some number after sub end h is_end) e
+      first_run_more model plan.options plan.parts.now plan.start.now seen after posted posts runs number end k all (first_some number after sub end h is_end) e
 
   -- a number above one that has a solution, wherever it leads
   pub first_run_cut : (order : InsideOrder) (laws : PathLaws) → IsInRange plan.start.now → (seen after posted posts : List ℕ) (number lesser : ℕ) (runs : List (ℕ × FirstEnd)) →
-      number < 2 ^ plan.options.depth → lesser < number → Among after lesser → AllAmong seen after → posts ≡ posted → AreFirstRuns model plan.options plan.start.now seen posted runs →
-      AreFirstRuns model plan.options plan.start.now after posts (runs ++ (number, FirstEnd.Cut lesser) ∷ [])
+      number < length plan.parts.now → lesser < number → Among after lesser → AllAmong seen after → posts ≡ posted → AreFirstRuns model plan.options plan.parts.now plan.start.now seen posted runs →
+      AreFirstRuns model plan.options plan.parts.now plan.start.now after posts (runs ++ (number, FirstEnd.Cut lesser) ∷ [])
   first_run_cut order laws range seen after posted posts number lesser runs below less there all e k =
-      let paths = laws.every model (kernels_of model) plan.options.depth plan.start.now can in
-      first_run_more model plan.options plan.start.now seen after posted posts runs number (FirstEnd.Cut lesser) k all
+      let paths = every_at laws model (kernels_of model) plan.parts.now plan.start.now is.parts can in
+      first_run_more model plan.options plan.parts.now plan.start.now seen after posted posts runs number (FirstEnd.Cut lesser) k all
       (record { path = slice_index_or paths.0 number None; leads = paths.1.each number below; is_result = (less, there) }) e
     where
       can : CanBeCut model (kernels_of model) plan.start.now
@@ -120,16 +121,16 @@ module _ {L : Type 0} (plan : Plan L) (is : IsPlan plan) where
 
   -- ---- for all solutions
 
-  pub all_run_none : (number : ℕ) (runs : List (ℕ × AllEnd)) → LeadsTo model (kernels_in plan) plan.options.depth plan.start.now number None →
-      AreAllRuns model plan.options plan.start.now runs → AreAllRuns model plan.options plan.start.now (runs ++ (number, AllEnd.Done []) ∷ [])
+  pub all_run_none : (number : ℕ) (runs : List (ℕ × AllEnd)) → PartLeadsTo model (kernels_in plan) plan.parts.now plan.start.now number None →
+      AreAllRuns model plan.options plan.parts.now plan.start.now runs → AreAllRuns model plan.options plan.parts.now plan.start.now (runs ++ (number, AllEnd.Done []) ∷ [])
   all_run_none number runs h k =
-      all_run_more model plan.options plan.start.now runs number (AllEnd.Done []) k (record { path = None; leads = plan_leads number None h; is_result = refl })
+      all_run_more model plan.options plan.parts.now plan.start.now runs number (AllEnd.Done []) k (record { path = None; leads = plan_leads number None h; is_result = refl })
 
-  pub all_run_some : (number : ℕ) (sub : Bounds) (end : AllEnd) (runs : List (ℕ × AllEnd)) → LeadsTo model (kernels_in plan) plan.options.depth plan.start.now number (Some sub) →
+  pub all_run_some : (number : ℕ) (sub : Bounds) (end : AllEnd) (runs : List (ℕ × AllEnd)) → PartLeadsTo model (kernels_in plan) plan.parts.now plan.start.now number (Some sub) →
       IsAllEnd (search_of model plan.run.now.program.now plan.run.now.node_limit plan.run.now.round_limit plan.run.now.lanes Kind.All sub) end →
-      AreAllRuns model plan.options plan.start.now runs → AreAllRuns model plan.options plan.start.now (runs ++ (number, end) ∷ [])
+      AreAllRuns model plan.options plan.parts.now plan.start.now runs → AreAllRuns model plan.options plan.parts.now plan.start.now (runs ++ (number, end) ∷ [])
   all_run_some number sub end runs h is_end k =
-      all_run_more model plan.options plan.start.now runs number end k (record {
+      all_run_more model plan.options plan.parts.now plan.start.now runs number end k (record {
         path = Some sub;
         leads = plan_leads number (Some sub) h;
         is_result = subst (λ (s : Search). IsAllEnd s end) (plan_search Kind.All None [] sub) is_end;

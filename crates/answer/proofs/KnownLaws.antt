@@ -1,10 +1,9 @@
 -- A search that begins with a cost that is known ends as one that begins with none, and in which that cost is posted.
-use Rattle.std.proofs.Common.{◌≡◌, ◌≢◌, ℕ, zero, suc, ℤ, ◌+◌, ◌<◌, List, [], ◌∷◌, ◌++◌, Contains, Option, None, Some, refl, sym, ap, subst, ◌∙◌, ◌⊎◌, inl, inr}
+use Rattle.std.proofs.Common.{◌≡◌, ℕ, ℤ, ◌+◌, ◌<◌, List, [], ◌∷◌, ◌++◌, Contains, Option, None, Some, refl, sym, ap, subst, ◌∙◌, ◌⊎◌, inl, inr}
 use Rattle.interval.specs.Boxes.{Bounds}
-use Rattle.search.specs.declared.kind.Kind.{Kind}
 use Rattle.search.specs.declared.ends.Why.{Why}
 use Rattle.search.specs.declared.ends.LeastEnd.{LeastEnd}
-use Rattle.search.specs.Machine.{Search, State, MayFall, Takes, Step, GoesOn, Reached, IsDone, IsOutOfNodes, IsOutOfRounds}
+use Rattle.search.specs.Machine.{Search, State, MayFall, Takes, Step, GoesOn, Reached, IsDone, IsOutOfRounds}
 use Rattle.search.specs.Machine.Reached.{begun, stepped}
 use Rattle.search.specs.Ends.{EndsDone, EndsSpent, EndsOutOfNodes, EndsOutOfRounds}
 use Rattle.search.specs.LeastEnds.{EndsLeast}

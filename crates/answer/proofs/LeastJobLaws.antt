@@ -9,7 +9,6 @@ use Rattle.constraint_model.specs.declared.model.Goal.{Goal}
 use Rattle.constraint_model.specs.declared.model.FznModel.{FznModel}
 use Rattle.constraint_model.specs.Relations.{cost_of}
 use Rattle.best_bound.specs.Lists.{Among, IsLeastCost}
-use Rattle.subproblems.specs.Paths.{LeadsTo}
 use Rattle.search.specs.declared.kind.Kind.{Kind}
 use Rattle.search.specs.declared.ends.Why.{Why}
 use Rattle.search.specs.declared.ends.LeastEnd.{LeastEnd}
@@ -19,6 +18,7 @@ use Rattle.search.specs.Laws.{IsInsideStart, MorePosted, CostsFall}
 use Rattle.search.specs.LeastEnds.{least_of, least_in, least_alone, last_of, PostsCosts, EndsLeast, IsLeastEnd, CostAtLeast, OnDone}
 use Rattle.answer.specs.declared.plan.Plan.{Plan}
 use Rattle.answer.specs.Lists.{Assignment}
+use Rattle.answer.specs.Places.{PartLeadsTo}
 use Rattle.answer.specs.Plans.{IsPlan, model_of, kernels_in}
 use Rattle.answer.specs.Results.{program_of, listed, least_collected, CostsAtMost}
 use Rattle.answer.specs.Runs.{AreLeastRuns}
@@ -104,12 +104,12 @@ module _ (more : MorePosted) (fall : CostsFall) {L : Type 0} (plan : Plan L) (is
 
   -- the run of a subproblem, by what the search of its box that may use these posted costs ended with
   run_made : (seen after posted posts : List ℤ) (number : ℕ) (sub : Bounds) (end : LeastEnd) (runs : List (ℕ × LeastEnd)) →
-      LeadsTo model (kernels_in plan) plan.options.depth plan.start.now number (Some sub) → IsInside sub plan.run.now.program.now.start → IsInRange sub → AllAmong seen after →
+      PartLeadsTo model (kernels_in plan) plan.parts.now plan.start.now number (Some sub) → IsInside sub plan.run.now.program.now.start → IsInRange sub → AllAmong seen after →
       OnDone end (CostAtLeast model sub after) → (ends : IsLeastEnd (search None after sub) posted posts end) →
-      (plan.options.workers ≡ 1 → (known : Option ℤ) × IsLeastCost posted known × EndsLeast (search known [] sub) ends.found end) → AreLeastRuns model plan.options plan.start.now seen posted runs →
-      AreLeastRuns model plan.options plan.start.now after posts (runs ++ (number, end) ∷ [])
+      (plan.options.workers ≡ 1 → (known : Option ℤ) × IsLeastCost posted known × EndsLeast (search known [] sub) ends.found end) → AreLeastRuns model plan.options plan.parts.now plan.start.now seen posted runs →
+      AreLeastRuns model plan.options plan.parts.now plan.start.now after posts (runs ++ (number, end) ∷ [])
   run_made seen after posted posts number sub end runs h i range all covered ends begins k =
-      least_run_more more model plan.options plan.start.now objective seen after posted posts runs number (ends.found, end) k all (kept_posts ends.found posted posts ends.posts)
+      least_run_more more model plan.options plan.parts.now plan.start.now objective seen after posted posts runs number (ends.found, end) k all (kept_posts ends.found posted posts ends.posts)
       (record { path = Some sub; leads = plan_leads plan is number (Some sub) h; is_result = (ends.ends, covered) })
       (run_reaches fall (search None after sub) (inside_start None after sub i range) refl objective posted posts end ends)
       (own_posts ends.found posted posts ends.posts)
@@ -119,9 +119,9 @@ module _ (more : MorePosted) (fall : CostsFall) {L : Type 0} (plan : Plan L) (is
 
   -- with one worker no cost is posted by others: the search begins with the least that was posted before
   run_alone : (seen after posted posts : List ℤ) (number : ℕ) (sub : Bounds) (end : LeastEnd) (runs : List (ℕ × LeastEnd)) (best : Option ℤ) →
-      LeadsTo model (kernels_in plan) plan.options.depth plan.start.now number (Some sub) → IsInside sub plan.run.now.program.now.start → IsInRange sub → AllAmong seen after →
+      PartLeadsTo model (kernels_in plan) plan.parts.now plan.start.now number (Some sub) → IsInside sub plan.run.now.program.now.start → IsInRange sub → AllAmong seen after →
       OnDone end (CostAtLeast model sub after) → IsLeastCost posted best → IfSome best (λ cost. Among seen cost) → IsLeastEnd (search best [] sub) posted posts end →
-      AreLeastRuns model plan.options plan.start.now seen posted runs → AreLeastRuns model plan.options plan.start.now after posts (runs ++ (number, end) ∷ [])
+      AreLeastRuns model plan.options plan.parts.now plan.start.now seen posted runs → AreLeastRuns model plan.options plan.parts.now plan.start.now after posts (runs ++ (number, end) ∷ [])
   run_alone seen after posted posts number sub end runs best h i range all covered least looked ends k =
       run_made seen after posted posts number sub end runs h i range all covered
       (record { found = ends.found; ends = ends_too (search best [] sub) refl after (λ cost e. there cost best e looked) ends.found end ends.ends; posts = ends.posts })
@@ -131,10 +131,10 @@ module _ (more : MorePosted) (fall : CostsFall) {L : Type 0} (plan : Plan L) (is
       there cost o e among = among_contains after cost (all cost (subst (λ (p : Option ℤ). IfSome p (λ c. Among seen c)) e among))
 
   pub least_run_some : (seen after posted posts : List ℤ) (number : ℕ) (sub : Bounds) (end : LeastEnd) (runs : List (ℕ × LeastEnd)) (best : Option ℤ) →
-      LeadsTo model (kernels_in plan) plan.options.depth plan.start.now number (Some sub) → IsInside sub plan.run.now.program.now.start → IsInRange sub → AllAmong seen after →
+      PartLeadsTo model (kernels_in plan) plan.parts.now plan.start.now number (Some sub) → IsInside sub plan.run.now.program.now.start → IsInRange sub → AllAmong seen after →
       OnDone end (CostAtLeast model sub after) → IfSome best (λ cost. Among seen cost) → (plan.options.workers ≡ 1 → IsLeastCost posted best) →
       IsLeastEnd (least_in plan.run.now after sub) posted posts end → (plan.options.workers ≡ 1 → IsLeastCost posted best → IsLeastEnd (least_alone plan.run.now best sub) posted posts end) →
-      AreLeastRuns model plan.options plan.start.now seen posted runs → AreLeastRuns model plan.options plan.start.now after posts (runs ++ (number, end) ∷ [])
+      AreLeastRuns model plan.options plan.parts.now plan.start.now seen posted runs → AreLeastRuns model plan.options plan.parts.now plan.start.now after posts (runs ++ (number, end) ∷ [])
   least_run_some seen after posted posts number sub end runs best h i range all covered looked least is_end alone k = dite (ℕ_discrete plan.options.workers 1)
       (λ (one : plan.options.workers ≡ 1).
       run_alone seen after posted posts number sub end runs best h i range all covered (least one) looked

@@ -15,6 +15,7 @@ use Rattle.search.specs.Machine.{Search, State, Takes, MayFall}
 use Rattle.search.specs.Ends.{EndsDone, EndsSpent, EndsOutOfNodes, EndsOutOfRounds}
 use Rattle.search.specs.Laws.{MorePosted}
 use Rattle.search.specs.LeastEnds.{least_of, last_of, EndsLeast, CostAtLeast}
+use Rattle.tree_cover.specs.declared.part.Part.{Part}
 use Rattle.answer.specs.declared.options.Options.{Options}
 use Rattle.answer.specs.Lists.{Assignment}
 use Rattle.answer.specs.Places.{HasResult}
@@ -106,8 +107,8 @@ module _ (law : MorePosted) (s : Search) (more : List ℤ) (all : (cost : ℤ) �
   more_ends found (LeastEnd.Spent nodes why so_far) h = (more_spent why nodes found h.0, h.1)
 
 -- no run was made yet
-pub no_least_runs : (model : FznModel) (options : Options) (b : Bounds) (seen posted : List ℤ) → posted ≡ [] → AreLeastRuns model options b seen posted []
-no_least_runs model options b seen posted e = record {
+pub no_least_runs : (model : FznModel) (options : Options) (parts : List Part) (b : Bounds) (seen posted : List ℤ) → posted ≡ [] → AreLeastRuns model options parts b seen posted []
+no_least_runs model options parts b seen posted e = record {
   results = [];
   of_runs = refl;
   each = λ number result h. absurd (nothing_there (number, result) h);
@@ -134,7 +135,7 @@ nothing_in : (xs : List Assignment) → ((a : Assignment) → Contains xs a → 
 nothing_in [] none = refl
 nothing_in (x ∷ xs) none = absurd (none x (0, omega arith, refl))
 
-module _ (law : MorePosted) (model : FznModel) (options : Options) (b : Bounds) where
+module _ (law : MorePosted) (model : FznModel) (options : Options) (parts : List Part) (b : Bounds) where
   more_result : (seen more : List ℤ) → AllAmong seen more → (number : ℕ) (path : Option Bounds) (result : LeastResult) → IsLeastResult model options seen number path result →
       IsLeastResult model options more number path result
   more_result seen more all number None result h = h
@@ -151,9 +152,9 @@ module _ (law : MorePosted) (model : FznModel) (options : Options) (b : Bounds) 
   more_covered seen more all (Some sub) (LeastEnd.Spent nodes why so_far) h = tt
 
   least_result_kept : (seen more : List ℤ) → AllAmong seen more → (number : ℕ) (result : LeastResult) →
-      HasResult model options.depth b (IsLeastRun model options seen) number result → HasResult model options.depth b (IsLeastRun model options more) number result
+      HasResult model parts b (IsLeastRun model options seen) number result → HasResult model parts b (IsLeastRun model options more) number result
   least_result_kept seen more all =
-      result_kept model options.depth b (IsLeastRun model options seen) (IsLeastRun model options more)
+      result_kept model parts b (IsLeastRun model options seen) (IsLeastRun model options more)
       (λ number path result h. (more_result seen more all number path result h.0, more_covered seen more all path result.1 h.1))
 
   -- what one of some runs recorded, or gives, one of more runs does
@@ -166,8 +167,8 @@ module _ (law : MorePosted) (model : FznModel) (options : Options) (b : Bounds) 
   abbrev with_run : List (ℕ × LeastResult) → ℕ → LeastResult → List (ℕ × LeastResult)
   with_run results number result = results ++ (number, result) ∷ []
 
-  pub least_runs_joined : options.workers ≢ 1 → (seen seen2 posted posted2 : List ℤ) (runs runs2 : List (ℕ × LeastEnd)) → AreLeastRuns model options b seen posted runs → AreLeastRuns model options b seen2 posted2 runs2 →
-      AreLeastRuns model options b (seen ++ seen2) (posted ++ posted2) (runs ++ runs2)
+  pub least_runs_joined : options.workers ≢ 1 → (seen seen2 posted posted2 : List ℤ) (runs runs2 : List (ℕ × LeastEnd)) → AreLeastRuns model options parts b seen posted runs → AreLeastRuns model options parts b seen2 posted2 runs2 →
+      AreLeastRuns model options parts b (seen ++ seen2) (posted ++ posted2) (runs ++ runs2)
   least_runs_joined several seen seen2 posted posted2 runs runs2 h k = record {
     results = h.results ++ k.results;
     of_runs = map-append run_of h.results k.results ∙ ap (λ rs. rs ++ map run_of k.results) h.of_runs ∙ ap (λ rs. runs ++ rs) k.of_runs;
@@ -193,8 +194,8 @@ module _ (law : MorePosted) (model : FznModel) (options : Options) (b : Bounds) 
   }
 
   -- more was seen
-  pub least_runs_seen : (seen more posted posts : List ℤ) (runs : List (ℕ × LeastEnd)) → AllAmong seen more → posts ≡ posted → AreLeastRuns model options b seen posted runs →
-      AreLeastRuns model options b more posts runs
+  pub least_runs_seen : (seen more posted posts : List ℤ) (runs : List (ℕ × LeastEnd)) → AllAmong seen more → posts ≡ posted → AreLeastRuns model options parts b seen posted runs →
+      AreLeastRuns model options parts b more posts runs
   least_runs_seen seen more posted posts runs all e h = record {
     results = h.results;
     of_runs = h.of_runs;
@@ -206,7 +207,7 @@ module _ (law : MorePosted) (model : FznModel) (options : Options) (b : Bounds) 
   }
 
   -- the least cost that was posted is the least that was recorded
-  known_least : model.goal ≢ Goal.Satisfy → (seen posted : List ℤ) (runs : List (ℕ × LeastEnd)) (h : AreLeastRuns model options b seen posted runs) (best : Option ℤ) → IsLeastCost posted best →
+  known_least : model.goal ≢ Goal.Satisfy → (seen posted : List ℤ) (runs : List (ℕ × LeastEnd)) (h : AreLeastRuns model options parts b seen posted runs) (best : Option ℤ) → IsLeastCost posted best →
       IsLeastOf model.goal (recorded_in (map (λ run. run.1) h.results)) best
   known_least objective seen posted runs h None empty = nothing_in (recorded_in (map (λ run. run.1) h.results)) none
     where
@@ -229,20 +230,20 @@ module _ (law : MorePosted) (model : FznModel) (options : Options) (b : Bounds) 
 
   -- of one worker, the run begins with the least cost that was posted
   abbrev pub BeginsWithLeast : List ℤ → ℕ → LeastResult → Type 0
-  BeginsWithLeast posted number result = (known : Option ℤ) × IsLeastCost posted known × HasResult model options.depth b (IsResultFrom model options known) number result
+  BeginsWithLeast posted number result = (known : Option ℤ) × IsLeastCost posted known × HasResult model parts b (IsResultFrom model options known) number result
 
-  pub least_run_more : model.goal ≢ Goal.Satisfy → (seen after posted posts : List ℤ) (runs : List (ℕ × LeastEnd)) (number : ℕ) (result : LeastResult) → AreLeastRuns model options b seen posted runs →
-      AllAmong seen after → AllAmong posted posts → HasResult model options.depth b (IsLeastRun model options after) number result →
+  pub least_run_more : model.goal ≢ Goal.Satisfy → (seen after posted posts : List ℤ) (runs : List (ℕ × LeastEnd)) (number : ℕ) (result : LeastResult) → AreLeastRuns model options parts b seen posted runs →
+      AllAmong seen after → AllAmong posted posts → HasResult model parts b (IsLeastRun model options after) number result →
       ((cost : ℤ) → Among posts cost → Among posted cost ⊎ (Any (λ a. cost_of model.goal a ≡ Some cost) result.0 × Any (CostsAtMost model.goal cost) (least_collected result.1))) →
       ((a : Assignment) (cost : ℤ) → Contains result.0 a → cost_of model.goal a ≡ Some cost → Among posts cost) → (options.workers ≡ 1 → BeginsWithLeast posted number result) →
-      AreLeastRuns model options b after posts (runs ++ (number, result.1) ∷ [])
+      AreLeastRuns model options parts b after posts (runs ++ (number, result.1) ∷ [])
   least_run_more objective seen after posted posts runs number result h all kept own by own_posts begins = record {
     results = with_run h.results number result;
     of_runs = map-append run_of h.results ((number, result) ∷ []) ∙ ap (λ rs. rs ++ (number, result.1) ∷ []) h.of_runs;
     each = λ other result2 there. elim (Contains-append_cases h.results ((number, result) ∷ []) (other, result2) there) [
       | inl l ↦ least_result_kept seen after all other result2 (h.each other result2 l)
       | inr r ↦ let same : (number, result) ≡ (other, result2) = the_one (number, result) (other, result2) r in
-          subst (λ (run : ℕ × LeastResult). HasResult model options.depth b (IsLeastRun model options after) run.0 run.1) same own
+          subst (λ (run : ℕ × LeastResult). HasResult model parts b (IsLeastRun model options after) run.0 run.1) same own
     ];
     recorded = λ cost there. elim (by cost there) [
       | inl l ↦ recorded_kept h.results (with_run h.results number result) cost (λ run here. Contains-append_left h.results ((number, result) ∷ []) run here) (h.recorded cost l)
@@ -258,10 +259,10 @@ module _ (law : MorePosted) (model : FznModel) (options : Options) (b : Bounds) 
           | inr r ↦ own_posts a cost (subst (λ (xs : List Assignment). Contains xs a) (append-nil result.0) r) costs
         ];
     in_turn = λ one.
-        each_more (λ (earlier : List (ℕ × LeastResult)) (run : ℕ × LeastResult). ComesInTurn model options b (map (λ r. r.1) earlier) run.0 run.1) h.results (number, result) (h.in_turn one) (in_its_turn (begins one));
+        each_more (λ (earlier : List (ℕ × LeastResult)) (run : ℕ × LeastResult). ComesInTurn model options parts b (map (λ r. r.1) earlier) run.0 run.1) h.results (number, result) (h.in_turn one) (in_its_turn (begins one));
   }
     where
-      in_its_turn : BeginsWithLeast posted number result → ComesInTurn model options b (map (λ r. r.1) h.results) number result
+      in_its_turn : BeginsWithLeast posted number result → ComesInTurn model options parts b (map (λ r. r.1) h.results) number result
       in_its_turn k = record { known = k.0; is_known = known_least objective seen posted runs h k.0 k.1; has_result = k.2 }
 
 -- ---- what a run posts

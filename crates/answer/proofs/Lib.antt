@@ -4,6 +4,7 @@ pub mod HeadLaws
 pub mod ObjectiveLaws
 pub mod ListedLaws
 pub mod PathBoxes
+pub mod PartPaths
 pub mod SolveLaws
 pub mod OneFinished
 pub mod RunLists
@@ -17,6 +18,7 @@ pub mod BestLaws
 pub mod JobLaws
 pub mod LeastJobLaws
 pub mod BeatenLaws
+pub mod PlanLaws
 pub mod GivenLaws
 pub mod SettledLaws
 pub mod NumberLaws
@@ -27,4 +29,4 @@ pub mod OneEnd
 pub mod OneResults
 pub mod AskedAlike
 pub mod OneLimited
-pub mod DepthLaws
+pub mod JoinsLaws

@@ -1,41 +1,32 @@
 -- With the limit on rounds pinned a model has one answer, where it has no objective or one worker searches.
-use Rattle.std.proofs.Common.{◌≡◌, ◌≢◌, ◌⊎◌, inl, inr, ℕ, ℤ, ◌≤ℤ◌, ◌<ℤ◌, Bool, true, false, List, [], ◌∷◌, ◌++◌, take, flat_map, All, Any, Contains, Option, None, Some, refl, sym, ap, subst, subst₂, ◌∙◌, arith}
-use mathlib.Core.Logic.{dite}
-use native.Mathlib.Decide.{ℕ_discrete}
+use Rattle.std.proofs.Common.{◌≡◌, ◌≢◌, ◌⊎◌, inl, inr, ℤ, ◌≤ℤ◌, ◌<ℤ◌, Bool, true, false, List, [], ◌∷◌, ◌++◌, take, flat_map, All, Any, Option, None, Some, refl, sym, ap, subst, subst₂, ◌∙◌, arith}
 use Rattle.std.proofs.lemmas.Int.{ints}
 use Rattle.std.proofs.lemmas.List.Elements.{All-head, All-tail}
 use Rattle.constraint_model.specs.declared.model.Goal.{Goal}
 use Rattle.constraint_model.specs.declared.model.FznModel.{FznModel}
-use Rattle.constraint_model.specs.Relations.{cost_of}
 use Rattle.constraint_model.specs.Searches.{IsSearchOf}
 use Rattle.decompose.specs.Program.{start_of}
 use Rattle.branching.specs.Tree.{OneList}
 use Rattle.subproblems.specs.Paths.{PathLaws}
-use Rattle.search.specs.declared.ends.FirstEnd.{FirstEnd}
 use Rattle.search.specs.declared.ends.AllEnd.{AllEnd}
 use Rattle.search.specs.Laws.{AreRoundsPinned, EndLaws}
 use Rattle.fzn_print.specs.declared.answers.Answer.{Answer}
+use Rattle.tree_cover.specs.declared.part.Part.{Part}
+use Rattle.tree_cover.specs.Covers.{parts_to}
 use Rattle.answer.specs.declared.options.Options.{Options}
-use Rattle.answer.specs.Least.{IsLeastCost}
 use Rattle.answer.specs.Cuts.{cut_to}
 use Rattle.answer.specs.Lists.{Assignment}
 use Rattle.answer.specs.Results.{listed, first_of, AreFirstResults, first_collected, IsAllResult, all_collected, IsAllSpent, LeastResult, IsLeastResult, AreLeastResults, collected_in, IsLeastSpent}
 use Rattle.answer.specs.Unfinished.{mark_where, CostsMore, CostsAsMuch, IsFirstLeast, IsBestOf, IsFirstCollected, AreAllCollected, IsBestCollected, IsLeastCollected, GivesCollected, IsUnfinished}
 use Rattle.answer.specs.Unspent.{IsUnspentFirst, IsUnspentAll, IsUnspentLeast, IsUnspentFor}
-use Rattle.answer.specs.Answers.{HasLimit, IsWhole, IsAnswer}
+use Rattle.answer.specs.Answers.{IsWhole, IsAnswer}
 use Rattle.answer.proofs.ObjectiveLaws.{has_cost}
-use Rattle.answer.proofs.GivenLaws.{none_open, all_unlimited, least_unlimited, none_spent}
+use Rattle.answer.proofs.GivenLaws.{some_limit, none_open, all_unlimited, least_unlimited, none_spent}
 use Rattle.answer.proofs.OneFinished.{one_finished, same_answer, same_cost}
 use Rattle.answer.proofs.OneResults.{first_agree, same_all, same_least}
 
 none_of_any : {E : Type 0} (Spent : E → Type 0) (results : List E) → All (λ r. Spent r → ⊥) results → Any Spent results → ⊥
 none_of_any Spent results all (k, x, l, e, s) = all k x l (subst Spent (sym e) s)
-
--- where it isn't so that no limit is set, one is
-some_limit : (options : Options) → (options.node_limit ≡ 0 → options.round_limit ≡ 0 → ⊥) → HasLimit options
-some_limit options some = dite (ℕ_discrete options.node_limit 0)
-    (λ (none : options.node_limit ≡ 0). inr (λ no_rounds. some none no_rounds))
-    (λ (nodes : options.node_limit ≢ 0). inl nodes)
 
 -- ---- the best of what was collected
 
@@ -96,6 +87,9 @@ first_or_best (x ∷ xs) [] a b e best = absurd (let bad : x ∷ [] ≡ [] = e i
 first_or_best (x ∷ xs) (y ∷ ys) a b e best = e
 
 module _ (ends : EndLaws) (laws : PathLaws) (one : OneList) (model : FznModel) (rule : IsSearchOf model) (options : Options) (pinned : AreRoundsPinned (first_of model options [])) where
+  abbrev parts : List Part
+  parts = parts_to options.depth
+
   -- ---- no objective
 
   module _ (satisfy : model.goal ≡ Goal.Satisfy) where
@@ -106,9 +100,9 @@ module _ (ends : EndLaws) (laws : PathLaws) (one : OneList) (model : FznModel) (
       not_both_firsts : (x y : Answer) → IsWhole model options x → IsUnfinished model options y → ⊥
       not_both_firsts x y h k =
           let left = first_left y k in
-          let limit = some_limit options (λ no_nodes no_rounds. none_open model options no_nodes no_rounds (start_of model) left.results left.are left.is_open) in
+          let limit = some_limit options (λ no_nodes no_rounds. none_open model options no_nodes no_rounds parts (start_of model) left.results left.are left.is_open) in
           let unspent : IsUnspentFirst model options (start_of model) = subst₂ (λ (g : Goal) (all : Bool). IsUnspentFor g all model options) satisfy first (h.unspent limit) in
-          unspent.none_open ((first_agree ends laws model rule options pinned (start_of model) left.results unspent.results left.are unspent.are).1 left.is_open)
+          unspent.none_open ((first_agree ends laws model rule options pinned parts (start_of model) left.results unspent.results left.are unspent.are).1 left.is_open)
 
       first_limited : (x y : Answer) → IsAnswer model options x → IsAnswer model options y → x ≡ y
       first_limited x y (inl h) (inl k) = one_finished one model rule options.all x y h.finished k.finished
@@ -117,7 +111,7 @@ module _ (ends : EndLaws) (laws : PathLaws) (one : OneList) (model : FznModel) (
       first_limited x y (inr h) (inr k) =
           let left = first_left x h in
           let right = first_left y k in
-          let agree = first_agree ends laws model rule options pinned (start_of model) left.results right.results left.are right.are in
+          let agree = first_agree ends laws model rule options pinned parts (start_of model) left.results right.results left.are right.are in
           let same = left.solutions ∙ agree.0 ∙ sym right.solutions in
           same_answer x y same (left.mark ∙ ap mark_where same ∙ sym right.mark)
 
@@ -128,10 +122,10 @@ module _ (ends : EndLaws) (laws : PathLaws) (one : OneList) (model : FznModel) (
       not_both_alls : (x y : Answer) → IsWhole model options x → IsUnfinished model options y → ⊥
       not_both_alls x y h k =
           let left = all_left y k in
-          let limit = some_limit options (λ no_nodes no_rounds. none_spent model options.depth (start_of model) (IsAllResult model options) IsAllSpent left.results left.are
+          let limit = some_limit options (λ no_nodes no_rounds. none_spent model parts (start_of model) (IsAllResult model options) IsAllSpent left.results left.are
           (all_unlimited model options no_nodes no_rounds) left.spent) in
           let unspent : IsUnspentAll model options = subst₂ (λ (g : Goal) (every_one : Bool). IsUnspentFor g every_one model options) satisfy all (h.unspent limit) in
-          let same = same_all ends laws model rule options pinned unspent.results left.results unspent.are left.are in
+          let same = same_all ends laws model rule options pinned parts unspent.results left.results unspent.are left.are in
           none_of_any IsAllSpent left.results (subst (λ (rs : List AllEnd). All (λ r. IsAllSpent r → ⊥) rs) same unspent.unspent) left.spent
 
       all_limited : (x y : Answer) → IsAnswer model options x → IsAnswer model options y → x ≡ y
@@ -141,7 +135,7 @@ module _ (ends : EndLaws) (laws : PathLaws) (one : OneList) (model : FznModel) (
       all_limited x y (inr h) (inr k) =
           let left = all_left x h in
           let right = all_left y k in
-          let same = left.solutions ∙ ap (flat_map all_collected) (same_all ends laws model rule options pinned left.results right.results left.are right.are) ∙ sym right.solutions in
+          let same = left.solutions ∙ ap (flat_map all_collected) (same_all ends laws model rule options pinned parts left.results right.results left.are right.are) ∙ sym right.solutions in
           same_answer x y same (left.mark ∙ ap mark_where same ∙ sym right.mark)
 
     satisfied : (all : Bool) → options.all ≡ all → (x y : Answer) → IsAnswer model options x → IsAnswer model options y → x ≡ y
@@ -164,26 +158,26 @@ module _ (ends : EndLaws) (laws : PathLaws) (one : OneList) (model : FznModel) (
     abbrev Spent : LeastResult → Type 0
     Spent result = IsLeastSpent result.1
 
-    same_results : (results others : List LeastResult) → AreLeastResults model options results → AreLeastResults model options others → results ≡ others
-    same_results results others h k = same_least ends laws model rule options pinned sole results others h k
+    same_results : (results others : List LeastResult) → AreLeastResults model options parts results → AreLeastResults model options parts others → results ≡ others
+    same_results results others h k = same_least ends laws model rule options pinned parts sole results others h k
 
     -- the first phase is stopped each time, or never
-    not_both_phases : (results others : List LeastResult) → AreLeastResults model options results → AreLeastResults model options others → All (λ result. IsLeastSpent result.1 → ⊥) results →
+    not_both_phases : (results others : List LeastResult) → AreLeastResults model options parts results → AreLeastResults model options parts others → All (λ result. IsLeastSpent result.1 → ⊥) results →
         Any (λ result. IsLeastSpent result.1) others → ⊥
     not_both_phases results others h k unspent spent =
         none_of_any Spent others (subst (λ (rs : List LeastResult). All (λ result. IsLeastSpent result.1 → ⊥) rs) (same_results results others h k) unspent) spent
 
     not_whole_and_left : (x y : Answer) → IsWhole model options x → IsBestCollected model options y ⊎ IsLeastCollected model options y → ⊥
     not_whole_and_left x y h (inl k) =
-        let limit = some_limit options (λ no_nodes no_rounds. none_spent model options.depth (start_of model) (IsLeastResult model options k.are.posted) Spent k.results k.are.are
+        let limit = some_limit options (λ no_nodes no_rounds. none_spent model parts (start_of model) (IsLeastResult model options k.are.posted) Spent k.results k.are.are
         (least_unlimited model options no_nodes no_rounds k.are.posted) k.spent) in
         let unspent = unspent_of model.goal options.all objective (h.unspent limit) in
         not_both_phases unspent.results k.results unspent.are k.are unspent.unspent k.spent
     not_whole_and_left x y h (inr k) =
         let cut = cut_to model.goal k.cost (start_of model) in
-        let limit = some_limit options (λ no_nodes no_rounds. none_open model options no_nodes no_rounds cut k.results k.are k.is_open) in
+        let limit = some_limit options (λ no_nodes no_rounds. none_open model options no_nodes no_rounds parts cut k.results k.are k.is_open) in
         let second = (unspent_of model.goal options.all objective (h.unspent limit)).second k.cost k.least in
-        second.none_open ((first_agree ends laws model rule options pinned cut k.results second.results k.are second.are).1 k.is_open)
+        second.none_open ((first_agree ends laws model rule options pinned parts cut k.results second.results k.are second.are).1 k.is_open)
 
     one_best_left : (x y : Answer) → IsBestCollected model options x → IsBestCollected model options y → x ≡ y
     one_best_left x y h k =
@@ -199,8 +193,8 @@ module _ (ends : EndLaws) (laws : PathLaws) (one : OneList) (model : FznModel) (
         let best = one_first_least model.goal objective (collected_in k.found.results) h.best k.best
         (subst (λ (rs : List LeastResult). IsFirstLeast model.goal (collected_in rs) h.best) results h.found.is_best) k.found.is_best in
         let cut = cut_to model.goal k.cost (start_of model) in
-        let are = subst (λ (c : ℤ). AreFirstResults model options (cut_to model.goal c (start_of model)) h.results) cost h.are in
-        let agree = first_agree ends laws model rule options pinned cut h.results k.results are k.are in
+        let are = subst (λ (c : ℤ). AreFirstResults model options parts (cut_to model.goal c (start_of model)) h.results) cost h.are in
+        let agree = first_agree ends laws model rule options pinned parts cut h.results k.results are k.are in
         let same = h.solutions ∙ first_or_best (flat_map first_collected h.results) (flat_map first_collected k.results) h.best k.best agree.0 best ∙ sym k.solutions in
         same_answer x y same (h.mark ∙ sym k.mark)
 

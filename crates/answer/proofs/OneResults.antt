@@ -1,6 +1,6 @@
--- With the limit on rounds pinned, the results of all numbers are one list: those for all solutions, those for the least cost by one
--- worker, and those for the first solution up to the first number that has one.
-use Rattle.std.proofs.Common.{◌≡◌, ℕ, zero, suc, ◌+◌, ◌<◌, ◌≤◌, ◌^◌, ℤ, ◌≤ℤ◌, List, [], ◌∷◌, ◌++◌, length, take, flat_map, All, Any, Option, None, Some, refl, sym, ap, subst, ◌∙◌, inl, inr, arith}
+-- With the limit on rounds pinned, the results of all parts are one list: those for all solutions, those for the least cost by one
+-- worker, and those for the first solution up to the first part that has one.
+use Rattle.std.proofs.Common.{◌≡◌, ℕ, zero, suc, ◌+◌, ◌<◌, ◌≤◌, ℤ, ◌≤ℤ◌, List, [], ◌∷◌, ◌++◌, length, take, flat_map, Any, Option, None, Some, refl, sym, ap, subst, ◌∙◌, inl, inr, arith}
 use Rattle.std.proofs.lemmas.Int.{ints}
 use Rattle.std.proofs.lemmas.Bool.{cases_lt}
 use Rattle.std.proofs.lemmas.Option.{slice_get_within}
@@ -17,10 +17,12 @@ use Rattle.search.specs.declared.ends.AllEnd.{AllEnd}
 use Rattle.search.specs.Ends.{head_of, IsAllEnd}
 use Rattle.search.specs.LeastEnds.{least_of}
 use Rattle.search.specs.Laws.{AreRoundsPinned, EndLaws}
+use Rattle.tree_cover.specs.declared.part.Part.{Part}
 use Rattle.answer.specs.declared.options.Options.{Options}
 use Rattle.answer.specs.Lists.{Assignment}
 use Rattle.answer.specs.Places.{StandsAt}
 use Rattle.answer.specs.Results.{program_of, IsFirstResult, AreFirstResults, first_of, first_collected, IsOpen, IsAllResult, AreAllResults, all_of, LeastResult, IsResultFrom, recorded_in, IsLeastOf, AreLeastResults}
+use Rattle.answer.proofs.PartPaths.{one_at}
 use Rattle.answer.proofs.AlongLaws.{stands_first, stands_later, one_entry}
 use Rattle.answer.proofs.OpenLaws.{open_with}
 use Rattle.answer.proofs.OneEnd.{one_done, not_spent, one_spent, one_least}
@@ -45,7 +47,7 @@ one_known goal recorded (Some cost) None h k = absurd (none_there (λ a. cost_of
 one_known goal recorded (Some cost) (Some other) ((i, a, l, e, c), all) ((j, b, m, f, d), every) =
     ap (λ (z : ℤ). Some z) (both cost other (all j b m other (ap (cost_of goal) f ∙ d)) (every i a l cost (ap (cost_of goal) e ∙ c)))
 
--- ---- what one number leads to
+-- ---- what one part leads to
 
 abbrev IsUncut : FirstEnd → Type 0
 IsUncut (FirstEnd.Cut lesser) = ⊥
@@ -121,9 +123,9 @@ module _ (ends : EndLaws) (laws : PathLaws) (model : FznModel) (rule : IsSearchO
   all_result number None end other h k = h ∙ sym k
   all_result number (Some sub) end other h k = all_end sub end other h k
 
-  -- ---- all numbers
+  -- ---- all parts
 
-  module _ (b : Bounds) (results others : List FirstEnd) (h : AreFirstResults model options b results) (k : AreFirstResults model options b others) where
+  module _ (parts : List Part) (b : Bounds) (results others : List FirstEnd) (h : AreFirstResults model options parts b results) (k : AreFirstResults model options parts b others) where
     uncut : (list : List FirstEnd) (number : ℕ) (path : Option Bounds) (end : FirstEnd) → NoneBefore list number → IsFirstResult model options list number path end → IsUncut end
     uncut list number path (FirstEnd.Done answer) none own = tt
     uncut list number path (FirstEnd.Spent nodes why) none own = tt
@@ -133,7 +135,7 @@ module _ (ends : EndLaws) (laws : PathLaws) (model : FznModel) (rule : IsSearchO
     same_here number end other there here none nowhere =
         let own = h.each number end there in
         let its = k.each number other here in
-        let path = laws.one model (kernels_of model) options.depth b number its.path own.path rule its.leads own.leads in
+        let path = one_at laws model (kernels_of model) parts b number its.path own.path rule its.leads own.leads in
         let is = subst (λ (p : Option Bounds). IsFirstResult model options others number p other) path its.is_result in
         first_end number results others own.path end other own.is_result is (uncut results number own.path end none own.is_result) (uncut others number own.path other nowhere is)
 
@@ -157,15 +159,15 @@ module _ (ends : EndLaws) (laws : PathLaws) (model : FznModel) (rule : IsSearchO
         (λ j r s. let same : j ≡ 0 + j = omega arith in subst (λ (n : ℕ). StandsAt others n r) same s)
         (λ j a below s. omega arith) (λ j a below s. omega arith)
 
-  pub same_all : (results others : List AllEnd) → AreAllResults model options results → AreAllResults model options others → results ≡ others
-  same_all results others h k = same_entries results others (h.count ∙ sym k.count) each
+  pub same_all : (parts : List Part) (results others : List AllEnd) → AreAllResults model options parts results → AreAllResults model options parts others → results ≡ others
+  same_all parts results others h k = same_entries results others (h.count ∙ sym k.count) each
     where
       each : (number : ℕ) (end : AllEnd) → StandsAt results number end → StandsAt others number end
       each number end there =
           let own = h.each number end there in
           let other = entry others number (let l = slice_get_within results number end there in let e = h.count in let f = k.count in omega (arith, l, e, f)) in
           let its = k.each number other.0 other.1 in
-          let path = laws.one model (kernels_of model) options.depth (start_of model) number its.path own.path rule its.leads own.leads in
+          let path = one_at laws model (kernels_of model) parts (start_of model) number its.path own.path rule its.leads own.leads in
           let is = subst (λ (p : Option Bounds). IsAllResult model options number p other.0) path its.is_result in
           other.1 ∙ ap (λ (r : AllEnd). Some r) (sym (all_result number own.path end other.0 own.is_result is))
 
@@ -176,14 +178,14 @@ module _ (ends : EndLaws) (laws : PathLaws) (model : FznModel) (rule : IsSearchO
   one_from known number (Some sub) result other h k =
       one_least ends (least_of model (program_of model) options.node_limit options.round_limit options.lanes known [] sub) rule refl pinned result.0 other.0 result.1 other.1 h k
 
-  module _ (one : options.workers ≡ 1) (results others : List LeastResult) (h : AreLeastResults model options results) (k : AreLeastResults model options others) where
+  module _ (parts : List Part) (one : options.workers ≡ 1) (results others : List LeastResult) (h : AreLeastResults model options parts results) (k : AreLeastResults model options parts others) where
     same_result : (number : ℕ) (result other : LeastResult) → take number results ≡ take number others → StandsAt results number result → StandsAt others number other → result ≡ other
     same_result number result other front there here =
         let own = h.in_turn one number result there in
         let its = k.in_turn one number other here in
         let known = one_known model.goal (recorded_in (take number others)) its.known own.known its.is_known
         (subst (λ (rs : List LeastResult). IsLeastOf model.goal (recorded_in rs) own.known) front own.is_known) in
-        let path = laws.one model (kernels_of model) options.depth (start_of model) number its.has_result.path own.has_result.path rule its.has_result.leads own.has_result.leads in
+        let path = one_at laws model (kernels_of model) parts (start_of model) number its.has_result.path own.has_result.path rule its.has_result.leads own.has_result.leads in
         let is = subst (λ (p : Option Bounds). IsResultFrom model options its.known number p other) path its.has_result.is_result in
         one_from own.known number own.has_result.path result other own.has_result.is_result (subst (λ (c : Option ℤ). IsResultFrom model options c number own.has_result.path other) known is)
 

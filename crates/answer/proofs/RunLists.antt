@@ -1,5 +1,5 @@
 -- What is known of runs stays as they grow.
-use Rattle.std.proofs.Common.{◌≡◌, ℕ, zero, suc, ◌<◌, ◌^◌, List, [], ◌∷◌, ◌++◌, take, get_or, Contains, Option, None, Some, refl, subst, ◌⊎◌, inl, inr, arith}
+use Rattle.std.proofs.Common.{◌≡◌, ℕ, zero, suc, ◌<◌, List, [], ◌∷◌, ◌++◌, length, take, get_or, Contains, Option, None, Some, refl, subst, ◌⊎◌, inl, inr, arith}
 use Rattle.std.proofs.lemmas.List.Elements.{Contains-append_left, Contains-append_right, Contains-append_cases}
 use Rattle.interval.specs.Boxes.{Bounds}
 use Rattle.constraint_model.specs.declared.model.FznModel.{FznModel}
@@ -8,6 +8,7 @@ use Rattle.search.specs.declared.ends.FirstEnd.{FirstEnd}
 use Rattle.search.specs.declared.ends.AllEnd.{AllEnd}
 use Rattle.search.specs.Ends.{posts_of}
 use Rattle.crew.specs.Ends.{AreInOrder}
+use Rattle.tree_cover.specs.declared.part.Part.{Part}
 use Rattle.answer.specs.declared.options.Options.{Options}
 use Rattle.answer.specs.Lists.{Assignment}
 use Rattle.answer.specs.Places.{StandsAt, HasResult, AreResults}
@@ -55,22 +56,22 @@ each_more {A} Holds (z ∷ zs) x each last (suc place) y h =
     each_more (λ (front : List A) (entry : A). Holds (z ∷ front) entry) zs x (λ k w there. each (suc k) w there) last place y h
 
 -- a result stays one by a weaker relation
-pub result_kept : {E : Type 0} (model : FznModel) (depth : ℕ) (b : Bounds) (Is Other : ℕ → Option Bounds → E → Type 0) →
+pub result_kept : {E : Type 0} (model : FznModel) (parts : List Part) (b : Bounds) (Is Other : ℕ → Option Bounds → E → Type 0) →
     ((number : ℕ) (path : Option Bounds) (end : E) → Is number path end → Other number path end) →
-    (number : ℕ) (end : E) → HasResult model depth b Is number end → HasResult model depth b Other number end
-result_kept model depth b Is Other keeps number end h = record { path = h.path; leads = h.leads; is_result = keeps number h.path end h.is_result }
+    (number : ℕ) (end : E) → HasResult model parts b Is number end → HasResult model parts b Other number end
+result_kept model parts b Is Other keeps number end h = record { path = h.path; leads = h.leads; is_result = keeps number h.path end h.is_result }
 
 -- results of the runs, in order, are results
-pub results_of : {E : Type 0} (model : FznModel) (depth : ℕ) (b : Bounds) (Is : ℕ → Option Bounds → E → Type 0) (runs : List (ℕ × E)) (ends : List E) →
-    AreInOrder (2 ^ depth) runs ends → ((number : ℕ) (end : E) → Contains runs (number, end) → HasResult model depth b Is number end) → AreResults model depth b Is ends
-results_of model depth b Is runs ends order each = record {
+pub results_of : {E : Type 0} (model : FznModel) (parts : List Part) (b : Bounds) (Is : ℕ → Option Bounds → E → Type 0) (runs : List (ℕ × E)) (ends : List E) →
+    AreInOrder (length parts) runs ends → ((number : ℕ) (end : E) → Contains runs (number, end) → HasResult model parts b Is number end) → AreResults model parts b Is ends
+results_of model parts b Is runs ends order each = record {
   count = order.length_is;
   each = λ number end s. each number end ((order.places number end).1 s);
 }
 
 -- ---- for the first solution
 
-module _ (model : FznModel) (options : Options) (b : Bounds) where
+module _ (model : FznModel) (options : Options) (parts : List Part) (b : Bounds) where
   first_kept : (seen more : List ℕ) → AllAmong seen more → (number : ℕ) (path : Option Bounds) (end : FirstEnd) → IsFirstRun model options seen number path end → IsFirstRun model options more number path end
   first_kept seen more all number path (FirstEnd.Cut lesser) h = (h.0, all lesser h.1)
   first_kept seen more all number None (FirstEnd.Done answer) h = h
@@ -79,17 +80,17 @@ module _ (model : FznModel) (options : Options) (b : Bounds) where
   first_kept seen more all number (Some sub) (FirstEnd.Spent nodes why) h = h
 
   first_result_kept : (seen more : List ℕ) → AllAmong seen more → (number : ℕ) (end : FirstEnd) →
-      HasResult model options.depth b (IsFirstRun model options seen) number end → HasResult model options.depth b (IsFirstRun model options more) number end
-  first_result_kept seen more all = result_kept model options.depth b (IsFirstRun model options seen) (IsFirstRun model options more) (first_kept seen more all)
+      HasResult model parts b (IsFirstRun model options seen) number end → HasResult model parts b (IsFirstRun model options more) number end
+  first_result_kept seen more all = result_kept model parts b (IsFirstRun model options seen) (IsFirstRun model options more) (first_kept seen more all)
 
-  pub no_first_runs : (seen posted : List ℕ) → posted ≡ [] → AreFirstRuns model options b seen posted []
+  pub no_first_runs : (seen posted : List ℕ) → posted ≡ [] → AreFirstRuns model options parts b seen posted []
   no_first_runs seen posted e = record {
     each = λ number end h. absurd (nothing_there (number, end) h);
     solved = λ number h. let none : Among [] number = subst (λ (xs : List ℕ). Among xs number) e h in absurd none;
   }
 
-  pub first_runs_joined : (seen seen2 posted posted2 : List ℕ) (runs runs2 : List (ℕ × FirstEnd)) → AreFirstRuns model options b seen posted runs → AreFirstRuns model options b seen2 posted2 runs2 →
-      AreFirstRuns model options b (seen ++ seen2) (posted ++ posted2) (runs ++ runs2)
+  pub first_runs_joined : (seen seen2 posted posted2 : List ℕ) (runs runs2 : List (ℕ × FirstEnd)) → AreFirstRuns model options parts b seen posted runs → AreFirstRuns model options parts b seen2 posted2 runs2 →
+      AreFirstRuns model options parts b (seen ++ seen2) (posted ++ posted2) (runs ++ runs2)
   first_runs_joined seen seen2 posted posted2 runs runs2 h k = record {
     each = λ number end there. elim (Contains-append_cases runs runs2 (number, end) there) [
       | inl l ↦ first_result_kept seen (seen ++ seen2) (among_left seen seen2) number end (h.each number end l)
@@ -102,8 +103,8 @@ module _ (model : FznModel) (options : Options) (b : Bounds) where
   }
 
   -- what is known of runs stays as the seat sees more
-  pub first_runs_kept : (seen after posted posts : List ℕ) (runs : List (ℕ × FirstEnd)) → AllAmong seen after → posts ≡ posted → AreFirstRuns model options b seen posted runs →
-      AreFirstRuns model options b after posts runs
+  pub first_runs_kept : (seen after posted posts : List ℕ) (runs : List (ℕ × FirstEnd)) → AllAmong seen after → posts ≡ posted → AreFirstRuns model options parts b seen posted runs →
+      AreFirstRuns model options parts b after posts runs
   first_runs_kept seen after posted posts runs all e h = record {
     each = λ number end there. first_result_kept seen after all number end (h.each number end there);
     solved = λ number there. h.solved number (subst (λ (xs : List ℕ). Among xs number) e there);
@@ -112,16 +113,16 @@ module _ (model : FznModel) (options : Options) (b : Bounds) where
   abbrev Solved : List (ℕ × FirstEnd) → ℕ → FirstEnd → ℕ → Type 0
   Solved runs number end other = (a : Assignment) × Contains (runs ++ (number, end) ∷ []) (other, FirstEnd.Done (Some a))
 
-  before : (seen posted : List ℕ) (runs : List (ℕ × FirstEnd)) (number : ℕ) → AreFirstRuns model options b seen posted runs → (end : FirstEnd) (other : ℕ) → Among posted other → Solved runs number end other
+  before : (seen posted : List ℕ) (runs : List (ℕ × FirstEnd)) (number : ℕ) → AreFirstRuns model options parts b seen posted runs → (end : FirstEnd) (other : ℕ) → Among posted other → Solved runs number end other
   before seen posted runs number h end other l = let s = h.solved other l in (s.0, Contains-append_left runs ((number, end) ∷ []) (other, FirstEnd.Done (Some s.0)) s.1)
 
-  pub first_run_more : (seen after posted posts : List ℕ) (runs : List (ℕ × FirstEnd)) (number : ℕ) (end : FirstEnd) → AreFirstRuns model options b seen posted runs → AllAmong seen after →
-      HasResult model options.depth b (IsFirstRun model options after) number end → posts ≡ posts_of number posted end → AreFirstRuns model options b after posts (runs ++ (number, end) ∷ [])
+  pub first_run_more : (seen after posted posts : List ℕ) (runs : List (ℕ × FirstEnd)) (number : ℕ) (end : FirstEnd) → AreFirstRuns model options parts b seen posted runs → AllAmong seen after →
+      HasResult model parts b (IsFirstRun model options after) number end → posts ≡ posts_of number posted end → AreFirstRuns model options parts b after posts (runs ++ (number, end) ∷ [])
   first_run_more seen after posted posts runs number end h all own e = record {
     each = λ other end2 there. elim (Contains-append_cases runs ((number, end) ∷ []) (other, end2) there) [
       | inl l ↦ first_result_kept seen after all other end2 (h.each other end2 l)
       | inr r ↦ let same : (number, end) ≡ (other, end2) = the_one (number, end) (other, end2) r in
-          subst (λ (run : ℕ × FirstEnd). HasResult model options.depth b (IsFirstRun model options after) run.0 run.1) same own
+          subst (λ (run : ℕ × FirstEnd). HasResult model parts b (IsFirstRun model options after) run.0 run.1) same own
     ];
     solved = λ other there. posted_by end other (subst (λ (xs : List ℕ). Among xs other) e there);
   }
@@ -135,11 +136,11 @@ module _ (model : FznModel) (options : Options) (b : Bounds) where
           (a, subst (λ (n : ℕ). Contains (runs ++ (number, FirstEnd.Done (Some a)) ∷ []) (n, FirstEnd.Done (Some a))) l (it_is_there runs (number, FirstEnd.Done (Some a))))
 
   -- where all that was seen was posted, the ends in order are results
-  pub first_results : (seen posted : List ℕ) (runs : List (ℕ × FirstEnd)) (ends : List FirstEnd) → AreFirstRuns model options b seen posted runs → AllAmong seen posted →
-      AreInOrder (2 ^ options.depth) runs ends → AreFirstResults model options b ends
+  pub first_results : (seen posted : List ℕ) (runs : List (ℕ × FirstEnd)) (ends : List FirstEnd) → AreFirstRuns model options parts b seen posted runs → AllAmong seen posted →
+      AreInOrder (length parts) runs ends → AreFirstResults model options parts b ends
   first_results seen posted runs ends h all order =
-      results_of model options.depth b (IsFirstResult model options ends) runs ends order
-      (λ number end there. result_kept model options.depth b (IsFirstRun model options seen) (IsFirstResult model options ends) is_result number end (h.each number end there))
+      results_of model parts b (IsFirstResult model options ends) runs ends order
+      (λ number end there. result_kept model parts b (IsFirstRun model options seen) (IsFirstResult model options ends) is_result number end (h.each number end there))
     where
       is_result : (number : ℕ) (path : Option Bounds) (end : FirstEnd) → IsFirstRun model options seen number path end → IsFirstResult model options ends number path end
       is_result number None (FirstEnd.Done answer) k = k
@@ -151,18 +152,18 @@ module _ (model : FznModel) (options : Options) (b : Bounds) where
 
   -- ---- for all solutions
 
-  pub no_all_runs : AreAllRuns model options b []
+  pub no_all_runs : AreAllRuns model options parts b []
   no_all_runs = record { each = λ number end h. absurd (nothing_there (number, end) h) }
 
-  pub all_runs_joined : (runs runs2 : List (ℕ × AllEnd)) → AreAllRuns model options b runs → AreAllRuns model options b runs2 → AreAllRuns model options b (runs ++ runs2)
+  pub all_runs_joined : (runs runs2 : List (ℕ × AllEnd)) → AreAllRuns model options parts b runs → AreAllRuns model options parts b runs2 → AreAllRuns model options parts b (runs ++ runs2)
   all_runs_joined runs runs2 h k = record {
     each = λ number end there. elim (Contains-append_cases runs runs2 (number, end) there) [ inl l ↦ h.each number end l | inr r ↦ k.each number end r ];
   }
 
-  pub all_run_more : (runs : List (ℕ × AllEnd)) (number : ℕ) (end : AllEnd) → AreAllRuns model options b runs → HasResult model options.depth b (IsAllResult model options) number end →
-      AreAllRuns model options b (runs ++ (number, end) ∷ [])
+  pub all_run_more : (runs : List (ℕ × AllEnd)) (number : ℕ) (end : AllEnd) → AreAllRuns model options parts b runs → HasResult model parts b (IsAllResult model options) number end →
+      AreAllRuns model options parts b (runs ++ (number, end) ∷ [])
   all_run_more runs number end h own = all_runs_joined runs ((number, end) ∷ []) h (record {
     each = λ other end2 there.
         let same : (number, end) ≡ (other, end2) = the_one (number, end) (other, end2) there in
-        subst (λ (run : ℕ × AllEnd). HasResult model options.depth b (IsAllResult model options) run.0 run.1) same own;
+        subst (λ (run : ℕ × AllEnd). HasResult model parts b (IsAllResult model options) run.0 run.1) same own;
   })

@@ -1,5 +1,5 @@
 -- In a static order the best solution of one search is the first that costs so much, and so it is the answer.
-use Rattle.std.proofs.Common.{◌≡◌, ◌≢◌, ℕ, zero, suc, ℤ, ◌<ℤ◌, ◌^◌, List, [], ◌∷◌, length, slice_get, append-nil, All, AllPairs, Contains, ◌⊎◌, ◌↔◌, Option, Some, None, refl, sym, ap, subst, ◌∙◌, inl, inr, arith}
+use Rattle.std.proofs.Common.{◌≡◌, ◌≢◌, zero, suc, ℤ, ◌<ℤ◌, List, [], ◌∷◌, length, slice_get, append-nil, All, AllPairs, Contains, ◌⊎◌, ◌↔◌, Option, Some, None, refl, sym, ap, subst, ◌∙◌, inl, inr, arith}
 use Rattle.std.proofs.lemmas.Int.{ints}
 use Rattle.std.proofs.lemmas.Option.{get_or_from_slice_get}
 use Rattle.std.proofs.lemmas.List.Elements.{All-nil, All-cons, All-contains, Contains-append_right}
@@ -24,6 +24,8 @@ use Rattle.search.specs.Laws.{IsInsideStart, RecordsSolutions}
 use Rattle.search.specs.Static.{FindsFirst}
 use Rattle.fzn_print.specs.declared.marks.Mark.{Mark}
 use Rattle.fzn_print.specs.declared.answers.Answer.{Answer}
+use Rattle.tree_cover.specs.declared.part.Part.{Part}
+use Rattle.tree_cover.specs.Covers.{part_at}
 use Rattle.answer.specs.declared.options.Options.{Options}
 use Rattle.answer.specs.Cuts.{cut_to}
 use Rattle.answer.specs.Least.{IsLeastCost}
@@ -33,6 +35,8 @@ use Rattle.answer.specs.Answers.{HasLimit}
 use Rattle.answer.specs.Results.{program_of, LeastResult, IsLeastResult, least_collected, collected_in, IsLeastSpent}
 use Rattle.answer.specs.Unfinished.{FindsBest}
 use Rattle.answer.specs.Given.{IsBestKnown, IsGiven}
+use Rattle.answer.specs.Places.{StandsAt, PartLeadsTo}
+use Rattle.answer.specs.Parts.{whole_tree}
 use Rattle.answer.specs.Settled.{FirstOfLists, IsFirstIn, LastIsFirst, BestIsFirst, IsSettled}
 use Rattle.answer.proofs.ListedLaws.{lies_in_start, can_be_cut, long_start, cut_in_start, cut_in_range, lists_solutions_at}
 use Rattle.answer.proofs.ObjectiveLaws.{has_cost, cut_inside}
@@ -78,6 +82,13 @@ last_is_first finds records s found a cost least inside static ends costs =
 
 -- ---- one search of the whole tree
 
+-- the one part leads to the box itself
+of_whole : (model : FznModel) (b : Bounds) (path : Option Bounds) → PartLeadsTo model (kernels_of model) whole_tree b 0 path → path ≡ Some b
+of_whole model b path h = subst (λ (p : Part). LeadsTo model (kernels_of model) p.depth b p.number path) (first h.part h.stands) h.leads
+  where
+    first : (p : Part) → StandsAt whole_tree 0 p → p ≡ part_at 0 0
+    first p e = let f : Some (part_at 0 0) ≡ Some p = e in cc
+
 nothing_in : (a : Assignment) → Contains [] a → ⊥
 nothing_in a h = let l = h.1 in omega arith
 
@@ -94,8 +105,8 @@ ended (LeastEnd.Done (Some a)) best unspent (zero, l, e) = ap (λ (x : Assignmen
 ended (LeastEnd.Done (Some a)) best unspent (suc k, l, e) = absurd (omega (arith, l))
 ended (LeastEnd.Spent nodes why so_far) best unspent there = absurd (unspent tt)
 
-module _ (order : InsideOrder) (lists : FirstOfLists) (last : LastIsFirst) (model : FznModel) (form : IsWellFormed model) (f : IsProgramOf model (program_of model)) (static : IsStaticSearch model) (options : Options) (one_part : options.depth ≡ 0)
-    (best : Assignment) (cost : ℤ) (h : FindsBest model options best) (costs : cost_of model.goal best ≡ Some cost) where
+module _ (order : InsideOrder) (lists : FirstOfLists) (last : LastIsFirst) (model : FznModel) (form : IsWellFormed model) (f : IsProgramOf model (program_of model)) (static : IsStaticSearch model) (options : Options)
+    (best : Assignment) (cost : ℤ) (h : FindsBest model options whole_tree best) (costs : cost_of model.goal best ≡ Some cost) where
   abbrev start : Bounds
   start = start_of model
 
@@ -117,13 +128,13 @@ module _ (order : InsideOrder) (lists : FirstOfLists) (last : LastIsFirst) (mode
   collected = subst (λ (xs : List Assignment). Contains xs best) (sym h.is_best.there) (Contains-append_right h.is_best.before (best ∷ h.is_best.after) best (0, omega arith, refl))
 
   one_result : length h.results ≡ 1
-  one_result = h.are.are.count ∙ ap (λ (d : ℕ). 2 ^ d) one_part
+  one_result = h.are.are.count
 
   first_in_start : IsFirstIn model cost start best
   first_in_start =
       let r = of_one h.results best one_result collected in
       let own = h.are.are.each 0 r.0 r.1 in
-      let path = subst (λ (d : ℕ). LeadsTo model (kernels_of model) d start 0 own.path) one_part own.leads in
+      let path = of_whole model start own.path own.leads in
       let ends : EndsLeast search r.0.0 r.0.1 = subst (λ (p : Option Bounds). IsLeastResult model options h.are.posted 0 p r.0) path own.is_result in
       let end : r.0.1 ≡ LeastEnd.Done (Some best) = ended r.0.1 best (All-contains (λ (result : LeastResult). IsLeastSpent result.1 → ⊥) h.results r.0 h.unspent (0, (let n = one_result in omega arith), get_or_from_slice_get h.results 0 r.0 r.0 r.1)) r.2 in
       last search r.0.0 best cost refl inside static (subst (EndsLeast search r.0.0) end ends) costs
@@ -140,13 +151,13 @@ module _ (order : InsideOrder) (lists : FirstOfLists) (last : LastIsFirst) (mode
   best_heads found listed = head_is_best found (lists.at model cost found static form.search listed)
 
 pub best_is_first : ((model : FznModel) → IsWellFormed model → IsProgramOf model (program_of model)) → InsideOrder → FirstOfLists → LastIsFirst → BestIsFirst
-best_is_first program order lists last model options best cost found form static one_part h costs listed =
-    best_heads order lists last model form (program model form) static options one_part best cost h costs found listed
+best_is_first program order lists last model options best cost found form static h costs listed =
+    best_heads order lists last model form (program model form) static options best cost h costs found listed
 
 -- ---- the answer
 
 module _ (order : InsideOrder) (every : EveryList) (are : SolutionsAreListed) (declared : InDeclarationOrder) (firsts : BestIsFirst) (model : FznModel) (form : IsWellFormed model) (f : IsProgramOf model (program_of model))
-    (options : Options) (answer : Answer) (objective : model.goal ≢ Goal.Satisfy) (best : Assignment) (known : IsBestKnown model options best) (set : IsSettled model options)
+    (options : Options) (answer : Answer) (objective : model.goal ≢ Goal.Satisfy) (best : Assignment) (known : IsBestKnown model options whole_tree best) (set : IsSettled model options whole_tree)
     (solutions : answer.solutions ≡ best ∷ []) (mark : answer.mark ≡ Mark.Complete) where
   no_limit : HasLimit options → ⊥
   no_limit (inl limit) = limit set.node_limit
@@ -174,7 +185,7 @@ module _ (order : InsideOrder) (every : EveryList) (are : SolutionsAreListed) (d
       let list = every model (kernels_of model) cut form.search can.long can.in_range can.fit in
       let listed = lists_solutions_at order model form.search f are declared form.objective cost.0 least.some list.0 list.1 in
       inr (optimal_given model answer model.goal options.all objective
-      (optimal cost.0 list.0 least listed (firsts model options best cost.0 list.0 form set.static set.one_part known.found cost.1 listed)))
+      (optimal cost.0 list.0 least listed (firsts model options best cost.0 list.0 form set.static known.found cost.1 listed)))
 
   pub settled_given : IsGiven model options answer
   settled_given = record {

@@ -3,16 +3,15 @@ use mathlib.Core.Logic.{dite}
 use native.Mathlib.Decide.{ℕ_discrete}
 use Rattle.std.proofs.Common.{◌≡◌, ◌≢◌, ◌⊎◌, inl, inr, ℕ, zero, suc, ℤ, pos, ◌<◌, ◌<ℤ◌, ◌≤ℤ◌, Bool, true, false, cond, List, [], ◌∷◌, length, Option, None, Some, refl, sym, ap, subst, ◌∙◌, arith}
 use Rattle.std.specs.Prelude.{◌||◌, int_lt}
-use Rattle.std.specs.List.{fold}
 use Rattle.std.specs.Option.{option_and_then}
 use Rattle.std.proofs.lemmas.Int.{ints}
-use Rattle.std.proofs.lemmas.List.{get_or-set_same, get_or-set_other, length-set}
-use Rattle.interval.specs.Boxes.{Bounds, low_of, high_of, put_of, IsInside, IsCrossed}
+use Rattle.std.proofs.lemmas.List.{get_or-set_other, length-set}
+use Rattle.interval.specs.Boxes.{Bounds, low_of, high_of, put_of, IsCrossed}
 use Rattle.guarded_tell.specs.declared.kernel.Kernel.{Kernel}
 use Rattle.guarded_tell.specs.Words.{Tell, Side, Low, High}
 use Rattle.guarded_tell.specs.Kernels.{tells}
 use Rattle.tell_laws.specs.Narrowing.{narrows_side, narrows}
-use Rattle.fixpoint_laws.specs.Fixpoints.{IsClosed, Fails}
+use Rattle.fixpoint_laws.specs.Fixpoints.{Fails}
 use Rattle.fixpoint_laws.specs.Rounds.{told_side, told}
 use Rattle.fixpoint_laws.specs.Greatest.{is_crossed_box}
 use Rattle.moved_fixpoint.specs.Sweeps.{with_tell, with_tells, unless_crossed, after_kernel, sweep_forth, sweep_back, sweep_by, is_forth, SweepsLead, SpendsSweeps}

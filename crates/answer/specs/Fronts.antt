@@ -5,17 +5,18 @@ use Rattle.constraint_model.specs.declared.model.FznModel.{FznModel}
 use Rattle.decompose.specs.Kernels.{kernels_of}
 use Rattle.decompose.specs.Program.{start_of}
 use Rattle.subproblems.specs.Paths.{SolutionsOf}
+use Rattle.tree_cover.specs.Covers.{parts_to}
 use Rattle.answer.specs.declared.options.Options.{Options}
 use Rattle.answer.specs.Lists.{Assignment}
 use Rattle.answer.specs.Places.{AreResults}
 
--- these solutions are the first of the list of those of what a number leads to
+-- these solutions are the first of the list of those of what a part leads to
 pub record IsFrontOfPart (model : FznModel) (path : Option Bounds) (front : List Assignment) : Type 0 where
   pub rest : List Assignment
   pub listed : SolutionsOf model (kernels_of model) path (front ++ rest)
 
--- the solutions are a front of each part's list, one behind the other in the order of the numbers
+-- the solutions are a front of the list of each part to the depth that is asked for, one behind the other in the order of the parts
 pub record ComeInFronts (model : FznModel) (options : Options) (solutions : List Assignment) : Type 0 where
   pub fronts : List (List Assignment)
-  pub are : AreResults model options.depth (start_of model) (λ number path front. IsFrontOfPart model path front) fronts
+  pub are : AreResults model (parts_to options.depth) (start_of model) (λ place path front. IsFrontOfPart model path front) fronts
   pub joined : solutions ≡ flat_map (λ front. front) fronts

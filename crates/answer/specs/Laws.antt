@@ -19,7 +19,8 @@ abbrev pub OneFinished : Type 0
 OneFinished = (model : FznModel) (all : Bool) (answer other : Answer) → IsSearchOf model →
     IsFinished model all answer → IsFinished model all other → answer ≡ other
 
--- two options ask alike: they may differ in who searches, workers, lanes and how the workers get their parts
+-- two options ask alike: they may differ in who searches, workers, lanes and how the workers get their parts, and in the most parts
+-- that are made where no limit is set
 pub record AskAlike (o p : Options) : Type 0 where
   pub all : o.all ≡ p.all
   pub depth : o.depth ≡ p.depth

@@ -7,6 +7,7 @@ pub mod Results
 pub mod Unfinished
 pub mod Unspent
 pub mod Answers
+pub mod Parts
 pub mod Given
 pub mod Plans
 pub mod Owned
@@ -15,3 +16,4 @@ pub mod Jobs
 pub mod Fronts
 pub mod Laws
 pub mod Settled
+pub mod Joins

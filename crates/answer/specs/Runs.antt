@@ -1,4 +1,5 @@
--- What is known of the runs that workers have made so far: with what their seats have seen and posted.
+-- What is known of the runs that workers have made so far: with what their seats have seen and posted. The number of a run is
+-- the place of its part in the list of parts.
 use Rattle.std.specs.Prelude.{◌≡◌, ◌≢◌, ℕ, ◌<◌, ℤ, List, [], map, take, Option, Some, None, All, Any, Contains}
 use Rattle.interval.specs.Boxes.{Bounds}
 use Rattle.constraint_model.specs.declared.model.Goal.{Goal}
@@ -7,23 +8,23 @@ use Rattle.constraint_model.specs.Relations.{cost_of, IsSolution}
 use Rattle.decompose.specs.Kernels.{kernels_of}
 use Rattle.branching.specs.Tree.{SolutionsIn}
 use Rattle.best_bound.specs.Lists.{Among}
-use Rattle.subproblems.specs.Paths.{LeadsTo}
 use Rattle.search.specs.declared.ends.FirstEnd.{FirstEnd}
 use Rattle.search.specs.declared.ends.AllEnd.{AllEnd}
 use Rattle.search.specs.declared.ends.LeastEnd.{LeastEnd}
 use Rattle.search.specs.Ends.{EndsSpent, IsFirstDone}
 use Rattle.search.specs.LeastEnds.{CostAtLeast, OnDone}
+use Rattle.tree_cover.specs.declared.part.Part.{Part}
 use Rattle.answer.specs.declared.options.Options.{Options}
 use Rattle.answer.specs.Lists.{Assignment}
-use Rattle.answer.specs.Places.{StandsAt, HasResult}
+use Rattle.answer.specs.Places.{StandsAt, PartLeadsTo, HasResult}
 use Rattle.answer.specs.Results.{first_of, IsAllResult, LeastResult, IsLeastResult, recorded_in, ComesInTurn, least_collected, collected_in, IsLeastSpent, CostsAtMost, AreLeastResults}
 
 -- ---- for the first solution
 
--- what the number leads to from a box has a solution: its list isn't empty
-pub record HasSolution (model : FznModel) (depth : ℕ) (b : Bounds) (number : ℕ) : Type 0 where
+-- what the part with this number leads to from a box has a solution: its list isn't empty
+pub record HasSolution (model : FznModel) (parts : List Part) (b : Bounds) (number : ℕ) : Type 0 where
   pub sub : Bounds
-  pub leads : LeadsTo model (kernels_of model) depth b number (Some sub)
+  pub leads : PartLeadsTo model (kernels_of model) parts b number (Some sub)
   pub solutions : List Assignment
   pub listed : SolutionsIn model (kernels_of model) sub solutions
   pub some : solutions ≢ []
@@ -38,18 +39,18 @@ IsFirstRun model options seen number (Some sub) (FirstEnd.Done answer) = IsFirst
 IsFirstRun model options seen number (Some sub) (FirstEnd.Spent nodes why) = EndsSpent (first_of model options sub) why nodes []
 
 -- each number was run, and those that were posted have a solution
-pub record AreFirstRuns (model : FznModel) (options : Options) (b : Bounds) (seen posted : List ℕ) (runs : List (ℕ × FirstEnd)) : Type 0 where
-  pub each : (number : ℕ) (end : FirstEnd) → Contains runs (number, end) → HasResult model options.depth b (IsFirstRun model options seen) number end
+pub record AreFirstRuns (model : FznModel) (options : Options) (parts : List Part) (b : Bounds) (seen posted : List ℕ) (runs : List (ℕ × FirstEnd)) : Type 0 where
+  pub each : (number : ℕ) (end : FirstEnd) → Contains runs (number, end) → HasResult model parts b (IsFirstRun model options seen) number end
   pub solved : (number : ℕ) → Among posted number → (a : Assignment) × Contains runs (number, FirstEnd.Done (Some a))
 
 -- ---- for all solutions
 
-pub record AreAllRuns (model : FznModel) (options : Options) (b : Bounds) (runs : List (ℕ × AllEnd)) : Type 0 where
-  pub each : (number : ℕ) (end : AllEnd) → Contains runs (number, end) → HasResult model options.depth b (IsAllResult model options) number end
+pub record AreAllRuns (model : FznModel) (options : Options) (parts : List Part) (b : Bounds) (runs : List (ℕ × AllEnd)) : Type 0 where
+  pub each : (number : ℕ) (end : AllEnd) → Contains runs (number, end) → HasResult model parts b (IsAllResult model options) number end
 
 -- ---- for the least cost
 
--- each solution in what a number leads to costs at least one of these costs, if the search is at its end
+-- each solution in what a part leads to costs at least one of these costs, if the search is at its end
 abbrev pub IsCovered : FznModel → List ℤ → Option Bounds → LeastEnd → Type 0
 IsCovered model seen None end = Unit {0}
 IsCovered model seen (Some sub) end = OnDone end (CostAtLeast model sub seen)
@@ -77,32 +78,32 @@ pub record IsReachedBy (goal : Goal) (results : List (ℕ × LeastResult)) (cost
   pub reached : Any (CostsAtMost goal cost) (least_collected result.1)
 
 -- each run's search began with the least cost that those before it recorded
-abbrev pub AreRunsInTurn : FznModel → Options → Bounds → List (ℕ × LeastResult) → Type 0
-AreRunsInTurn model options b results = (place : ℕ) (run : ℕ × LeastResult) → StandsAt results place run →
-    ComesInTurn model options b (map (λ earlier. earlier.1) (take place results)) run.0 run.1
+abbrev pub AreRunsInTurn : FznModel → Options → List Part → Bounds → List (ℕ × LeastResult) → Type 0
+AreRunsInTurn model options parts b results = (place : ℕ) (run : ℕ × LeastResult) → StandsAt results place run →
+    ComesInTurn model options parts b (map (λ earlier. earlier.1) (take place results)) run.0 run.1
 
 -- each number was run; of each cost that was posted a run recorded a solution, and gives one that costs so much at most; the
 -- cost of each solution that was recorded was posted; and one worker made the runs in turn
-pub record AreLeastRuns (model : FznModel) (options : Options) (b : Bounds) (seen posted : List ℤ) (runs : List (ℕ × LeastEnd)) : Type 0 where
+pub record AreLeastRuns (model : FznModel) (options : Options) (parts : List Part) (b : Bounds) (seen posted : List ℤ) (runs : List (ℕ × LeastEnd)) : Type 0 where
   pub results : List (ℕ × LeastResult)
   pub of_runs : map run_of results ≡ runs
-  pub each : (number : ℕ) (result : LeastResult) → Contains results (number, result) → HasResult model options.depth b (IsLeastRun model options seen) number result
+  pub each : (number : ℕ) (result : LeastResult) → Contains results (number, result) → HasResult model parts b (IsLeastRun model options seen) number result
   pub recorded : (cost : ℤ) → Among posted cost → IsRecordedBy model.goal results cost
   pub reached : (cost : ℤ) → Among posted cost → IsReachedBy model.goal results cost
   pub posts : (a : Assignment) (cost : ℤ) → Contains (recorded_in (map (λ run. run.1) results)) a → cost_of model.goal a ≡ Some cost → Among posted cost
-  pub in_turn : options.workers ≡ 1 → AreRunsInTurn model options b results
+  pub in_turn : options.workers ≡ 1 → AreRunsInTurn model options parts b results
 
 -- of each solution's cost there is one among these that costs so much at most
 abbrev pub ReachAll : FznModel → List Assignment → Type 0
 ReachAll model collected = (a : Assignment) (cost : ℤ) → IsSolution model a → cost_of model.goal a ≡ Some cost → Any (CostsAtMost model.goal cost) collected
 
 -- what is known of the results for the least cost: they are such, and where no search was stopped they reach all costs
-pub record AreWholeResults (model : FznModel) (options : Options) (results : List LeastResult) : Type 0 where
-  pub are : AreLeastResults model options results
+pub record AreWholeResults (model : FznModel) (options : Options) (parts : List Part) (results : List LeastResult) : Type 0 where
+  pub are : AreLeastResults model options parts results
   pub reach : All (λ result. IsLeastSpent result.1 → ⊥) results → ReachAll model (collected_in results)
 
 -- and so it is of their ends
-pub record AreWholeEnds (model : FznModel) (options : Options) (ends : List LeastEnd) : Type 0 where
+pub record AreWholeEnds (model : FznModel) (options : Options) (parts : List Part) (ends : List LeastEnd) : Type 0 where
   pub results : List LeastResult
   pub of_results : map (λ result. result.1) results ≡ ends
-  pub whole : AreWholeResults model options results
+  pub whole : AreWholeResults model options parts results

@@ -13,9 +13,11 @@ use Rattle.search.specs.declared.ends.LeastEnd.{LeastEnd}
 use Rattle.search.specs.Ends.{head_of}
 use Rattle.search.specs.LeastEnds.{EndsLeast}
 use Rattle.search.specs.Laws.{IsInsideStart}
+use Rattle.tree_cover.specs.declared.part.Part.{Part}
 use Rattle.answer.specs.declared.options.Options.{Options}
 use Rattle.answer.specs.Lists.{Assignment, ListsSolutions, IsSolutionAt, ListsSolutionsAt}
 use Rattle.answer.specs.Unfinished.{FindsBest}
+use Rattle.answer.specs.Parts.{whole_tree}
 
 -- in a static order the list of all solutions, and that of those that cost so much, begin with the one that precedes all others
 pub record FirstOfLists : Type 0 where
@@ -35,14 +37,14 @@ abbrev pub LastIsFirst : Type 0
 LastIsFirst = (s : Search) (found : List Assignment) (a : Assignment) (cost : ℤ) → s.kind ≡ Kind.Least → IsInsideStart s → IsStaticSearch s.model →
     EndsLeast s found (LeastEnd.Done (Some a)) → cost_of s.model.goal a ≡ Some cost → IsFirstIn s.model cost s.sub a
 
--- so the best one is the first of all solutions that cost so much, where the tree wasn't cut into parts
+-- so the best one is the first of all solutions that cost so much, where the one part was the whole tree
 abbrev pub BestIsFirst : Type 0
 BestIsFirst = (model : FznModel) (options : Options) (best : Assignment) (cost : ℤ) (found : List Assignment) → IsWellFormed model → IsStaticSearch model →
-    options.depth ≡ 0 → FindsBest model options best → cost_of model.goal best ≡ Some cost → ListsSolutionsAt model cost found → head_of found ≡ Some best
+    FindsBest model options whole_tree best → cost_of model.goal best ≡ Some cost → ListsSolutionsAt model cost found → head_of found ≡ Some best
 
--- the order is static, the tree isn't cut into parts, and no limit is set
-pub record IsSettled (model : FznModel) (options : Options) : Type 0 where
+-- the order is static, the one part is the whole tree, and no limit is set
+pub record IsSettled (model : FznModel) (options : Options) (parts : List Part) : Type 0 where
   pub static : IsStaticSearch model
-  pub one_part : options.depth ≡ 0
+  pub one_part : parts ≡ whole_tree
   pub node_limit : options.node_limit ≡ 0
   pub round_limit : options.round_limit ≡ 0

@@ -1,4 +1,4 @@
-//! The search of all subproblems for all solutions.
+//! The search of all parts for all solutions.
 
 ghost use Rattle.std.specs.Prelude.{◌<◌, [], IfOk};
 ghost use Rattle.crew.specs.AtWork.{IsRun};
@@ -16,7 +16,6 @@ use list_of::ListOf;
 use search::{AllEnd, Start, run_all_from};
 use std::alloc::Global;
 use std::thread::Threads;
-use subproblems::numbers_to;
 
 /// The runs share nothing.
 #[derive(Drop)]
@@ -50,7 +49,7 @@ impl<L> Job<(), Own, AllEnd> for AllJob<'_, L> {
     fn join_back(&self, _seat: &mut (), _other: ()) {}
 }
 
-/// Searches the subproblem of a number for all its solutions.
+/// Searches what the part with this number leads to for all its solutions.
 fn run_number<R: Threads + Sync, L: Gate + Sync>(
     rt: &R,
     alloc: Global,
@@ -77,7 +76,7 @@ fn run_number<R: Threads + Sync, L: Gate + Sync>(
     }
 }
 
-/// Runs all numbers, each once.
+/// Runs all parts, each once.
 fn run_each<R: Threads + Sync, C: Gate + Sync, L: Gate + Sync>(
     rt: &R,
     alloc: Global,
@@ -97,14 +96,14 @@ fn run_each<R: Threads + Sync, C: Gate + Sync, L: Gate + Sync>(
     let work = Work {
         job: &*job,
         run: &run,
-        count: numbers_to(job.plan.options.depth),
+        count: job.plan.count(),
     };
     let mut seat = ();
     let ends = run_numbers(rt, alloc, crew, &work, gate, &mut seat)?;
     Ok(ends)
 }
 
-/// The ends of the searches of all numbers for all solutions.
+/// The ends of the searches of all parts for all solutions.
 pub(crate) fn all_ends<R: Threads + Sync, C: Gate + Sync, L: Gate + Sync>(
     rt: &R,
     alloc: Global,
@@ -114,7 +113,7 @@ pub(crate) fn all_ends<R: Threads + Sync, C: Gate + Sync, L: Gate + Sync>(
 ) -> Result<ListOf<AllEnd>, NoMemory>
     requires plan { IsPlan plan.now }
     requires crew { IsCrewFor plan.now.options crew.old }
-    ensures ends { IfOk result (AreResults (model_of plan.now) plan.now.options.depth plan.now.start.now (IsAllResult (model_of plan.now) plan.now.options)) }
+    ensures ends { IfOk result (AreResults (model_of plan.now) plan.now.parts.now plan.now.start.now (IsAllResult (model_of plan.now) plan.now.options)) }
     ensures crew { IsCrewFor plan.now.options crew.new }
 {
     let job = AllJob { plan: &*plan };

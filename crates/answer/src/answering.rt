@@ -8,8 +8,9 @@ ghost use Rattle.constraint_model.specs.WellFormed.{IsWellFormed};
 ghost use Rattle.answer.specs.Plans.{IsCrewFor};
 ghost use Rattle.answer.specs.Results.{listed};
 ghost use Rattle.answer.specs.Finished.{IsFinished};
-ghost use Rattle.answer.specs.Answers.{HasLimit, IsAnswer};
-ghost use Rattle.answer.specs.Given.{mark_for, IsSetUp, IsBestKnown, IsGiven};
+ghost use Rattle.answer.specs.Answers.{IsAnswer};
+ghost use Rattle.answer.specs.Parts.{whole_tree};
+ghost use Rattle.answer.specs.Given.{mark_for, IsSetUp, IsBestKnown, IsBestOfParts, IsGiven};
 ghost use Rattle.answer.specs.Settled.{IsSettled};
 
 use crate::all_job::all_ends;
@@ -19,6 +20,7 @@ use crate::laws::law_best_is_first;
 use crate::least_job::least_ends;
 use crate::objective::{best_of, cut_to_value};
 use crate::options::Options;
+use crate::parts::parts_of;
 use crate::plan::Plan;
 use crate::settled::is_settled;
 use branching::{law_every_list, law_one_list};
@@ -35,6 +37,7 @@ use solution_lists::{law_in_declaration_order, law_solutions_listed};
 use std::alloc::Global;
 use std::thread::Threads;
 use subproblems::{law_cuts, law_paths};
+use tree_parts::law_whole_of_parts;
 
 /// The mark behind some solutions: `whole` is that of a search that no limit stopped.
 fn mark_of(is_spent: bool, given: &ListOf<ListOf<i64>>, whole: Mark) -> Mark
@@ -68,12 +71,15 @@ fn first_answer<R: Threads + Sync, C: Gate + Sync, L: Gate + Sync>(
     law_every_list();
     law_paths();
     law_cuts();
+    law_whole_of_parts();
     law_solutions_listed();
     law_in_declaration_order();
     law_records_solutions();
+    let parts = parts_of(alloc, run, options, &run.program.start)?;
     let plan = Plan {
         run: &*run,
         options,
+        parts: parts.as_slice(),
         start: &run.program.start,
     };
     let ends = first_ends(rt, alloc, crew, &plan, gate)?;
@@ -103,12 +109,15 @@ fn all_answer<R: Threads + Sync, C: Gate + Sync, L: Gate + Sync>(
     law_every_list();
     law_paths();
     law_cuts();
+    law_whole_of_parts();
     law_solutions_listed();
     law_in_declaration_order();
     law_records_solutions();
+    let parts = parts_of(alloc, run, options, &run.program.start)?;
     let plan = Plan {
         run: &*run,
         options,
+        parts: parts.as_slice(),
         start: &run.program.start,
     };
     let ends = all_ends(rt, alloc, crew, &plan, gate)?;
@@ -140,7 +149,7 @@ fn second_mark(open_part: bool) -> Mark
     }
 }
 
-/// The first solution that costs as much as the best one, where none costs less.
+/// The first solution that costs as much as the best one, where none costs less: it is searched for in the box cut to that cost.
 fn optimum<R: Threads + Sync, C: Gate + Sync, L: Gate + Sync>(
     rt: &R,
     alloc: Global,
@@ -153,7 +162,7 @@ fn optimum<R: Threads + Sync, C: Gate + Sync, L: Gate + Sync>(
     requires set_up { IsSetUp run.now options }
     requires crew { IsCrewFor options crew.old }
     requires objective { run.now.model.now.goal ≢ Satisfy }
-    requires best { IsBestKnown run.now.model.now options best }
+    requires best { IsBestOfParts run.now.model.now options best }
     ensures { IfOk result (IsGiven run.now.model.now options) }
 {
     law_inside_order();
@@ -161,14 +170,17 @@ fn optimum<R: Threads + Sync, C: Gate + Sync, L: Gate + Sync>(
     law_every_list();
     law_paths();
     law_cuts();
+    law_whole_of_parts();
     law_solutions_listed();
     law_in_declaration_order();
     law_records_solutions();
     let mut cut = run.program.start.copy(alloc)?;
     cut_to_value(run.model.goal, best.as_slice(), &mut cut);
+    let parts = parts_of(alloc, run, options, &cut)?;
     let plan = Plan {
         run: &*run,
         options,
+        parts: parts.as_slice(),
         start: &cut,
     };
     let ends = first_ends(rt, alloc, crew, &plan, gate)?;
@@ -187,8 +199,8 @@ fn settled_answer<L>(
 ) -> Result<Answer, NoMemory>
     requires set_up { IsSetUp run.now options }
     requires objective { run.now.model.now.goal ≢ Satisfy }
-    requires best { IsBestKnown run.now.model.now options best }
-    requires settled { IsSettled run.now.model.now options }
+    requires best { IsBestKnown run.now.model.now options whole_tree best }
+    requires settled { IsSettled run.now.model.now options whole_tree }
     ensures { IfOk result (IsGiven run.now.model.now options) }
 {
     law_inside_order();
@@ -201,29 +213,6 @@ fn settled_answer<L>(
         solutions,
         mark: Mark::Complete,
     })
-}
-
-/// The first of the solutions that cost as much as the best one: the best one itself where that is known, else it is
-/// searched for.
-fn first_least<R: Threads + Sync, C: Gate + Sync, L: Gate + Sync>(
-    rt: &R,
-    alloc: Global,
-    run: &Run<'_, L>,
-    options: Options,
-    crew: &mut Workers,
-    gate: &C,
-    best: ListOf<i64>,
-) -> Result<Answer, NoMemory>
-    requires set_up { IsSetUp run.now options }
-    requires crew { IsCrewFor options crew.old }
-    requires objective { run.now.model.now.goal ≢ Satisfy }
-    requires best { IsBestKnown run.now.model.now options best }
-    ensures { IfOk result (IsGiven run.now.model.now options) }
-{
-    if is_settled(run.model, options) {
-        return settled_answer(alloc, run, options, best);
-    }
-    optimum(rt, alloc, run, options, crew, gate, best)
 }
 
 /// A solution of least cost.
@@ -245,12 +234,16 @@ fn least_answer<R: Threads + Sync, C: Gate + Sync, L: Gate + Sync>(
     law_every_list();
     law_paths();
     law_cuts();
+    law_whole_of_parts();
     law_solutions_listed();
     law_in_declaration_order();
     law_records_solutions();
+    let parts = parts_of(alloc, run, options, &run.program.start)?;
+    let slice = parts.as_slice();
     let plan = Plan {
         run: &*run,
         options,
+        parts: slice,
         start: &run.program.start,
     };
     let ends = least_ends(rt, alloc, crew, &plan, gate)?;
@@ -266,7 +259,12 @@ fn least_answer<R: Threads + Sync, C: Gate + Sync, L: Gate + Sync>(
             solutions: ListOf::new(alloc),
             mark: Mark::Unsatisfiable,
         }),
-        Some(values) => first_least(rt, alloc, run, options, crew, gate, values),
+        Some(values) => {
+            if is_settled(run.model, options, slice) {
+                return settled_answer(alloc, run, options, values);
+            }
+            optimum(rt, alloc, run, options, crew, gate, values)
+        }
     }
 }
 
@@ -304,19 +302,6 @@ pub struct Gates<'a, C, L> {
     pub lanes: &'a L,
 }
 
-/// The depth to which the search tree is cut. Where one worker searches without limits, parts would only cost time; under a
-/// limit each part is stopped by itself.
-fn depth_for(options: &Options) -> u32
-    ensures limited { HasLimit options.now → result ≡ options.now.depth }
-    ensures most { result ≤ options.now.depth }
-{
-    if options.workers == 1 && options.node_limit == 0 && options.round_limit == 0 {
-        0
-    } else {
-        options.depth
-    }
-}
-
 /// The answer of a model: its first solution in the order of the search tree, all solutions, or the first of those of least
 /// cost; where a limit stopped a part of the search, what is known. Errors: memory.
 pub fn answer<R: Threads + Sync, C: Gate + Sync, L: Gate + Sync>(
@@ -332,6 +317,8 @@ pub fn answer<R: Threads + Sync, C: Gate + Sync, L: Gate + Sync>(
     requires some_lanes { 1 ≤ options.now.lanes }
     requires most_lanes { options.now.lanes ≤ 64 }
     requires depth { options.now.depth ≤ 16 }
+    requires some_parts { 1 ≤ options.now.most_parts }
+    requires few_parts { options.now.most_parts ≤ 65536 }
     ensures answer { IfOk result (IsAnswer model.now options.now) }
     ensures whole { options.now.node_limit ≡ 0 → options.now.round_limit ≡ 0 → IfOk result (IsFinished model.now options.now.all) }
     ensures solve { IfOk result (λ answer. All (IsSolution model.now) answer.solutions) }
@@ -348,8 +335,6 @@ pub fn answer<R: Threads + Sync, C: Gate + Sync, L: Gate + Sync>(
         gate: &*gates.lanes,
     };
     let mut crew = Workers::new(alloc, options.workers, options.steal)?;
-    let mut parted = *options;
-    parted.depth = depth_for(options);
-    let answer = answer_of(rt, alloc, &run, parted, &mut crew, gates.crew)?;
+    let answer = answer_of(rt, alloc, &run, *options, &mut crew, gates.crew)?;
     Ok(answer)
 }

@@ -1,4 +1,4 @@
-//! What the runs of all numbers collected.
+//! What the runs of all parts collected.
 
 ghost use Rattle.std.specs.Prelude.{◌≡◌, ◌++◌, ◌↔◌, List, [], take, flat_map, All, Any, IfOk, OnOk};
 ghost use Rattle.std.specs.Bool.{OnTrue, OnFalse};
@@ -59,7 +59,7 @@ pub(crate) fn is_any_spent<E: Ended>(ends: &[E]) -> bool
     false
 }
 
-/// Whether a limit stopped the search of a number.
+/// Whether a limit stopped the search of a part.
 fn is_stopped(end: &FirstEnd) -> bool
     ensures stopped { OnTrue result (IsFirstSpent end.now) }
     ensures ended { OnFalse result (IsFirstSpent end.now → ⊥) }
@@ -81,8 +81,8 @@ fn is_idle(end: &FirstEnd) -> bool
     }
 }
 
-/// Whether a limit stopped a number's search, and no lesser number has a solution. What was stopped behind a number that has
-/// one doesn't count: it is the first solution all the same.
+/// Whether a limit stopped a part's search, and no part before it has a solution. What was stopped behind a part that has one
+/// doesn't count: it is the first solution all the same.
 pub(crate) fn is_open(ends: &[FirstEnd]) -> bool
     ensures open_part { OnTrue result (IsOpen ends.now) }
     ensures none_open { OnFalse result (IsOpen ends.now → ⊥) }
@@ -95,7 +95,7 @@ pub(crate) fn is_open(ends: &[FirstEnd]) -> bool
     false
 }
 
-/// The solution of the least number that has one.
+/// The solution of the first part that has one.
 pub(crate) fn first_of(ends: ListOf<FirstEnd>) -> Option<ListOf<i64>>
     ensures { listed result ≡ take 1 (flat_map first_collected ends) }
 {
@@ -127,7 +127,7 @@ fn put(given: &mut ListOf<ListOf<i64>>, found: ListOf<ListOf<i64>>) -> Result<()
     Ok(())
 }
 
-/// All solutions, in the order of the numbers.
+/// All solutions, in the order of the parts.
 pub(crate) fn all_of(alloc: Global, ends: ListOf<AllEnd>) -> Result<ListOf<ListOf<i64>>, AllocError>
     ensures { IfOk result (λ given. given ≡ flat_map all_collected ends) }
 {

@@ -1,4 +1,4 @@
-//! The search of all subproblems for the first solution.
+//! The search of all parts for the first solution.
 
 ghost use Rattle.std.specs.Prelude.{◌≡◌, ◌<◌, ℕ, [], IfOk};
 ghost use Rattle.crew.specs.AtWork.{IsRun};
@@ -20,9 +20,9 @@ use search::{FirstEnd, Numbered, Start, lesser_seen, run_first_from};
 use std::alloc::Global;
 use std::marker::{Brand, PhantomData};
 use std::thread::Threads;
-use subproblems::{law_paths, numbers_to};
+use subproblems::law_paths;
 
-/// Which numbers lead to a solution, for contracts alone.
+/// The numbers of the parts that lead to a solution, for contracts alone.
 pub(crate) trait OfParts {
     ghost use Rattle.std.specs.Prelude.{ℕ};
 
@@ -42,7 +42,7 @@ impl<M: OfParts> Numbers for NumbersOf<M> {
     ghost has_solution = { M.has_solution };
 }
 
-/// The runs share the least number of a subproblem that has a solution.
+/// The runs share the least number of a part that has a solution.
 #[derive(Drop)]
 pub(crate) struct FirstJob<'a, L, M: OfParts> {
     /// What is searched.
@@ -80,7 +80,7 @@ impl<L, M: OfParts> Job<FoundSeat, Own, FirstEnd> for FirstJob<'_, L, M> {
     }
 }
 
-/// Goes to the subproblem of a number, and searches it for its first solution.
+/// Goes to what the part with this number leads to, and searches it for its first solution.
 fn run_there<R: Threads + Sync, L: Gate + Sync, M: OfParts>(
     rt: &R,
     alloc: Global,
@@ -121,7 +121,8 @@ fn run_there<R: Threads + Sync, L: Gate + Sync, M: OfParts>(
     }
 }
 
-/// Searches the subproblem of a number for its first solution, unless a lesser number has one: then it isn't gone to.
+/// Searches what the part with this number leads to for its first solution, unless a lesser number has one: then it isn't gone
+/// to.
 fn run_number<R: Threads + Sync, L: Gate + Sync, M: OfParts>(
     rt: &R,
     alloc: Global,
@@ -147,7 +148,7 @@ fn run_number<R: Threads + Sync, L: Gate + Sync, M: OfParts>(
     run_there(rt, alloc, job, own, seat, number)
 }
 
-/// Runs all numbers, each once.
+/// Runs all parts, each once.
 fn run_all<R: Threads + Sync, C: Gate + Sync, L: Gate + Sync, M: OfParts + Sync>(
     rt: &R,
     alloc: Global,
@@ -177,7 +178,7 @@ fn run_all<R: Threads + Sync, C: Gate + Sync, L: Gate + Sync, M: OfParts + Sync>
     let work = Work {
         job: &*job,
         run: &run,
-        count: numbers_to(job.plan.options.depth),
+        count: job.plan.count(),
     };
     let ends = run_numbers(rt, alloc, crew, &work, gate, seat)?;
     Ok(ends)
@@ -195,7 +196,7 @@ fn ends_of<R: Threads + Sync, C: Gate + Sync, L: Gate + Sync, M: OfParts + Sync>
     requires plan { IsPlan plan.now }
     requires numbers { SaysWhichSolve plan.now M.has_solution }
     requires crew { IsCrewFor plan.now.options crew.old }
-    ensures ends { IfOk result (AreFirstResults (model_of plan.now) plan.now.options plan.now.start.now) }
+    ensures ends { IfOk result (AreFirstResults (model_of plan.now) plan.now.options plan.now.parts.now plan.now.start.now) }
     ensures crew { IsCrewFor plan.now.options crew.new }
 {
     let (found, mut seat) = Found::<NumbersOf<M>>::new(alloc)?;
@@ -209,7 +210,7 @@ fn ends_of<R: Threads + Sync, C: Gate + Sync, L: Gate + Sync, M: OfParts + Sync>
     Ok(ends)
 }
 
-/// The ends of the searches of all numbers for the first solution.
+/// The ends of the searches of all parts for the first solution.
 pub(crate) fn first_ends<R: Threads + Sync, C: Gate + Sync, L: Gate + Sync>(
     rt: &R,
     alloc: Global,
@@ -219,7 +220,7 @@ pub(crate) fn first_ends<R: Threads + Sync, C: Gate + Sync, L: Gate + Sync>(
 ) -> Result<ListOf<FirstEnd>, NoMemory>
     requires plan { IsPlan plan.now }
     requires crew { IsCrewFor plan.now.options crew.old }
-    ensures ends { IfOk result (AreFirstResults (model_of plan.now) plan.now.options plan.now.start.now) }
+    ensures ends { IfOk result (AreFirstResults (model_of plan.now) plan.now.options plan.now.parts.now plan.now.start.now) }
     ensures crew { IsCrewFor plan.now.options crew.new }
 {
     ends_of(rt, alloc, crew, plan, gate, PhantomData::<Brand>)

@@ -1,6 +1,7 @@
 //! Laws of answers, as functions that do nothing.
 
 ghost use Rattle.answer.specs.Laws.{OneFinished, OneLimited, GivesOne, AnswersSolve, CollectsFronts, UnfinishedMarks, GivesSmallest};
+ghost use Rattle.answer.specs.Joins.{JoinLaws};
 ghost use Rattle.answer.specs.Settled.{FirstOfLists, LastIsFirst, BestIsFirst};
 
 use branching::{law_every_list, law_one_list};
@@ -11,6 +12,7 @@ use search::{
 };
 use solution_lists::{law_in_declaration_order, law_in_static_order, law_solutions_listed};
 use subproblems::{law_cuts, law_paths};
+use tree_parts::law_whole_of_parts;
 
 /// A model has one finished answer.
 pub fn law_one_finished()
@@ -84,7 +86,7 @@ pub fn law_last_is_first()
     law_records_solutions();
 }
 
-/// So the best one is the first of all that cost so much, where the tree wasn't cut into parts.
+/// So the best one is the first of all that cost so much, where the one part was the whole tree.
 pub fn law_best_is_first()
     ensures { BestIsFirst }
 {
@@ -92,4 +94,16 @@ pub fn law_best_is_first()
     law_inside_order();
     law_first_of_lists();
     law_last_is_first();
+}
+
+/// What parts that cover the search tree give, wherever each was searched to its end, is the answer of the whole.
+pub fn law_parts_joined()
+    ensures { JoinLaws }
+{
+    law_inside_order();
+    law_some_program();
+    law_whole_of_parts();
+    law_every_list();
+    law_solutions_listed();
+    law_in_declaration_order();
 }

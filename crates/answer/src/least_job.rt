@@ -1,17 +1,18 @@
-//! The search of all subproblems for the least cost.
+//! The search of all parts for the least cost.
 
 ghost use Rattle.std.specs.Prelude.{◌≡◌, ◌≢◌, ◌<◌, [], IfOk};
 ghost use Rattle.constraint_model.specs.declared.model.Goal.TheVariants.{Satisfy};
 ghost use Rattle.crew.specs.AtWork.{IsRun};
 ghost use Rattle.crew.specs.Ends.{AreEndsOf};
 ghost use Rattle.decompose.specs.Program.{start_of};
+ghost use Rattle.tree_cover.specs.Covers.{AreCover};
 ghost use Rattle.answer.specs.Plans.{IsPlan, IsCrewFor, model_of};
 ghost use Rattle.answer.specs.Runs.{AreWholeEnds};
 ghost use Rattle.answer.specs.Jobs.{numbers_of, Owns, SaysWhichCost, LeastFits, LeastParts, LeastStands};
 
 use crate::plan::{Own, Plan, subproblem_below};
 use best_bound::{Best, BestSeat, Costs};
-use branching::law_every_list;
+use branching::{law_every_list, law_one_list};
 use crew::{Job, Work, Workers, run_numbers};
 use gate::Gate;
 use interval::{NoMemory, law_inside_order};
@@ -21,8 +22,9 @@ use solution_lists::law_solutions_listed;
 use std::alloc::Global;
 use std::marker::{Brand, PhantomData};
 use std::thread::Threads;
-use subproblems::{law_cuts, law_paths, numbers_to};
+use subproblems::{law_cuts, law_paths};
 use tickets::law_counting;
+use tree_parts::law_whole_of_parts;
 
 /// The costs of a model's solutions, for contracts alone.
 pub(crate) trait OfModel {
@@ -83,7 +85,7 @@ impl<L, M: OfModel> Job<BestSeat, Own, LeastEnd> for LeastJob<'_, L, M> {
     }
 }
 
-/// Searches the subproblem of a number for the least cost. It isn't gone to where the best cost beats a box on the way: its
+/// Searches what the part with this number leads to for the least cost. It isn't gone to where the best cost beats a box on the way: its
 /// search would drop it.
 fn run_number<R: Threads + Sync, L: Gate + Sync, M: OfModel>(
     rt: &R,
@@ -132,7 +134,7 @@ fn run_number<R: Threads + Sync, L: Gate + Sync, M: OfModel>(
     }
 }
 
-/// Runs all numbers, each once.
+/// Runs all parts, each once.
 fn run_all<R: Threads + Sync, C: Gate + Sync, L: Gate + Sync, M: OfModel + Sync>(
     rt: &R,
     alloc: Global,
@@ -162,7 +164,7 @@ fn run_all<R: Threads + Sync, C: Gate + Sync, L: Gate + Sync, M: OfModel + Sync>
     let work = Work {
         job: &*job,
         run: &run,
-        count: numbers_to(job.plan.options.depth),
+        count: job.plan.count(),
     };
     let ends = run_numbers(rt, alloc, crew, &work, gate, seat)?;
     Ok(ends)
@@ -178,17 +180,20 @@ fn ends_of<R: Threads + Sync, C: Gate + Sync, L: Gate + Sync, M: OfModel + Sync>
     _model: PhantomData<M>,
 ) -> Result<ListOf<LeastEnd>, NoMemory>
     requires plan { IsPlan plan.now }
+    requires cover { AreCover plan.now.parts.now }
     requires start { plan.now.start.now ≡ start_of (model_of plan.now) }
     requires objective { (model_of plan.now).goal ≢ Satisfy }
     requires costs { SaysWhichCost plan.now M.is_cost }
     requires crew { IsCrewFor plan.now.options crew.old }
-    ensures ends { IfOk result (AreWholeEnds (model_of plan.now) plan.now.options) }
+    ensures ends { IfOk result (AreWholeEnds (model_of plan.now) plan.now.options plan.now.parts.now) }
     ensures crew { IsCrewFor plan.now.options crew.new }
 {
     law_inside_order();
+    law_one_list();
     law_every_list();
     law_paths();
     law_cuts();
+    law_whole_of_parts();
     law_solutions_listed();
     law_counting();
     let (best, mut seat) = Best::<CostsOf<M>>::new(alloc)?;
@@ -202,7 +207,7 @@ fn ends_of<R: Threads + Sync, C: Gate + Sync, L: Gate + Sync, M: OfModel + Sync>
     Ok(ends)
 }
 
-/// The ends of the searches of all numbers for the least cost.
+/// The ends of the searches of all parts for the least cost.
 pub(crate) fn least_ends<R: Threads + Sync, C: Gate + Sync, L: Gate + Sync>(
     rt: &R,
     alloc: Global,
@@ -211,10 +216,11 @@ pub(crate) fn least_ends<R: Threads + Sync, C: Gate + Sync, L: Gate + Sync>(
     gate: &C,
 ) -> Result<ListOf<LeastEnd>, NoMemory>
     requires plan { IsPlan plan.now }
+    requires cover { AreCover plan.now.parts.now }
     requires start { plan.now.start.now ≡ start_of (model_of plan.now) }
     requires objective { (model_of plan.now).goal ≢ Satisfy }
     requires crew { IsCrewFor plan.now.options crew.old }
-    ensures ends { IfOk result (AreWholeEnds (model_of plan.now) plan.now.options) }
+    ensures ends { IfOk result (AreWholeEnds (model_of plan.now) plan.now.options plan.now.parts.now) }
     ensures crew { IsCrewFor plan.now.options crew.new }
 {
     ends_of(rt, alloc, crew, plan, gate, PhantomData::<Brand>)

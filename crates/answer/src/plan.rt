@@ -1,13 +1,13 @@
 //! What all runs of one job share.
 
-ghost use Rattle.std.specs.Prelude.{◌<◌, ◌^◌, ℕ, List, IfOk, IfSome};
+ghost use Rattle.std.specs.Prelude.{◌≡◌, ◌<◌, ℕ, List, IfOk, IfSome};
 ghost use Rattle.interval.specs.Boxes.{Bounds, IsInside};
 ghost use Rattle.guarded_tell.specs.declared.kernel.Kernel.{Kernel};
 ghost use Rattle.constraint_model.specs.declared.model.FznModel.{FznModel};
-ghost use Rattle.subproblems.specs.Paths.{LeadsTo};
-ghost use Rattle.subproblem_walk.specs.Beaten.{LeadsBelow};
 ghost use Rattle.subproblem_walk.specs.Walks.{IsWalkFrom, StandsUnder, box_of, IsMadeFrom};
+ghost use Rattle.answer.specs.Places.{PartLeadsTo, PartLeadsBelow};
 ghost use Rattle.answer.specs.Owned.{IsOwnFrom};
+ghost use Rattle.answer.specs.Jobs.{numbers_of};
 ghost use Rattle.answer.specs.Plans.{IsPlan, model_of, kernels_in};
 
 use crate::options::Options;
@@ -15,6 +15,7 @@ use interval::{BoxOf, NoMemory, law_inside_order};
 use search::{Kept, Run};
 use std::alloc::Global;
 use subproblem_walk::{Subproblem, Tree, Walk};
+use tree_cover::Part;
 
 /// What is searched, and from where.
 #[derive(Drop)]
@@ -23,14 +24,26 @@ pub(crate) struct Plan<'a, L> {
     pub(crate) run: &'a Run<'a, L>,
     /// How the model is solved.
     pub(crate) options: Options,
+    /// The parts of the tree below the box, each with its place as its number.
+    pub(crate) parts: &'a [Part],
     /// The box whose subproblems are searched.
     pub(crate) start: &'a BoxOf,
+}
+
+impl<L> Plan<'_, L> {
+    /// How many numbers there are, one for each part.
+    pub(crate) fn count(&self) -> u32
+        requires { IsPlan self.now }
+        ensures { result ≡ numbers_of self.now }
+    {
+        self.parts.len() as u32
+    }
 }
 
 /// What a worker keeps over its numbers, which only saves time.
 #[derive(Drop)]
 pub(crate) struct Own {
-    /// The way to the last number.
+    /// The way to the last part.
     pub(crate) walk: Walk,
     /// What the last run searched with.
     pub(crate) kept: Kept,
@@ -47,7 +60,7 @@ impl Own {
     }
 }
 
-/// What the number leads to.
+/// What the part with this number leads to.
 pub(crate) fn subproblem<L>(
     alloc: Global,
     plan: &Plan<'_, L>,
@@ -55,9 +68,9 @@ pub(crate) fn subproblem<L>(
     number: u32,
 ) -> Result<Option<Subproblem>, NoMemory>
     requires plan { IsPlan plan.now }
-    requires number { number < 2 ^ plan.now.options.depth }
+    requires number { number < numbers_of plan.now }
     requires walk { IsWalkFrom (model_of plan.now) (kernels_in plan.now) plan.now.start.now walk.old }
-    ensures path { IfOk result (λ found. LeadsTo (model_of plan.now) (kernels_in plan.now) plan.now.options.depth plan.now.start.now number (box_of found)) }
+    ensures path { IfOk result (λ found. PartLeadsTo (model_of plan.now) (kernels_in plan.now) plan.now.parts.now plan.now.start.now number (box_of found)) }
     ensures inside { IfOk result (λ found. IfSome (box_of found) (λ b. IsInside b plan.now.run.now.program.now.start)) }
     ensures made { IfOk result (IsMadeFrom (kernels_in plan.now)) }
     ensures walk { IsWalkFrom (model_of plan.now) (kernels_in plan.now) plan.now.start.now walk.new }
@@ -67,7 +80,7 @@ pub(crate) fn subproblem<L>(
     Ok(found)
 }
 
-/// What the number leads to, or nothing too where the best cost, if there is one, beats that.
+/// What the part with this number leads to, or nothing too where the best cost, if there is one, beats that.
 pub(crate) fn subproblem_below<L>(
     alloc: Global,
     plan: &Plan<'_, L>,
@@ -76,23 +89,24 @@ pub(crate) fn subproblem_below<L>(
     best: Option<i64>,
 ) -> Result<Option<Subproblem>, NoMemory>
     requires plan { IsPlan plan.now }
-    requires number { number < 2 ^ plan.now.options.depth }
+    requires number { number < numbers_of plan.now }
     requires walk { IsWalkFrom (model_of plan.now) (kernels_in plan.now) plan.now.start.now walk.old }
     ensures path { IfOk result (λ found.
-        LeadsBelow (model_of plan.now) (kernels_in plan.now) plan.now.options.depth plan.now.start.now number best (box_of found)) }
+        PartLeadsBelow (model_of plan.now) (kernels_in plan.now) plan.now.parts.now plan.now.start.now number best (box_of found)) }
     ensures inside { IfOk result (λ found. IfSome (box_of found) (λ b. IsInside b plan.now.run.now.program.now.start)) }
     ensures made { IfOk result (IsMadeFrom (kernels_in plan.now)) }
     ensures walk { IsWalkFrom (model_of plan.now) (kernels_in plan.now) plan.now.start.now walk.new }
     ensures under { IfOk result (StandsUnder (model_of plan.now) (kernels_in plan.now) plan.now.start.now walk.new) }
 {
     law_inside_order();
+    let part = plan.parts[number as usize];
     let tree = Tree {
         model: plan.run.model,
         program: plan.run.program,
         masks: plan.run.masks,
         start: plan.start,
-        depth: plan.options.depth,
+        depth: part.depth,
     };
-    let found = walk.path_box_below(alloc, &tree, number, best)?;
+    let found = walk.path_box_below(alloc, &tree, part.number, best)?;
     Ok(found)
 }

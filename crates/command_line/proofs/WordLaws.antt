@@ -25,7 +25,7 @@ use Rattle.command_line.specs.declared.words.Config.{Config}
 use Rattle.command_line.specs.declared.words.Options.{Options}
 use Rattle.command_line.specs.declared.words.WordsError.{WordsError}
 use Rattle.command_line.specs.declared.words.WordsError.TheVariants.{NotTaken}
-use Rattle.command_line.specs.CommandLine.{InputOf, command, config_in, config_meant, file, input_of, is_given, made, number_in, number_of}
+use Rattle.command_line.specs.CommandLine.{InputOf, command, config_in, config_meant, depth_of, file, input_of, is_given, made, number_in, number_of}
 
 not_true : (b : Bool) → (b ≡ true → ⊥) → b ≡ false
 not_true true h = absurd (h refl)
@@ -93,6 +93,17 @@ pub input_by_make : (f : Found) (r : Option (Bor (List ℕ))) (b : Bool) → opt
 input_by_make f r b text is =
     ap (λ o. if is_some o then option_map made (number_of (codes "make") 2 2000 (rows_of f)) else option_map file (first_of (codes "FILE") (rows_of f))) (sym (first_value-rows f (codes "make")) ∙ sym text)
     ∙ ap (λ t. if t then option_map made (number_of (codes "make") 2 2000 (rows_of f)) else option_map file (first_of (codes "FILE") (rows_of f))) (some_of r ∙ is)
+  where
+    some_of : (r : Option (Bor (List ℕ))) → is_some (option_map (λ s. s.now) r) ≡ is_some r
+    some_of None = refl
+    some_of (Some s) = refl
+
+-- whether a depth is given
+pub depth_by_given : (f : Found) (r : Option (Bor (List ℕ))) (b : Bool) → option_map (λ s. s.now) r ≡ first_value f (codes "depth") → is_some r ≡ b
+    → depth_of (rows_of f) ≡ (if b then option_map (λ (d : ℕ). Some d) (number_of (codes "depth") 0 16 (rows_of f)) else Some None)
+depth_by_given f r b text is =
+    ap (λ o. if is_some o then option_map (λ (d : ℕ). Some d) (number_of (codes "depth") 0 16 (rows_of f)) else Some None) (sym (first_value-rows f (codes "depth")) ∙ sym text)
+    ∙ ap (λ t. if t then option_map (λ (d : ℕ). Some d) (number_of (codes "depth") 0 16 (rows_of f)) else Some None) (some_of r ∙ is)
   where
     some_of : (r : Option (Bor (List ℕ))) → is_some (option_map (λ s. s.now) r) ≡ is_some r
     some_of None = refl

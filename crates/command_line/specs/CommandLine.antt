@@ -2,7 +2,7 @@
 --
 -- The words are read by the rule of `clap`: `command` is what that rule reads of the command, `fault_of` are the reasons for
 -- which it doesn't take words, and `matches_of` are the values that it finds for each argument.
-use Rattle.std.specs.Prelude.{◌≤◌, ℕ, Bool, false, List, [], ◌∷◌, map, Option, Some, None, if◌then◌else◌, codes, option_map, option_and_then, is_some, String, string_bytes}
+use Rattle.std.specs.Prelude.{◌≤◌, ℕ, Bool, false, List, [], ◌∷◌, map, Option, Some, None, if◌then◌else◌, codes, option_map, option_and_then, is_some, IfSome, String, string_bytes}
 use Rattle.std.specs.Option.{option_map_or}
 use Rattle.std.specs.Str.{bytes_eq}
 use Rattle.std.specs.Str.Parse.{digits_value, without_leading_plus}
@@ -50,7 +50,7 @@ command =
     (flag_rule (codes "all") 97))
     (letter_rule (codes "workers") 112 (codes "1")))
     (word_rule (codes "lanes") (codes "1")))
-    (word_rule (codes "depth") (codes "6")))
+    (plain_rule (codes "depth")))
     (word_rule (codes "node-limit") (codes "0")))
     (word_rule (codes "round-limit") (codes "0")))
     (word_flag_rule (codes "domains")))
@@ -75,6 +75,10 @@ is_given id rows = option_map_or (λ text. bytes_eq text (codes "true")) (one_of
 abbrev pub most_limit : ℕ
 most_limit = 1000000000000
 
+-- the depth that is given, or none where none is; nothing where it is out of its bounds
+abbrev pub depth_of : List Row → Option (Option ℕ)
+depth_of rows = if is_some (first_of (codes "depth") rows) then option_map (λ depth. Some depth) (number_of (codes "depth") 0 16 rows) else Some None
+
 -- how the search is to be made: none where a number is out of its bounds
 abbrev pub options_of : List Row → Option Options
 options_of rows =
@@ -94,7 +98,7 @@ options_of rows =
     })
     (number_of (codes "round-limit") 0 most_limit rows))
     (number_of (codes "node-limit") 0 most_limit rows))
-    (number_of (codes "depth") 0 16 rows))
+    (depth_of rows))
     (number_of (codes "lanes") 1 64 rows))
     (number_of (codes "workers") 1 64 rows)
 
@@ -137,7 +141,7 @@ config_of words =
 pub record AreOptions (o : Options) : Type 0 where
   pub workers : (1 ≤ o.workers) × (o.workers ≤ 64)
   pub lanes : (1 ≤ o.lanes) × (o.lanes ≤ 64)
-  pub depth : o.depth ≤ 16
+  pub depth : IfSome o.depth (λ depth. depth ≤ 16)
   pub node_limit : o.node_limit ≤ most_limit
   pub round_limit : o.round_limit ≤ most_limit
 

@@ -16,7 +16,7 @@ pub(crate) fn command<'a>(alloc: Global) -> Result<Command<'a>, AllocError>
         .arg(flag(alloc, "all", 'a'))?
         .arg(letter_number(alloc, "workers", 'p', "1"))?
         .arg(number(alloc, "lanes", "1"))?
-        .arg(number(alloc, "depth", "6"))?
+        .arg(plain_number(alloc, "depth"))?
         .arg(number(alloc, "node-limit", "0"))?
         .arg(number(alloc, "round-limit", "0"))?
         .arg(word_flag(alloc, "domains"))?

@@ -3,7 +3,7 @@
 ghost use Rattle.std.specs.Prelude.{◌≡◌, ◌≤◌, Some, None, IfOk, IfSome, Err, option_map};
 ghost use Rattle.clap.specs.Matches.{found_of};
 ghost use Rattle.clap.specs.Walk.{rows_of};
-ghost use Rattle.command_line.specs.CommandLine.{AreOptions, IsConfig, IsInput, config_in, config_meant, config_of, input_meant, input_of, is_given, most_limit, number_of, options_of};
+ghost use Rattle.command_line.specs.CommandLine.{AreOptions, IsConfig, IsInput, config_in, config_meant, config_of, depth_of, input_meant, input_of, is_given, most_limit, number_of, options_of};
 
 use crate::command::command;
 use clap::ArgMatches;
@@ -22,8 +22,8 @@ pub struct Options {
     pub workers: u32,
     /// How many threads propagate a box, from 1 to 64.
     pub lanes: u32,
-    /// To which depth of the search tree it is cut into subproblems, from 0 to 16.
-    pub depth: u32,
+    /// To which depth the search tree is cut into parts, from 0 to 16, where one is given.
+    pub depth: Option<u32>,
     /// The most nodes of a subproblem's search; 0 is no limit.
     pub node_limit: u64,
     /// The most rounds of a propagation; 0 is no limit.
@@ -93,19 +93,32 @@ fn options_in(matches: &ArgMatches<'_>) -> Option<Options>
 {
     let workers = number_within(matches, "workers", 1, 64)?;
     let lanes = number_within(matches, "lanes", 1, 64)?;
-    let depth = number_within(matches, "depth", 0, 16)?;
+    let depth = depth_in(matches)?;
     let node_limit = number_within(matches, "node-limit", 0, MOST_LIMIT)?;
     let round_limit = number_within(matches, "round-limit", 0, MOST_LIMIT)?;
     Some(Options {
         all: is_given(matches, "all"),
         workers: workers as u32,
         lanes: lanes as u32,
-        depth: depth as u32,
+        depth,
         node_limit,
         round_limit,
         domains: is_given(matches, "domains"),
         steal: is_given(matches, "steal"),
     })
+}
+
+/// To which depth the search tree is cut; none where that is out of its bounds, and no depth where none is given.
+fn depth_in(matches: &ArgMatches<'_>) -> Option<Option<u32>>
+    ensures is { result ≡ depth_of (rows_of (found_of matches.now)) }
+    ensures within { IfSome result (λ depth. IfSome depth (λ d. d ≤ 16)) }
+{
+    if matches.get_str("depth").is_some() {
+        let number = number_within(matches, "depth", 0, 16)?;
+        Some(Some(number as u32))
+    } else {
+        Some(None)
+    }
 }
 
 /// What is to be solved.

@@ -32,19 +32,23 @@ const NONE_LEAST: &str = "var 1..0: x; var 1..2: y; solve minimize y;";
 const CHAIN: &str = "var 1..2: x; var 1..2: y; var 1..2: z; constraint int_eq(x,z); \
                      constraint int_eq(x,y); solve minimize y;";
 
-/// Whether there are workers and lanes, and not too many, and the tree isn't cut too deep.
+/// Whether there are workers, lanes and parts, and not too many, and the tree isn't cut too deep.
 fn can_be_asked(options: Options) -> bool
     ensures some_workers { OnTrue result (1 ≤ options.workers) }
     ensures most_workers { OnTrue result (options.workers ≤ 64) }
     ensures some_lanes { OnTrue result (1 ≤ options.lanes) }
     ensures most_lanes { OnTrue result (options.lanes ≤ 64) }
     ensures depth { OnTrue result (options.depth ≤ 16) }
+    ensures some_parts { OnTrue result (1 ≤ options.most_parts) }
+    ensures few_parts { OnTrue result (options.most_parts ≤ 65536) }
 {
     1 <= options.workers
         && options.workers <= 64
         && 1 <= options.lanes
         && options.lanes <= 64
         && options.depth <= 16
+        && 1 <= options.most_parts
+        && options.most_parts <= 65536
 }
 
 /// Answers the model of a text.
@@ -59,6 +63,8 @@ fn answer_to<R: Threads + Sync>(
     requires some_lanes { 1 ≤ options.lanes }
     requires most_lanes { options.lanes ≤ 64 }
     requires depth { options.depth ≤ 16 }
+    requires some_parts { 1 ≤ options.most_parts }
+    requires few_parts { options.most_parts ≤ 65536 }
 {
     let model = model_of(alloc, text)?;
     let gates = Gates {
@@ -135,14 +141,15 @@ fn assert_whole<R: Abort + Threads + Sync>(
 }
 
 #[test]
-fn what_is_asked_is_given_by_any_workers_lanes_and_depth(rt: HostRuntime) -> Result<(), Fail> {
-    for (workers, lanes, depth) in [(1, 1, 0), (2, 1, 1), (3, 2, 6)] {
+fn what_is_asked_is_given_by_any_workers_lanes_and_parts(rt: HostRuntime) -> Result<(), Fail> {
+    for (workers, lanes, most_parts) in [(1, 1, 1), (2, 1, 2), (2, 1, 5), (3, 2, 64)] {
         for steal in [false, true] {
             let options = Options {
                 all: false,
                 workers,
                 lanes,
-                depth,
+                depth: 6,
+                most_parts,
                 node_limit: 0,
                 round_limit: 0,
                 steal,
@@ -169,6 +176,7 @@ fn limits_leave_what_is_known(rt: HostRuntime) -> Result<(), Fail> {
             workers: 1,
             lanes: 1,
             depth: 0,
+            most_parts: 1,
             node_limit: *node_limit,
             round_limit: *round_limit,
             steal: false,

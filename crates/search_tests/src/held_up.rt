@@ -73,6 +73,7 @@ fn a_worker_that_begins_late_changes_no_answer(rt: HostRuntime) -> Result<(), Fa
             workers: 2,
             lanes: 1,
             depth: 1,
+            most_parts: 2,
             node_limit: 0,
             round_limit: 0,
             steal,

@@ -134,7 +134,7 @@ fn asked(
     };
     let alone = path_box(alloc, model, program, &program.start, depth, number)?;
     let expected = bounds_in(&alone);
-    match walk.path_box(alloc, &tree, number)? {
+    match walk.path_box(alloc, &tree, u64::from(number))? {
         None => Ok([None, expected]),
         Some(sub) => Ok([given_back(walk, sub)?, expected]),
     }
@@ -222,7 +222,7 @@ fn asked_below(
         start: &cut.program.start,
         depth: 2,
     };
-    match walk.path_box_below(alloc, &tree, number, Some(best))? {
+    match walk.path_box_below(alloc, &tree, u64::from(number), Some(best))? {
         None => Ok(None),
         Some(sub) => given_back(walk, sub),
     }

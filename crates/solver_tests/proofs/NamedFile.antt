@@ -14,7 +14,7 @@ abbrev pub words : List Text
 words = codes "turbofzn" ∷ codes "m.fzn" ∷ []
 
 abbrev defaults : Options
-defaults = record { all = false; workers = 1; lanes = 1; depth = 6; node_limit = 0; round_limit = 0; domains = false; steal = false }
+defaults = record { all = false; workers = 1; lanes = 1; depth = None; node_limit = 0; round_limit = 0; domains = false; steal = false }
 
 abbrev config_at : List Text → Option (Options × InputOf)
 config_at texts = if is_empty (fault_of command texts) then config_in (matches_of command texts) else None

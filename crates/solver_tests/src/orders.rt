@@ -60,8 +60,8 @@ impl Gate for Searches<'_> {
     }
 }
 
-/// Only once x and y are fixed propagation sees that x is odd and y even. So of the four parts the third alone is left, x = 1
-/// and y = 0.
+/// A limit that stops nothing makes the parts those of depth 2. Only once x and y are fixed propagation sees that x is odd and
+/// y even. So of the four parts the third alone is left, x = 1 and y = 0.
 const THIRD_PART: &str =
     "var 0..1: x :: output_var; var 0..1: y :: output_var; var 0..9: a; var 0..9: b; var 0..9: c; var 0..9: d; \
      constraint int_lin_eq([1,2,-2],[x,a,b],1); constraint int_lin_eq([1,2,-2],[y,c,d],0); solve satisfy;";
@@ -70,9 +70,15 @@ const THIRD_PART: &str =
 fn a_worker_gets_numbers_as_the_words_say(rt: HostRuntime) -> Result<(), Fail> {
     for (words, third) in [
         // 0, 1, 2, 3
-        ("turbofzn -p 2 --depth 2 --lanes 2 m.fzn", 0b100),
+        (
+            "turbofzn -p 2 --depth 2 --node-limit 1000 --lanes 2 m.fzn",
+            0b100,
+        ),
         // 0 and 2, then 1 and 3 of the other's
-        ("turbofzn -p 2 --depth 2 --lanes 2 --steal m.fzn", 0b10),
+        (
+            "turbofzn -p 2 --depth 2 --node-limit 1000 --lanes 2 --steal m.fzn",
+            0b10,
+        ),
     ] {
         let gate = FirstAlone::new();
         let gates = Gates {

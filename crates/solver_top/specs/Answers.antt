@@ -1,7 +1,8 @@
 -- What is written of an answer.
 --
 -- Source: the FlatZinc chapter of the MiniZinc Handbook, its section on output. The line of a made text is this program's own.
-use Rattle.std.specs.Prelude.{◌≡◌, ◌⊎◌, ℕ, ℤ, List, [], ◌∷◌, Option, Some, None, All}
+use Rattle.std.specs.Prelude.{◌≡◌, ◌⊎◌, ◌*◌, ◌^◌, ℕ, ℤ, List, [], ◌∷◌, Option, Some, None, All}
+use Rattle.std.specs.Option.{option_map_or}
 use Rattle.constraint_model.specs.declared.model.FznModel.{FznModel}
 use Rattle.constraint_model.specs.declared.model.Goal.{Goal}
 use Rattle.constraint_model.specs.Relations.{value, IsSolution}
@@ -19,13 +20,22 @@ use Rattle.domain_text.specs.Domains.{IsDomainText}
 use Rattle.made_model.specs.Made.{summary}
 use Rattle.model_text.specs.Texts.{IsTextOf}
 
+-- the depth to which the tree is cut under a limit: 6 where none is given
+abbrev pub depth_of : Options → ℕ
+depth_of o = option_map_or (λ depth. depth) o.depth 6
+
+-- the most parts into which it is cut where no limit is set: those of the depth that is given, or 32 for each worker where none is
+abbrev pub most_parts : Options → ℕ
+most_parts o = option_map_or (λ depth. 2 ^ depth) o.depth (32 * o.workers)
+
 -- the options of the words as the search takes them
 abbrev pub search_options : Options → SearchOptions
 search_options o = record {
   all = o.all;
   workers = o.workers;
   lanes = o.lanes;
-  depth = o.depth;
+  depth = depth_of o;
+  most_parts = most_parts o;
   node_limit = o.node_limit;
   round_limit = o.round_limit;
   steal = o.steal;

@@ -6,7 +6,7 @@ ghost use Rattle.constraint_model.specs.WellFormed.{IsWellFormed};
 ghost use Rattle.command_line.specs.CommandLine.{AreOptions, IsConfig, config_meant, config_of, input_meant};
 ghost use Rattle.made_model.specs.Made.{made};
 ghost use Rattle.model_text.specs.Texts.{IsCause, IsTextOf};
-ghost use Rattle.solver_top.specs.Answers.{AreDomainsOf, IsAnswerOf, IsAnswerWith, IsLineOf, search_options};
+ghost use Rattle.solver_top.specs.Answers.{AreDomainsOf, IsAnswerOf, IsAnswerWith, IsLineOf, depth_of, most_parts, search_options};
 ghost use Rattle.solver_top.specs.Outcome.{CanOpen, IsAnswerOfInput, IsAnswerOfWords, IsFileAlone, IsFileCause, IsInputCause, IsTextCause, IsWordsCause, IsWritten, ReadsFile, asked_text, told_of_input, told_text};
 ghost use Rattle.model_text.specs.Files.{WasAsked};
 
@@ -238,15 +238,45 @@ fn search<R: Threads + Sync, C: Gate + Sync, L: Gate + Sync>(
     answer(rt, alloc, model, &options, gates)
 }
 
+/// The depth to which the tree is cut under a limit.
+fn depth_of(options: &Options) -> u32
+    requires { AreOptions options.now }
+    ensures is { result ≡ depth_of options.now }
+    ensures most { result ≤ 16 }
+{
+    match options.depth {
+        Some(depth) => depth,
+        None => 6,
+    }
+}
+
+/// The most parts into which it is cut where no limit is set: more than the workers, so that none waits long for the last.
+fn most_parts(options: &Options) -> u32
+    requires { AreOptions options.now }
+    ensures is { result ≡ most_parts options.now }
+    ensures some { 1 ≤ result }
+    ensures few { result ≤ 65536 }
+{
+    match options.depth {
+        Some(depth) => 1 << depth,
+        None => 32 * options.workers,
+    }
+}
+
 /// The options of the words as the search takes them.
 fn search_options(options: &Options) -> answer::Options
-    ensures { result ≡ search_options options.now }
+    requires { AreOptions options.now }
+    ensures is { result ≡ search_options options.now }
+    ensures depth { result.depth ≤ 16 }
+    ensures some_parts { 1 ≤ result.most_parts }
+    ensures few_parts { result.most_parts ≤ 65536 }
 {
     answer::Options {
         all: options.all,
         workers: options.workers,
         lanes: options.lanes,
-        depth: options.depth,
+        depth: depth_of(options),
+        most_parts: most_parts(options),
         node_limit: options.node_limit,
         round_limit: options.round_limit,
         steal: options.steal,

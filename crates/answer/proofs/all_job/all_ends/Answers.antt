@@ -7,4 +7,4 @@ pub returns-clause-ends : goal.returns-clause-ends
 returns-clause-ends g c =
     let plan = c.args.plan.now in
     let made = c.in_ok-ends.ensures.ends in
-    results_of (model_of plan) plan.options.depth plan.start.now (IsAllResult (model_of plan) plan.options) made.runs c.in_ok-ends.ends made.in_order made.stand.each
+    results_of (model_of plan) plan.parts.now plan.start.now (IsAllResult (model_of plan) plan.options) made.runs c.in_ok-ends.ends made.in_order made.stand.each

@@ -3,16 +3,22 @@ use Rattle.interval.specs.Boxes.{Bounds}
 use Rattle.answer.specs.Places.{AreResults}
 use Rattle.answer.specs.Results.{IsAllResult}
 use Rattle.answer.proofs.ListedLaws.{is_program}
+use Rattle.answer.proofs.PlanLaws.{is_plan, parts_in}
 use Rattle.answer.proofs.GivenLaws.{all_given}
 use Rattle.answer.proofs.answering.all_answer.Goals as goal
+
+pub all_ends-requires-clause-plan : goal.all_ends-requires-clause-plan
+all_ends-requires-clause-plan g c = λ lifetimes outlive.
+    is_plan _ c.requires.set_up (parts_in c.args.options c.as_slice.result.now c.in_ok-parts.parts.items c.as_slice.ensures.value c.in_ok-parts.ensures) (c.law_inside_order.ensures.itself c.args.run.now.program.now.start)
 
 pub returns : goal.returns
 returns g c =
     let run = c.args.run.now in
     let is = c.requires.set_up in
     let model = run.model.now in
-    all_given c.law_inside_order.ensures c.law_one_list.ensures c.law_every_list.ensures c.law_paths.ensures c.law_cuts.ensures c.law_solutions_listed.ensures
-    c.law_in_declaration_order.ensures c.law_records_solutions.ensures model is.is_run.model.search is.is_run.model.objective (is_program model run.program.now is.is_run.program) c.args.options
-    (record { solutions = c.in_ok-solutions.solutions; mark = c.mark_of-mark.result }) c.in_ok-ends.ends c.as_slice.result.now
-    (subst (λ (b : Bounds). AreResults model c.args.options.depth b (IsAllResult model c.args.options) c.in_ok-ends.ends) is.is_run.program.start c.in_ok-ends.ensures.ends) c.requires.satisfy c.requires.all
-    c.in_ok-solutions.ensures c.as_slice.ensures c.is_any_spent-is_spent.result c.is_any_spent-is_spent.ensures.spent c.is_any_spent-is_spent.ensures.unspent c.mark_of-mark.ensures
+    all_given c.law_inside_order.ensures c.law_one_list.ensures c.law_every_list.ensures c.law_paths.ensures c.law_cuts.ensures c.law_whole_of_parts.ensures.whole c.law_solutions_listed.ensures
+    c.law_in_declaration_order.ensures c.law_records_solutions.ensures model is.is_run.model.search is.is_run.model.objective (is_program model run.program.now is.is_run.program) c.args.options c.as_slice.result.now
+    (parts_in c.args.options c.as_slice.result.now c.in_ok-parts.parts.items c.as_slice.ensures.value c.in_ok-parts.ensures)
+    (record { solutions = c.in_ok-solutions.solutions; mark = c.mark_of-mark.result }) c.in_ok-ends.ends c.as_slice-2.result.now
+    (subst (λ (b : Bounds). AreResults model c.as_slice.result.now b (IsAllResult model c.args.options) c.in_ok-ends.ends) is.is_run.program.start c.in_ok-ends.ensures.ends) c.requires.satisfy c.requires.all
+    c.in_ok-solutions.ensures c.as_slice-2.ensures c.is_any_spent-is_spent.result c.is_any_spent-is_spent.ensures.spent c.is_any_spent-is_spent.ensures.unspent c.mark_of-mark.ensures

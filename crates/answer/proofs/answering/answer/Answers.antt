@@ -1,8 +1,7 @@
-use Rattle.std.proofs.Common.{List, refl, subst, ◌∙◌, arith}
+use Rattle.std.proofs.Common.{List, refl, subst, ◌∙◌}
 use Rattle.guarded_tell.specs.declared.kernel.Kernel.{Kernel}
 use Rattle.guarded_tell.specs.Shapes.{AreShapesOf}
 use Rattle.moved_set.specs.Sets.{IsNaming}
-use Rattle.answer.proofs.DepthLaws.{as_asked}
 use Rattle.answer.proofs.answering.answer.Goals as goal
 
 pub answer_of-requires-clause-set_up : goal.answer_of-requires-clause-set_up
@@ -21,9 +20,7 @@ answer_of-requires-clause-set_up g c = λ lifetimes outlive. record {
   lanes = refl;
   node_limit = refl;
   round_limit = refl;
-  depth = let most = c.depth_for.ensures.most in let d = c.requires.depth in omega (arith, most, d);
+  depth = c.requires.depth;
+  some_parts = c.requires.some_parts;
+  few_parts = c.requires.few_parts;
 }
-
-pub returns-clause-answer : goal.returns-clause-answer
-returns-clause-answer g c =
-    as_asked c.args.model.now c.args.options.now c.depth_for.result c.in_ok-answer.answer c.depth_for.ensures.limited c.in_ok-answer.ensures

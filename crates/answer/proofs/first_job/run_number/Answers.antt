@@ -24,6 +24,6 @@ returns-clause-run g c =
       seat = c.run_there.ensures.seat;
       parts = λ n h. c.run_there.ensures.parts n (c.lesser_seen.ensures.parts ∙ h);
       kept = c.run_there.ensures.kept;
-      run = λ runs h. c.run_there.ensures.run runs (first_runs_kept (model_of plan) plan.options plan.start.now (numbers_seen c.args.seat.now) (numbers_seen c.lesser_seen.new.seat)
+      run = λ runs h. c.run_there.ensures.run runs (first_runs_kept (model_of plan) plan.options plan.parts.now plan.start.now (numbers_seen c.args.seat.now) (numbers_seen c.lesser_seen.new.seat)
           (numbers_posted c.args.seat.now) (numbers_posted c.lesser_seen.new.seat) runs c.lesser_seen.ensures.seen c.lesser_seen.ensures.posted h);
     }

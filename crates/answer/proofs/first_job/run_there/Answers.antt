@@ -6,7 +6,7 @@ use Rattle.std.specs.Prelude.{IfSome}
 use Rattle.interval.specs.Boxes.{IsInside}
 use Rattle.subproblem_walk.specs.declared.cutter.Subproblem.{Subproblem}
 use Rattle.subproblem_walk.specs.Walks.{StandsUnder, box_of, IsMadeFrom}
-use Rattle.subproblems.specs.Paths.{LeadsTo}
+use Rattle.answer.specs.Places.{PartLeadsTo}
 use Rattle.answer.specs.Plans.{model_of, kernels_in}
 use Rattle.answer.proofs.JobLaws.{kept_inside, kept_around, taken_back, plan_leads, first_run_none, first_run_some}
 use Rattle.answer.proofs.first_job.run_there.Goals as goal
@@ -17,7 +17,7 @@ run_first_from-requires-clause-solution g c = λ lifetimes outlive solutions lis
     (c.requires.numbers c.args.number).1 (record {
       sub = c.in-Some.found.boxes.current;
       leads = plan_leads plan c.requires.fits.0 c.args.number (Some c.in-Some.found.boxes.current)
-          (subst (λ (f : Option Subproblem). LeadsTo (model_of plan) (kernels_in plan) plan.options.depth plan.start.now c.args.number (box_of f)) c.in-Some.is c.in_ok-subproblem.ensures.path);
+          (subst (λ (f : Option Subproblem). PartLeadsTo (model_of plan) (kernels_in plan) plan.parts.now plan.start.now c.args.number (box_of f)) c.in-Some.is c.in_ok-subproblem.ensures.path);
       solutions = solutions;
       listed = subst (λ (ks : List Kernel). SolutionsIn (model_of plan) ks c.in-Some.found.boxes.current solutions) c.requires.fits.0.run.program.kernels listed;
       some = some;
@@ -31,7 +31,7 @@ returns-in-None g c =
       parts = λ n h. h;
       kept = record { walk = c.subproblem.ensures.walk; kept = c.requires.owns.kept };
       run = λ runs h. first_run_none plan c.requires.fits.0 (numbers_seen c.args.seat.now) (numbers_posted c.args.seat.now) c.args.number runs
-          (subst (λ (f : Option Subproblem). LeadsTo (model_of plan) (kernels_in plan) plan.options.depth plan.start.now c.args.number (box_of f)) c.in-None.is c.in_ok-subproblem.ensures.path) h;
+          (subst (λ (f : Option Subproblem). PartLeadsTo (model_of plan) (kernels_in plan) plan.parts.now plan.start.now c.args.number (box_of f)) c.in-None.is c.in_ok-subproblem.ensures.path) h;
     }
 
 pub run_first_from-requires-clause-inside : goal.run_first_from-requires-clause-inside
@@ -59,6 +59,6 @@ returns-in_ok-over-in-Some g c =
       };
       run = λ runs h. first_run_some plan c.requires.fits.0 (numbers_seen c.args.seat.now) (numbers_seen c.run_first_from.new.seat) (numbers_posted c.args.seat.now) (numbers_posted c.run_first_from.new.seat)
           c.args.number c.in-Some.found.boxes.current c.in_ok-over-in-Some.over.end runs
-          (subst (λ (f : Option Subproblem). LeadsTo (model_of plan) (kernels_in plan) plan.options.depth plan.start.now c.args.number (box_of f)) c.in-Some.is c.in_ok-subproblem.ensures.path)
+          (subst (λ (f : Option Subproblem). PartLeadsTo (model_of plan) (kernels_in plan) plan.parts.now plan.start.now c.args.number (box_of f)) c.in-Some.is c.in_ok-subproblem.ensures.path)
           c.run_first_from.ensures.seen c.in_ok-over-in-Some.ensures.end c.in_ok-over-in-Some.ensures.posts h;
     }

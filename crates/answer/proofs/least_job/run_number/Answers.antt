@@ -4,7 +4,7 @@ use Rattle.std.specs.Prelude.{IfSome}
 use Rattle.interval.specs.Boxes.{IsInside}
 use Rattle.subproblem_walk.specs.declared.cutter.Subproblem.{Subproblem}
 use Rattle.subproblem_walk.specs.Walks.{StandsUnder, box_of, IsMadeFrom}
-use Rattle.subproblem_walk.specs.Beaten.{LeadsBelow}
+use Rattle.answer.specs.Places.{PartLeadsBelow}
 use Rattle.answer.specs.Plans.{model_of, kernels_in}
 use Rattle.answer.proofs.JobLaws.{kept_inside, kept_around, taken_back}
 use Rattle.answer.proofs.LeastRunLists.{least_runs_seen}
@@ -24,8 +24,8 @@ returns-in-None g c =
           (looked_at c.seen-best.result (costs_seen c.seen-best.new.seat) c.seen-best.ensures.least)
           (λ one. least_posted c.seen-best.result (costs_seen c.seen-best.new.seat) (costs_posted c.seen-best.new.seat) c.seen-best.ensures.least c.seen-best.ensures.not_above
           (c.seen-best.ensures.all (c.seen-best.ensures.parts ∙ c.requires.fits.sole one)))
-          (subst (λ (f : Option Subproblem). LeadsBelow (model_of plan) (kernels_in plan) plan.options.depth plan.start.now c.args.number c.seen-best.result (box_of f)) c.in-None.is c.in_ok-subproblem_below.ensures.path)
-          (least_runs_seen c.law_more_posted.ensures (model_of plan) plan.options plan.start.now (costs_seen c.args.seat.now) (costs_seen c.seen-best.new.seat) (costs_posted c.args.seat.now)
+          (subst (λ (f : Option Subproblem). PartLeadsBelow (model_of plan) (kernels_in plan) plan.parts.now plan.start.now c.args.number c.seen-best.result (box_of f)) c.in-None.is c.in_ok-subproblem_below.ensures.path)
+          (least_runs_seen c.law_more_posted.ensures (model_of plan) plan.options plan.parts.now plan.start.now (costs_seen c.args.seat.now) (costs_seen c.seen-best.new.seat) (costs_posted c.args.seat.now)
           (costs_posted c.seen-best.new.seat) runs (seen_before c.seen-best.result (costs_seen c.args.seat.now) (costs_seen c.seen-best.new.seat) c.seen-best.ensures.seen) c.seen-best.ensures.posted h);
     }
 
@@ -60,13 +60,13 @@ returns-in_ok-over-in-Some g c =
       run = λ runs h. least_run_some c.law_more_posted.ensures c.law_costs_fall.ensures plan c.requires.fits.plan c.requires.fits.objective
           (costs_seen c.seen-best.new.seat) (costs_seen c.run_least_from.new.seat) (costs_posted c.seen-best.new.seat) (costs_posted c.run_least_from.new.seat) c.args.number c.in-Some.found.boxes.current
           c.in_ok-over-in-Some.over.end runs c.seen-best.result
-          (found_leads (model_of plan) (kernels_in plan) plan.options.depth plan.start.now c.args.number c.seen-best.result c.in-Some.found.boxes.current
-          (subst (λ (f : Option Subproblem). LeadsBelow (model_of plan) (kernels_in plan) plan.options.depth plan.start.now c.args.number c.seen-best.result (box_of f)) c.in-Some.is c.in_ok-subproblem_below.ensures.path))
+          (found_leads (model_of plan) (kernels_in plan) plan.parts.now plan.start.now c.args.number c.seen-best.result c.in-Some.found.boxes.current
+          (subst (λ (f : Option Subproblem). PartLeadsBelow (model_of plan) (kernels_in plan) plan.parts.now plan.start.now c.args.number c.seen-best.result (box_of f)) c.in-Some.is c.in_ok-subproblem_below.ensures.path))
           (subst (λ (f : Option Subproblem). IfSome (box_of f) (λ b. IsInside b c.args.job.now.plan.now.run.now.program.now.start)) c.in-Some.is c.in_ok-subproblem_below.ensures.inside) c.len-length-in-Some.ensures.in_range c.run_least_from.ensures.kept c.in_ok-over-in-Some.ensures.least
           (looked_at c.seen-best.result (costs_seen c.seen-best.new.seat) c.seen-best.ensures.least)
           (λ one. least_posted c.seen-best.result (costs_seen c.seen-best.new.seat) (costs_posted c.seen-best.new.seat) c.seen-best.ensures.least c.seen-best.ensures.not_above
           (c.seen-best.ensures.all (c.seen-best.ensures.parts ∙ c.requires.fits.sole one)))
           c.in_ok-over-in-Some.ensures.end (λ one least. c.in_ok-over-in-Some.ensures.alone (c.seen-best.ensures.parts ∙ c.requires.fits.sole one) c.seen-best.result least)
-          (least_runs_seen c.law_more_posted.ensures (model_of plan) plan.options plan.start.now (costs_seen c.args.seat.now) (costs_seen c.seen-best.new.seat) (costs_posted c.args.seat.now)
+          (least_runs_seen c.law_more_posted.ensures (model_of plan) plan.options plan.parts.now plan.start.now (costs_seen c.args.seat.now) (costs_seen c.seen-best.new.seat) (costs_posted c.args.seat.now)
           (costs_posted c.seen-best.new.seat) runs (seen_before c.seen-best.result (costs_seen c.args.seat.now) (costs_seen c.seen-best.new.seat) c.seen-best.ensures.seen) c.seen-best.ensures.posted h);
     }

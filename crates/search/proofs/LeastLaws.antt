@@ -83,7 +83,7 @@ at_most_lower (Some best) low cost h k = omega (arith, ints)
 of_some : (best : Option ℤ) (c cost : ℤ) → best ≡ Some c → c ≤ℤ cost → IsAtMost best cost
 of_some best c cost e h = subst (λ (b : Option ℤ). IsAtMost b cost) (sym e) h
 
-after_fall : (posted : List ℤ) (best after : Option ℤ) (cost : ℤ) → MayFall posted best after → IsAtMost best cost → IsAtMost after cost
+pub after_fall : (posted : List ℤ) (best after : Option ℤ) (cost : ℤ) → MayFall posted best after → IsAtMost best cost → IsAtMost after cost
 after_fall posted best after cost (inl e) h = subst (λ (b : Option ℤ). IsAtMost b cost) (sym e) h
 after_fall posted best after cost (inr f) h = of_some after f.0 cost f.1.1.1 (at_most_lower best f.0 cost f.1.1.0 h)
 

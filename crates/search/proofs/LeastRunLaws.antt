@@ -33,7 +33,8 @@ use Rattle.search.specs.declared.closing.Closing.{Closing}
 use Rattle.search.specs.Closings.{IsClosing}
 use Rattle.search.specs.Laws.{IsInsideStart, RecordsSolutions, FindsLeast, RecordsBelow, MorePosted}
 use Rattle.search.specs.LeastEnds.{least_of, last_of, IsCost, PostsCosts, SeesCosts, IsBrokenOff, CostsLess, CostAtLeast}
-use Rattle.search.proofs.StackLaws.{some_left, weight, Lies, top_lies, cut_inside, step_less}
+use Rattle.search.specs.Weights.{weight}
+use Rattle.search.proofs.StackLaws.{some_left, Lies, top_lies, cut_inside, step_less}
 use Rattle.search.proofs.PremiseLaws.{long_sub, runs_sub}
 use Rattle.search.proofs.SearchLaws.{IsCounted, below_limit, full_here}
 
@@ -84,7 +85,7 @@ objective_in vars n Goal.Satisfy l g k = k refl
 objective_in vars n (Goal.Minimize t) l g k = term_in vars n t l g
 objective_in vars n (Goal.Maximize t) l g k = term_in vars n t l g
 
-within_length : (a : List ℤ) (vars : List VarDecl) → IsWithin a vars → length a ≡ length vars
+pub within_length : (a : List ℤ) (vars : List VarDecl) → IsWithin a vars → length a ≡ length vars
 within_length [] [] h = refl
 within_length [] (d ∷ ds) h = absurd h
 within_length (z ∷ zs) [] h = absurd h
@@ -194,7 +195,7 @@ last_holds P (x ∷ []) h = h 0 x (omega arith)
 last_holds P (x ∷ y ∷ others) h = last_holds P (y ∷ others) (All-tail P x (y ∷ others) h)
 
 -- what is taken from the end of a list is its last, or the list is empty
-last_push : (rest : List (List ℤ)) (x : List ℤ) → last_of (rest ++ x ∷ []) ≡ Some x
+pub last_push : (rest : List (List ℤ)) (x : List ℤ) → last_of (rest ++ x ∷ []) ≡ Some x
 last_push [] x = refl
 last_push (y ∷ []) x = refl
 last_push (y ∷ z ∷ rest) x = last_push (z ∷ rest) x

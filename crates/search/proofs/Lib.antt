@@ -15,3 +15,4 @@ pub mod CostLaws
 pub mod LeastRunLaws
 pub mod SearcherLaws
 pub mod SweepLaws
+pub mod TurnLaws

@@ -15,7 +15,8 @@ use Rattle.search.specs.Machine.{Search, State, Node, best_after, Takes, GoesOn,
 use Rattle.search.specs.declared.node.Visit.{Visit}
 use Rattle.search.specs.Nodes.{IsNode, IsGivenUp, IsVisit}
 use Rattle.search.specs.Ends.{EndsDone, EndsOutOfNodes, EndsOutOfRounds, told_count}
-use Rattle.search.proofs.StackLaws.{some_left, weight, Lies, top_lies, step_less}
+use Rattle.search.specs.Weights.{weight}
+use Rattle.search.proofs.StackLaws.{some_left, Lies, top_lies, step_less}
 use Rattle.search.proofs.RunLaws.{no_cut}
 
 -- the count is within the limit, and told

@@ -10,15 +10,8 @@ use Rattle.branching.specs.Parts.{IsBranch, IsPart, AreParts}
 use Rattle.branching.specs.Tree.{BranchLaws}
 use Rattle.search.specs.declared.kind.Kind.{Kind}
 use Rattle.search.specs.Machine.{Search, State, Node, is_dropped, is_solved, is_parted, cut_by, Reached, begun, stepped}
+use Rattle.search.specs.Weights.{power, weight}
 use Rattle.search.proofs.CutLaws.{at_most_inside}
-
--- 3 to the power of n
-unfoldable pub power : ℕ → ℕ
-power zero = 1
-power (suc n) = power n + power n + power n
-
-abbrev pub weight : Bounds → ℕ
-weight b = power (width_sum_of b)
 
 power_more : (n : ℕ) → 0 < power n
 unfolding power

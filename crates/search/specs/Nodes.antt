@@ -10,6 +10,7 @@ use Rattle.search.specs.declared.kind.Kind.TheVariants.{Least}
 use Rattle.moved_fixpoint.specs.Sweeps.{SpendsSweeps}
 use Rattle.narrowing.specs.Narrowing.{MayGiveUp}
 use Rattle.search.specs.Machine.{Node, cut_by}
+use Rattle.search.specs.LeastEnds.{last_of}
 
 -- the two parts of a box are put behind the stack, the left one last
 pub record IsParted (model : FznModel) (b : Bounds) (before after : List Bounds) : Type 0 where
@@ -50,3 +51,10 @@ pub record IsTopVisit (model : FznModel) (kernels : List Kernel) (round_limit la
   pub top : Bounds
   pub taken : before ≡ rest ++ top ∷ []
   pub visit : IsVisit model kernels round_limit lanes (cut_by Least model.goal best top) rest after found more how
+
+-- so it was, with no limit on rounds; the answer is what was recorded last
+pub record HasVisited (model : FznModel) (kernels : List Kernel) (round_limit lanes : ℕ) (best : Option ℤ) (before after : List Bounds)
+    (answer : Option (List ℤ)) : Type 0 where
+  pub found : List (List ℤ)
+  pub visit : IsTopVisit model kernels round_limit lanes best before after [] found Visit.Done
+  pub is_last : answer ≡ last_of found

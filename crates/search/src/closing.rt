@@ -2,6 +2,7 @@
 
 ghost use Rattle.std.specs.Prelude.{◌≡◌, ◌≢◌, ◌⊎◌, ◌<◌, ◌≤◌, ◌+◌};
 ghost use Rattle.std.specs.Bool.{OnTrue, OnFalse};
+ghost use Rattle.search.specs.LeastEnds.{last_of};
 
 use crate::ends::Why;
 use list_of::ListOf;
@@ -32,4 +33,13 @@ pub(crate) fn counted(nodes: u64) -> u64
     ensures most { 18446744073709551615 ≤ nodes → result ≡ nodes }
 {
     if nodes < u64::MAX { nodes + 1 } else { nodes }
+}
+
+/// What was recorded last, if something was.
+pub(crate) fn last_of(found: ListOf<ListOf<i64>>) -> Option<ListOf<i64>>
+    ensures { result ≡ last_of found }
+{
+    let mut solutions = found.into_vec();
+    let last = solutions.pop();
+    last
 }

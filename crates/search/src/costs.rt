@@ -1,16 +1,23 @@
 //! What solutions cost, and the bounds that cut a box to lesser costs.
 
-ghost use Rattle.std.specs.Prelude.{◌≡◌, ◌<◌, ◌-◌, ℤ, neg_ℤ, length, IfSome};
+ghost use Rattle.std.specs.Prelude.{◌≡◌, ◌≢◌, ◌<◌, ◌-◌, ℤ, neg_ℤ, length, Some, IfSome};
 ghost use Rattle.interval.specs.Limits.{IsBound, IsNumber};
-ghost use Rattle.constraint_model.specs.Relations.{value, cost_of};
+ghost use Rattle.interval.specs.Boxes.{Bounds, IsInside};
+ghost use Rattle.constraint_model.specs.declared.model.Goal.TheVariants.{Satisfy};
+ghost use Rattle.constraint_model.specs.Relations.{value, cost_of, IsSolution};
 ghost use Rattle.search.specs.declared.kind.Kind.TheVariants.{Least};
 ghost use Rattle.search.specs.Costs.{up_to, from_on, where_at_most, at_most, IsTermIn, IsObjectiveIn};
+ghost use Rattle.trailed_box.specs.Trailed.{IsPart};
 ghost use Rattle.search.specs.Cuts.{IsCut};
 ghost use Rattle.search.specs.Machine.{cut_by};
+ghost use Rattle.search.specs.Premises.{IsRun};
+ghost use Rattle.search.specs.LeastEnds.{IsCost};
+ghost use Rattle.search.specs.Turns.{lesser, IsCutBelow};
 
+use crate::run::Run;
 use branching::pair_of;
 use constraint_model::{Goal, Term};
-use interval::BoxOf;
+use interval::{BoxOf, law_inside_order};
 use trailed_box::Part;
 
 /// The number of a term in an assignment that has one for each variable.
@@ -118,4 +125,53 @@ pub(crate) fn cut_below(goal: Goal, best: Option<i64>, b: &BoxOf) -> Option<Part
         Some(cost) => at_most(goal, cost - 1, b),
         None => None,
     }
+}
+
+/// The lesser of two costs, where there are such.
+pub(crate) fn lesser(best: Option<i64>, other: Option<i64>) -> Option<i64>
+    ensures { result ≡ lesser best other }
+{
+    match (best, other) {
+        (Some(cost), Some(other)) => Some(cost.min(other)),
+        (Some(cost), None) => Some(cost),
+        (None, other) => other,
+    }
+}
+
+/// What a solution costs: the objective to be minimized, or the negation of the one to be maximized.
+pub fn solution_cost<L>(run: &Run<'_, L>, a: &[i64]) -> i64
+    requires run { IsRun run.now }
+    requires objective { run.now.model.now.goal ≢ Satisfy }
+    requires solves { IsSolution run.now.model.now a.now }
+    ensures costs { cost_of run.now.model.now.goal a.now ≡ Some result }
+    ensures is_cost { IsCost run.now.model.now result }
+{
+    cost(run.model.goal, a)
+}
+
+/// Puts the bounds of a cut, if there are such.
+fn put_cut(cut: Option<Part>, b: &mut BoxOf)
+    requires { IfSome cut (λ part. IsPart (length b.old) part.var part.low part.high) }
+    ensures { (whole : Bounds) → IsCut b.old whole cut → b.new ≡ whole }
+{
+    match cut {
+        Some(part) => b.put(part.var, part.low, part.high),
+        None => {}
+    }
+}
+
+/// Cuts a box to what costs less than this one.
+pub fn cut_below_cost<L>(run: &Run<'_, L>, best: i64, b: &mut BoxOf)
+    requires run { IsRun run.now }
+    requires objective { run.now.model.now.goal ≢ Satisfy }
+    requires inside { IsInside b.old run.now.program.now.start }
+    requires best { IsCost run.now.model.now best }
+    ensures cut { b.new ≡ cut_by Least run.now.model.now.goal (Some best) b.old }
+    ensures below { IsCutBelow run.now.model.now best b.old b.new }
+{
+    law_inside_order();
+    // its contract says that the bounds are in range
+    let _length = b.len();
+    let cut = cut_below(run.model.goal, Some(best), b);
+    put_cut(cut, b);
 }

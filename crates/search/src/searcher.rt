@@ -17,10 +17,11 @@ ghost use Rattle.search.specs.declared.kind.Kind.TheVariants.{Least};
 ghost use Rattle.search.specs.Costs.{IsObjectiveIn};
 ghost use Rattle.search.specs.Machine.{cut_by};
 ghost use Rattle.search.specs.Premises.{CanSearch};
-ghost use Rattle.search.specs.Nodes.{IsSettled, IsTopVisit};
+ghost use Rattle.search.specs.Nodes.{IsSettled, IsTopVisit, HasVisited};
 ghost use Rattle.search.specs.Stacks.{boxes_of, own_of, below_of, count_of, CanRestart, IsReady, IsFrontNear, AreLeft};
 ghost use Rattle.search.specs.Keeping.{CanServe};
 
+use crate::closing::last_of;
 use crate::costs::cut_below;
 use crate::kept::Spare;
 use crate::node::{Visit, record};
@@ -390,6 +391,31 @@ impl Searcher {
                 self.settle(alloc, run, found)?;
                 Ok(Visit::Done)
             }
+        }
+    }
+
+    /// One node where there is no limit on rounds: what it records, if it records something.
+    pub(crate) fn node_unlimited<R: Threads + Sync, L: Gate + Sync>(
+        &mut self,
+        rt: &R,
+        alloc: Global,
+        run: &Run<'_, L>,
+        best: Option<i64>,
+    ) -> Result<Option<ListOf<i64>>, NoMemory>
+        requires run { CanSearch run.now (count_of self.old) }
+        requires no_round_limit { run.now.round_limit ≡ 0 }
+        requires ready { IsReady run.now self.old }
+        requires next { boxes_of self.old ≢ [] }
+        requires best { IfSome best (λ cost. IsNumber cost × IsObjectiveIn (count_of self.old - 1) run.now.model.now.goal) }
+        ensures ready { IfOk result (λ _. IsReady run.now self.new) }
+        ensures count { IfOk result (λ _. count_of self.new ≡ count_of self.old) }
+        ensures visit { IfOk result (
+            HasVisited run.now.model.now run.now.program.now.kernels run.now.round_limit run.now.lanes best (boxes_of self.old) (boxes_of self.new)) }
+    {
+        let mut found = ListOf::new(alloc);
+        match self.node(rt, alloc, run, best, &mut found)? {
+            Visit::Done => Ok(last_of(found)),
+            Visit::GivenUp => unreachable!(),
         }
     }
 }

@@ -24,3 +24,5 @@ mod paths;
 mod posts;
 #[cfg(test)]
 mod searches;
+#[cfg(test)]
+mod turns;

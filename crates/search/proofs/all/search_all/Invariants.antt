@@ -4,7 +4,7 @@ use Rattle.search.specs.declared.kind.Kind.{Kind}
 use Rattle.search.specs.Machine.{Reached}
 use Rattle.search.specs.Ends.{search_in}
 use Rattle.search.specs.Stacks.{boxes_of, below_of, count_of, IsReady}
-use Rattle.search.proofs.StackLaws.{weight}
+use Rattle.search.specs.Weights.{weight}
 use Rattle.search.proofs.SearchLaws.{IsCounted}
 use Rattle.search.proofs.all.search_all.Given as goal
 

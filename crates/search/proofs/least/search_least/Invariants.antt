@@ -5,7 +5,7 @@ use Rattle.best_bound.specs.Seats.{IsBestSeatOf, best_parts, costs_seen, costs_p
 use Rattle.search.specs.Machine.{Reached}
 use Rattle.search.specs.LeastEnds.{least_in, least_alone, PostsCosts, CostsLess}
 use Rattle.search.specs.Stacks.{boxes_of, below_of, count_of, IsReady}
-use Rattle.search.proofs.StackLaws.{weight}
+use Rattle.search.specs.Weights.{weight}
 use Rattle.search.proofs.SearchLaws.{IsCounted}
 use Rattle.search.proofs.LeastRunLaws.{IsLow, IsReachedAlone}
 use Rattle.search.proofs.least.search_least.Given as goal

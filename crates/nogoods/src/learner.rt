@@ -46,10 +46,7 @@ pub struct Learner {
     uses: Uses,
 }
 
-/// How many nogoods are kept where they are forgotten.
-const KEPT: usize = 2_000;
-
-/// The most that there are between.
+/// The most that there are between two times that some are forgotten.
 const MOST_NOGOODS: usize = 100_000;
 
 /// Puts a nogood behind the others, if there is memory for it.
@@ -323,13 +320,13 @@ impl Learner {
         self.watches.clear();
     }
 
-    /// Forgets, where there are more than some 2,000 nogoods, about half of them: those that were used least, but none of two
-    /// literals. It is for a search that begins anew, since the others have other numbers then.
+    /// Forgets, where there are more than some 2,000 nogoods, and more the longer it learns, about half of them: those that were used
+    /// least, but none of two literals. It is for a search that begins anew, since the others have other numbers then.
     pub fn forget(&mut self, alloc: Global)
         ensures { StillServes self.old self.new }
     {
         self.watches.clear();
-        if self.store.as_slice().len() > KEPT
+        if self.uses.are_too_many(self.store.as_slice().len())
             && let Some(most) = self.uses.median(alloc)
         {
             forget_some(&mut self.store, &mut self.uses, most);

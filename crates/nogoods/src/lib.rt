@@ -9,11 +9,15 @@
 mod analysis;
 mod bearing;
 mod crossing;
+mod crowds;
+mod elements;
 mod explaining;
 mod first;
+mod halls;
 mod laws;
 mod learner;
 mod past;
+mod ranges;
 mod reasons;
 mod resolving;
 mod store;

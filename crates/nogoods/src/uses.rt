@@ -6,7 +6,15 @@ use std::alloc::Global;
 #[derive(Drop)]
 pub(crate) struct Uses {
     counts: Vec<u32>,
+    // with more nogoods some are forgotten
+    most: usize,
 }
+
+/// How many nogoods are kept at first.
+const FIRST_KEPT: usize = 2_000;
+
+/// How many more are kept each time that some were forgotten.
+const MORE_KEPT: usize = 500;
 
 /// What a use adds.
 const USE: u32 = 1 << 16;
@@ -21,6 +29,7 @@ impl Uses {
     pub(crate) fn new(alloc: Global) -> Uses {
         Uses {
             counts: Vec::new(alloc),
+            most: FIRST_KEPT,
         }
     }
 
@@ -51,8 +60,14 @@ impl Uses {
         }
     }
 
-    /// Halves all, so that what was used long ago counts less.
+    /// Whether so many nogoods are more than are kept.
+    pub(crate) fn are_too_many(&self, count: usize) -> bool {
+        count > self.most
+    }
+
+    /// Halves all, so that what was used long ago counts less, and lets more be kept: a long search needs more of them.
     pub(crate) fn halve(&mut self) {
+        self.most = self.most.saturating_add(MORE_KEPT);
         for count in self.counts.iter_mut() {
             *count /= 2;
         }

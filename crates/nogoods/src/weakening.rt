@@ -4,6 +4,9 @@
 ghost use Rattle.std.specs.Prelude.{◌≡◌, ◌<◌, length};
 ghost use Rattle.guarded_tell.specs.Kernels.{IsKernel};
 
+use crate::crowds::weaken_crowd;
+use crate::elements::weaken_element;
+use crate::halls::weaken_hall;
 use crate::past::put_if_bounds;
 use crate::sums::weaken_sum;
 use crate::watch::{is_proper_in, is_told};
@@ -23,7 +26,7 @@ pub(crate) fn weaken(kernel: &Kernel, space: &BoxOf, past: &mut BoxOf, sought: T
     if let Kernel::Clause { .. } = kernel {
         return true;
     }
-    if weaken_sum(kernel, space, past, sought) {
+    if weaken_by_kind(kernel, space, past, sought) {
         return is_proper_in(kernel, past) && is_told(kernel, past, sought);
     }
     if !is_proper_in(kernel, past) || !is_told(kernel, past, sought) {
@@ -31,6 +34,20 @@ pub(crate) fn weaken(kernel: &Kernel, space: &BoxOf, past: &mut BoxOf, sought: T
     }
     widen_each(kernel, space, past, sought);
     true
+}
+
+/// Widens bounds by what is known of the kernel's kind. Whether that is so.
+fn weaken_by_kind(kernel: &Kernel, space: &BoxOf, past: &mut BoxOf, sought: Tell) -> bool
+    requires kernel { IsKernel (length space.now) kernel.now }
+    requires same_count { length past.old ≡ length space.now }
+    ensures { length past.new ≡ length past.old }
+{
+    match kernel {
+        Kernel::Element { .. } => weaken_element(kernel, space, past, sought),
+        Kernel::AllDiff { xs } => weaken_hall(xs.as_slice(), space, past, sought),
+        Kernel::Cumulative { .. } => weaken_crowd(kernel, space, past, sought),
+        _ => weaken_sum(kernel, space, past, sought),
+    }
 }
 
 /// Widens one bound after another, where the kernel tells the literal without it.

@@ -1,3 +1,4 @@
 pub mod Ready
 pub mod Tasks
 pub mod Ends
+pub mod Free

@@ -14,6 +14,9 @@ use trailed_box::Log;
 /// How many failures the shortest restart waits for.
 const RESTART_UNIT: u64 = 100;
 
+/// How many failures the first block has of a text without an objective.
+const FIRST_BLOCK: u64 = 500;
+
 /// What a variable gets that is in a nogood which is learned, at first.
 const FIRST_STEP: u64 = 1024;
 
@@ -30,6 +33,14 @@ pub struct Guide {
     step: u64,
     // for each variable the number that is tried first: that of the last solution
     values: Vec<i64>,
+    // for each variable the number that the text's search tries first
+    firsts: Vec<i64>,
+    // whether variables are taken in the order of the text's search, with no restarts: in every second block of failures, where
+    // there is no objective
+    is_by_order: bool,
+    // how many failures this block has, and how many are left of them
+    block: u64,
+    block_left: u64,
     // for each variable what the visits cost that a move of it asks for
     costs: Vec<u64>,
     // the units of work that were spent
@@ -46,6 +57,14 @@ fn first_value(phase: &Phase) -> i64 {
     match phase.val_sel {
         ValSel::Min | ValSel::Split => i64::MIN,
         ValSel::Max | ValSel::ReverseSplit => i64::MAX,
+    }
+}
+
+/// The entry of a variable, if there is one, else 0.
+fn entry_of(entries: &[i64], v: u32) -> i64 {
+    match entries.get(v as usize) {
+        Some(value) => *value,
+        None => 0,
     }
 }
 
@@ -97,6 +116,14 @@ fn aim(model: &FznModel, values: &mut [i64]) {
     }
 }
 
+/// Whether any solution is as good as another.
+fn has_no_objective(model: &FznModel) -> bool {
+    match model.goal {
+        Goal::Satisfy => true,
+        _ => false,
+    }
+}
+
 /// Adds what a visit of the kernel costs to each of its variables.
 fn add_costs(kernel: &Kernel, costs: &mut [u64])
     requires { HasNumbers kernel.now }
@@ -142,9 +169,15 @@ impl Guide {
         let count = run.program.start.len();
         let mut values = vec![in alloc; 0; count as usize]?;
         let order = order_of(alloc, model, values.as_mut_slice())?;
+        let firsts = Vec::from_slice(alloc, values.as_slice())?;
         aim(model, values.as_mut_slice());
+        let is_by_order = has_no_objective(model);
         Ok(Guide {
             order,
+            firsts,
+            is_by_order,
+            block: FIRST_BLOCK,
+            block_left: if is_by_order { FIRST_BLOCK } else { u64::MAX },
             activity: vec![in alloc; 0; count as usize]?,
             step: FIRST_STEP,
             values,
@@ -197,6 +230,27 @@ impl Guide {
 
     /// What is tried next in a box: a variable, and a part of its numbers.
     pub(crate) fn choose(&self, b: &BoxOf) -> (u32, i64, i64) {
+        if self.is_by_order {
+            self.choose_first(b)
+        } else {
+            self.choose_active(b)
+        }
+    }
+
+    /// The first variable in the order of the text's search, and the number that this tries first.
+    fn choose_first(&self, b: &BoxOf) -> (u32, i64, i64) {
+        for v in self.order.as_slice() {
+            if *v < b.len() && b.low(*v) < b.high(*v) {
+                let wanted = entry_of(self.firsts.as_slice(), *v);
+                let (low, high) = first_part(b.low(*v), b.high(*v), wanted);
+                return (*v, low, high);
+            }
+        }
+        (0, 1, 0)
+    }
+
+    /// The variable that was most active of late, and the number of the last solution, or as near to it as can be.
+    fn choose_active(&self, b: &BoxOf) -> (u32, i64, i64) {
         let mut best = (0, 1, 0);
         let mut most = None;
         for v in self.order.as_slice() {
@@ -204,7 +258,8 @@ impl Guide {
                 let activity = self.activity_of(*v);
                 if is_more(activity, most) {
                     most = Some(activity);
-                    let (low, high) = first_part(b.low(*v), b.high(*v), self.wanted(*v));
+                    let wanted = entry_of(self.values.as_slice(), *v);
+                    let (low, high) = first_part(b.low(*v), b.high(*v), wanted);
                     best = (*v, low, high);
                 }
             }
@@ -216,14 +271,6 @@ impl Guide {
     fn activity_of(&self, v: u32) -> u64 {
         match self.activity.as_slice().get(v as usize) {
             Some(activity) => *activity,
-            None => 0,
-        }
-    }
-
-    /// The number that is tried first.
-    fn wanted(&self, v: u32) -> i64 {
-        match self.values.as_slice().get(v as usize) {
-            Some(value) => *value,
             None => 0,
         }
     }
@@ -244,6 +291,7 @@ impl Guide {
         for v in touched {
             self.raise(*v as usize);
         }
+        self.block_left = self.block_left.saturating_sub(1);
         self.failures_left = self.failures_left.saturating_sub(1);
         self.step = self.step.saturating_add(self.step / 20);
         if self.step > GREATEST_STEP {
@@ -266,9 +314,22 @@ impl Guide {
         }
     }
 
+    /// Begins the next block: in the order of the text's search and by activity by turns, each time twice as long.
+    fn begin_block(&mut self) {
+        self.is_by_order = !self.is_by_order;
+        if self.is_by_order {
+            self.block = self.block.saturating_mul(2);
+        }
+        self.block_left = self.block;
+    }
+
     /// Whether the search is to begin anew; if so it counts to the next time.
     pub(crate) fn restarts(&mut self) -> bool {
-        if self.failures_left > 0 {
+        if self.block_left == 0 {
+            self.begin_block();
+            return true;
+        }
+        if self.is_by_order || self.failures_left > 0 {
             return false;
         }
         if self.turn & self.turn.wrapping_neg() == self.length {

@@ -4,7 +4,10 @@
 ghost use Rattle.free_tests.specs.Models.{IsCompiled};
 
 use crate::models::{Compiled, compile_text};
-use crate::texts::{CORE, PIGEONS, SHOP, WIDER_SHOP};
+use crate::texts::{
+    CLAUSES, CORE, CROWDED, DIFFERENT, ELEMENTS, EXTREMES, MACHINE, PIGEONS, PRODUCTS, SLACK,
+    WIDER_MACHINE,
+};
 use free_search::{FreeEnd, Guide, root_of, run_free};
 use gate::NoGate;
 use interval::{NoMemory, law_inside_order};
@@ -89,9 +92,9 @@ fn is_refuted_below(ended: Ended, most: u64) -> bool {
 
 #[test]
 fn pigeons_are_refuted(rt: HostRuntime) -> Result<(), Fail> {
-    // a plain search takes 239 nodes: nogoods save nothing here
+    // a plain search takes 47 nodes: nogoods save nothing here
     let ended = search_text(&rt, rt.alloc(), PIGEONS, BUDGET)?;
-    assert!(rt; is_refuted_below(ended, 1_000));
+    assert!(rt; is_refuted_below(ended, 100));
     Ok(())
 }
 
@@ -104,24 +107,79 @@ fn what_is_free_is_not_tried_where_the_rest_fails(rt: HostRuntime) -> Result<(),
 }
 
 #[test]
-fn a_shop_is_refuted_in_a_hundredth_of_the_26_427_nodes_of_a_plain_search(
-    rt: HostRuntime,
-) -> Result<(), Fail> {
-    let ended = search_text(&rt, rt.alloc(), SHOP, BUDGET)?;
-    assert!(rt; is_refuted_below(ended, 264));
+fn terms_that_a_sum_has_room_for_are_not_tried(rt: HostRuntime) -> Result<(), Fail> {
+    // a plain search takes 1,023 nodes
+    let ended = search_text(&rt, rt.alloc(), SLACK, BUDGET)?;
+    assert!(rt; is_refuted_below(ended, 30));
+    Ok(())
+}
+
+#[test]
+fn clauses_are_reasons(rt: HostRuntime) -> Result<(), Fail> {
+    // a plain search takes 1,023 nodes
+    let ended = search_text(&rt, rt.alloc(), CLAUSES, BUDGET)?;
+    assert!(rt; is_refuted_below(ended, 30));
+    Ok(())
+}
+
+#[test]
+fn elements_are_reasons(rt: HostRuntime) -> Result<(), Fail> {
+    // a plain search takes 1,023 nodes
+    let ended = search_text(&rt, rt.alloc(), ELEMENTS, BUDGET)?;
+    assert!(rt; is_refuted_below(ended, 30));
+    Ok(())
+}
+
+#[test]
+fn products_are_reasons(rt: HostRuntime) -> Result<(), Fail> {
+    // a plain search takes 2,047 nodes
+    let ended = search_text(&rt, rt.alloc(), PRODUCTS, BUDGET)?;
+    assert!(rt; is_refuted_below(ended, 80));
+    Ok(())
+}
+
+#[test]
+fn extremes_are_reasons(rt: HostRuntime) -> Result<(), Fail> {
+    // a plain search takes 4,095 nodes
+    let ended = search_text(&rt, rt.alloc(), EXTREMES, BUDGET)?;
+    assert!(rt; is_refuted_below(ended, 150));
+    Ok(())
+}
+
+#[test]
+fn all_different_is_a_reason(rt: HostRuntime) -> Result<(), Fail> {
+    // a plain search takes 30,207 nodes
+    let ended = search_text(&rt, rt.alloc(), DIFFERENT, BUDGET)?;
+    assert!(rt; is_refuted_below(ended, 350));
+    Ok(())
+}
+
+#[test]
+fn a_resource_is_a_reason(rt: HostRuntime) -> Result<(), Fail> {
+    // a plain search takes 6,143 nodes
+    let ended = search_text(&rt, rt.alloc(), CROWDED, BUDGET)?;
+    assert!(rt; is_refuted_below(ended, 150));
+    Ok(())
+}
+
+#[test]
+fn orders_on_a_machine_are_learned(rt: HostRuntime) -> Result<(), Fail> {
+    // a plain search takes 9,727 nodes
+    let ended = search_text(&rt, rt.alloc(), MACHINE, BUDGET)?;
+    assert!(rt; is_refuted_below(ended, 250));
     Ok(())
 }
 
 #[test]
 fn a_solution_is_found_where_there_is_one(rt: HostRuntime) -> Result<(), Fail> {
-    let ended = search_text(&rt, rt.alloc(), WIDER_SHOP, BUDGET)?;
+    let ended = search_text(&rt, rt.alloc(), WIDER_MACHINE, BUDGET)?;
     assert_eq!(rt; ended, Ended::Found);
     Ok(())
 }
 
 #[test]
 fn a_search_that_may_spend_nothing_gives_up(rt: HostRuntime) -> Result<(), Fail> {
-    let ended = search_text(&rt, rt.alloc(), SHOP, 0)?;
+    let ended = search_text(&rt, rt.alloc(), MACHINE, 0)?;
     assert_eq!(rt; ended, Ended::GaveUp);
     Ok(())
 }

@@ -1,256 +1,90 @@
-//! The texts of the tests.
-
-/// Six pigeons in five holes, no two in one.
-pub(crate) const PIGEONS: &str =
-    "var 1..5: x0; var 1..5: x1; var 1..5: x2; var 1..5: x3; var 1..5: x4; var 1..5: x5; constraint int_ne(x0,x1);
-constraint int_ne(x0,x2); constraint int_ne(x1,x2); constraint int_ne(x0,x3); constraint int_ne(x1,x3);
-constraint int_ne(x2,x3); constraint int_ne(x0,x4); constraint int_ne(x1,x4); constraint int_ne(x2,x4);
-constraint int_ne(x3,x4); constraint int_ne(x0,x5); constraint int_ne(x1,x5); constraint int_ne(x2,x5);
-constraint int_ne(x3,x5); constraint int_ne(x4,x5); solve satisfy;";
+//! The texts of the tests: small ones that have no solution, each by propagators of another kind.
 
 /// Eight free Booleans, and behind them three variables of two values, no two alike.
 pub(crate) const CORE: &str =
     "var bool: f0; var bool: f1; var bool: f2; var bool: f3; var bool: f4; var bool: f5; var bool: f6; var bool: f7;
 var 0..1: a; var 0..1: b; var 0..1: c; constraint int_ne(a,b); constraint int_ne(b,c); constraint int_ne(a,c); solve satisfy;";
 
-/// Six jobs on four machines, without annotations, in one unit of time too few.
-pub(crate) const SHOP: &str =
-    "var 0..28: s0_0; var 0..36: s0_1; var 0..29: s0_2; var 0..33: s0_3; var 0..31: s1_0; var 0..29: s1_1; var 0..33: s1_2;
-var 0..30: s1_3; var 0..36: s2_0; var 0..33: s2_1; var 0..30: s2_2; var 0..32: s2_3; var 0..35: s3_0; var 0..34: s3_1;
-var 0..29: s3_2; var 0..34: s3_3; var 0..33: s4_0; var 0..33: s4_1; var 0..34: s4_2; var 0..34: s4_3; var 0..28: s5_0;
-var 0..33: s5_1; var 0..34: s5_2; var 0..33: s5_3; var bool: p0; var bool: q0; var bool: p1; var bool: q1;
-var bool: p2; var bool: q2; var bool: p3; var bool: q3; var bool: p4; var bool: q4; var bool: p5; var bool: q5;
-var bool: p6; var bool: q6; var bool: p7; var bool: q7; var bool: p8; var bool: q8; var bool: p9; var bool: q9;
-var bool: p10; var bool: q10; var bool: p11; var bool: q11; var bool: p12; var bool: q12; var bool: p13; var bool: q13;
-var bool: p14; var bool: q14; var bool: p15; var bool: q15; var bool: p16; var bool: q16; var bool: p17; var bool: q17;
-var bool: p18; var bool: q18; var bool: p19; var bool: q19; var bool: p20; var bool: q20; var bool: p21; var bool: q21;
-var bool: p22; var bool: q22; var bool: p23; var bool: q23; var bool: p24; var bool: q24; var bool: p25; var bool: q25;
-var bool: p26; var bool: q26; var bool: p27; var bool: q27; var bool: p28; var bool: q28; var bool: p29; var bool: q29;
-var bool: p30; var bool: q30; var bool: p31; var bool: q31; var bool: p32; var bool: q32; var bool: p33; var bool: q33;
-var bool: p34; var bool: q34; var bool: p35; var bool: q35; var bool: p36; var bool: q36; var bool: p37; var bool: q37;
-var bool: p38; var bool: q38; var bool: p39; var bool: q39; var bool: p40; var bool: q40; var bool: p41; var bool: q41;
-var bool: p42; var bool: q42; var bool: p43; var bool: q43; var bool: p44; var bool: q44; var bool: p45; var bool: q45;
-var bool: p46; var bool: q46; var bool: p47; var bool: q47; var bool: p48; var bool: q48; var bool: p49; var bool: q49;
-var bool: p50; var bool: q50; var bool: p51; var bool: q51; var bool: p52; var bool: q52; var bool: p53; var bool: q53;
-var bool: p54; var bool: q54; var bool: p55; var bool: q55; var bool: p56; var bool: q56; var bool: p57; var bool: q57;
-var bool: p58; var bool: q58; var bool: p59; var bool: q59; constraint int_lin_le([1,-1],[s0_0,s0_1],-9);
-constraint int_lin_le([1,-1],[s0_1,s0_2],-1); constraint int_lin_le([1,-1],[s0_2,s0_3],-8);
-constraint int_lin_le([1,-1],[s1_0,s1_1],-6); constraint int_lin_le([1,-1],[s1_1,s1_2],-8);
-constraint int_lin_le([1,-1],[s1_2,s1_3],-4); constraint int_lin_le([1,-1],[s2_0,s2_1],-1);
-constraint int_lin_le([1,-1],[s2_1,s2_2],-4); constraint int_lin_le([1,-1],[s2_2,s2_3],-7);
-constraint int_lin_le([1,-1],[s3_0,s3_1],-2); constraint int_lin_le([1,-1],[s3_1,s3_2],-3);
-constraint int_lin_le([1,-1],[s3_2,s3_3],-8); constraint int_lin_le([1,-1],[s4_0,s4_1],-4);
-constraint int_lin_le([1,-1],[s4_1,s4_2],-4); constraint int_lin_le([1,-1],[s4_2,s4_3],-3);
-constraint int_lin_le([1,-1],[s5_0,s5_1],-9); constraint int_lin_le([1,-1],[s5_1,s5_2],-4);
-constraint int_lin_le([1,-1],[s5_2,s5_3],-3); constraint int_lin_le_reif([1,-1],[s0_0,s1_3],-9,p0);
-constraint int_lin_le_reif([1,-1],[s1_3,s0_0],-7,q0); constraint bool_clause([p0,q0],[]);
-constraint int_lin_le_reif([1,-1],[s0_0,s2_3],-9,p1); constraint int_lin_le_reif([1,-1],[s2_3,s0_0],-5,q1);
-constraint bool_clause([p1,q1],[]); constraint int_lin_le_reif([1,-1],[s0_0,s3_1],-9,p2);
-constraint int_lin_le_reif([1,-1],[s3_1,s0_0],-3,q2); constraint bool_clause([p2,q2],[]);
-constraint int_lin_le_reif([1,-1],[s0_0,s4_2],-9,p3); constraint int_lin_le_reif([1,-1],[s4_2,s0_0],-3,q3);
-constraint bool_clause([p3,q3],[]); constraint int_lin_le_reif([1,-1],[s0_0,s5_1],-9,p4);
-constraint int_lin_le_reif([1,-1],[s5_1,s0_0],-4,q4); constraint bool_clause([p4,q4],[]);
-constraint int_lin_le_reif([1,-1],[s0_1,s1_0],-1,p5); constraint int_lin_le_reif([1,-1],[s1_0,s0_1],-6,q5);
-constraint bool_clause([p5,q5],[]); constraint int_lin_le_reif([1,-1],[s0_1,s2_0],-1,p6);
-constraint int_lin_le_reif([1,-1],[s2_0,s0_1],-1,q6); constraint bool_clause([p6,q6],[]);
-constraint int_lin_le_reif([1,-1],[s0_1,s3_3],-1,p7); constraint int_lin_le_reif([1,-1],[s3_3,s0_1],-3,q7);
-constraint bool_clause([p7,q7],[]); constraint int_lin_le_reif([1,-1],[s0_1,s4_3],-1,p8);
-constraint int_lin_le_reif([1,-1],[s4_3,s0_1],-3,q8); constraint bool_clause([p8,q8],[]);
-constraint int_lin_le_reif([1,-1],[s0_1,s5_2],-1,p9); constraint int_lin_le_reif([1,-1],[s5_2,s0_1],-3,q9);
-constraint bool_clause([p9,q9],[]); constraint int_lin_le_reif([1,-1],[s0_2,s1_2],-8,p10);
-constraint int_lin_le_reif([1,-1],[s1_2,s0_2],-4,q10); constraint bool_clause([p10,q10],[]);
-constraint int_lin_le_reif([1,-1],[s0_2,s2_1],-8,p11); constraint int_lin_le_reif([1,-1],[s2_1,s0_2],-4,q11);
-constraint bool_clause([p11,q11],[]); constraint int_lin_le_reif([1,-1],[s0_2,s3_2],-8,p12);
-constraint int_lin_le_reif([1,-1],[s3_2,s0_2],-8,q12); constraint bool_clause([p12,q12],[]);
-constraint int_lin_le_reif([1,-1],[s0_2,s4_0],-8,p13); constraint int_lin_le_reif([1,-1],[s4_0,s0_2],-4,q13);
-constraint bool_clause([p13,q13],[]); constraint int_lin_le_reif([1,-1],[s0_2,s5_0],-8,p14);
-constraint int_lin_le_reif([1,-1],[s5_0,s0_2],-9,q14); constraint bool_clause([p14,q14],[]);
-constraint int_lin_le_reif([1,-1],[s0_3,s1_1],-4,p15); constraint int_lin_le_reif([1,-1],[s1_1,s0_3],-8,q15);
-constraint bool_clause([p15,q15],[]); constraint int_lin_le_reif([1,-1],[s0_3,s2_2],-4,p16);
-constraint int_lin_le_reif([1,-1],[s2_2,s0_3],-7,q16); constraint bool_clause([p16,q16],[]);
-constraint int_lin_le_reif([1,-1],[s0_3,s3_0],-4,p17); constraint int_lin_le_reif([1,-1],[s3_0,s0_3],-2,q17);
-constraint bool_clause([p17,q17],[]); constraint int_lin_le_reif([1,-1],[s0_3,s4_1],-4,p18);
-constraint int_lin_le_reif([1,-1],[s4_1,s0_3],-4,q18); constraint bool_clause([p18,q18],[]);
-constraint int_lin_le_reif([1,-1],[s0_3,s5_3],-4,p19); constraint int_lin_le_reif([1,-1],[s5_3,s0_3],-4,q19);
-constraint bool_clause([p19,q19],[]); constraint int_lin_le_reif([1,-1],[s1_0,s2_0],-6,p20);
-constraint int_lin_le_reif([1,-1],[s2_0,s1_0],-1,q20); constraint bool_clause([p20,q20],[]);
-constraint int_lin_le_reif([1,-1],[s1_0,s3_3],-6,p21); constraint int_lin_le_reif([1,-1],[s3_3,s1_0],-3,q21);
-constraint bool_clause([p21,q21],[]); constraint int_lin_le_reif([1,-1],[s1_0,s4_3],-6,p22);
-constraint int_lin_le_reif([1,-1],[s4_3,s1_0],-3,q22); constraint bool_clause([p22,q22],[]);
-constraint int_lin_le_reif([1,-1],[s1_0,s5_2],-6,p23); constraint int_lin_le_reif([1,-1],[s5_2,s1_0],-3,q23);
-constraint bool_clause([p23,q23],[]); constraint int_lin_le_reif([1,-1],[s1_1,s2_2],-8,p24);
-constraint int_lin_le_reif([1,-1],[s2_2,s1_1],-7,q24); constraint bool_clause([p24,q24],[]);
-constraint int_lin_le_reif([1,-1],[s1_1,s3_0],-8,p25); constraint int_lin_le_reif([1,-1],[s3_0,s1_1],-2,q25);
-constraint bool_clause([p25,q25],[]); constraint int_lin_le_reif([1,-1],[s1_1,s4_1],-8,p26);
-constraint int_lin_le_reif([1,-1],[s4_1,s1_1],-4,q26); constraint bool_clause([p26,q26],[]);
-constraint int_lin_le_reif([1,-1],[s1_1,s5_3],-8,p27); constraint int_lin_le_reif([1,-1],[s5_3,s1_1],-4,q27);
-constraint bool_clause([p27,q27],[]); constraint int_lin_le_reif([1,-1],[s1_2,s2_1],-4,p28);
-constraint int_lin_le_reif([1,-1],[s2_1,s1_2],-4,q28); constraint bool_clause([p28,q28],[]);
-constraint int_lin_le_reif([1,-1],[s1_2,s3_2],-4,p29); constraint int_lin_le_reif([1,-1],[s3_2,s1_2],-8,q29);
-constraint bool_clause([p29,q29],[]); constraint int_lin_le_reif([1,-1],[s1_2,s4_0],-4,p30);
-constraint int_lin_le_reif([1,-1],[s4_0,s1_2],-4,q30); constraint bool_clause([p30,q30],[]);
-constraint int_lin_le_reif([1,-1],[s1_2,s5_0],-4,p31); constraint int_lin_le_reif([1,-1],[s5_0,s1_2],-9,q31);
-constraint bool_clause([p31,q31],[]); constraint int_lin_le_reif([1,-1],[s1_3,s2_3],-7,p32);
-constraint int_lin_le_reif([1,-1],[s2_3,s1_3],-5,q32); constraint bool_clause([p32,q32],[]);
-constraint int_lin_le_reif([1,-1],[s1_3,s3_1],-7,p33); constraint int_lin_le_reif([1,-1],[s3_1,s1_3],-3,q33);
-constraint bool_clause([p33,q33],[]); constraint int_lin_le_reif([1,-1],[s1_3,s4_2],-7,p34);
-constraint int_lin_le_reif([1,-1],[s4_2,s1_3],-3,q34); constraint bool_clause([p34,q34],[]);
-constraint int_lin_le_reif([1,-1],[s1_3,s5_1],-7,p35); constraint int_lin_le_reif([1,-1],[s5_1,s1_3],-4,q35);
-constraint bool_clause([p35,q35],[]); constraint int_lin_le_reif([1,-1],[s2_0,s3_3],-1,p36);
-constraint int_lin_le_reif([1,-1],[s3_3,s2_0],-3,q36); constraint bool_clause([p36,q36],[]);
-constraint int_lin_le_reif([1,-1],[s2_0,s4_3],-1,p37); constraint int_lin_le_reif([1,-1],[s4_3,s2_0],-3,q37);
-constraint bool_clause([p37,q37],[]); constraint int_lin_le_reif([1,-1],[s2_0,s5_2],-1,p38);
-constraint int_lin_le_reif([1,-1],[s5_2,s2_0],-3,q38); constraint bool_clause([p38,q38],[]);
-constraint int_lin_le_reif([1,-1],[s2_1,s3_2],-4,p39); constraint int_lin_le_reif([1,-1],[s3_2,s2_1],-8,q39);
-constraint bool_clause([p39,q39],[]); constraint int_lin_le_reif([1,-1],[s2_1,s4_0],-4,p40);
-constraint int_lin_le_reif([1,-1],[s4_0,s2_1],-4,q40); constraint bool_clause([p40,q40],[]);
-constraint int_lin_le_reif([1,-1],[s2_1,s5_0],-4,p41); constraint int_lin_le_reif([1,-1],[s5_0,s2_1],-9,q41);
-constraint bool_clause([p41,q41],[]); constraint int_lin_le_reif([1,-1],[s2_2,s3_0],-7,p42);
-constraint int_lin_le_reif([1,-1],[s3_0,s2_2],-2,q42); constraint bool_clause([p42,q42],[]);
-constraint int_lin_le_reif([1,-1],[s2_2,s4_1],-7,p43); constraint int_lin_le_reif([1,-1],[s4_1,s2_2],-4,q43);
-constraint bool_clause([p43,q43],[]); constraint int_lin_le_reif([1,-1],[s2_2,s5_3],-7,p44);
-constraint int_lin_le_reif([1,-1],[s5_3,s2_2],-4,q44); constraint bool_clause([p44,q44],[]);
-constraint int_lin_le_reif([1,-1],[s2_3,s3_1],-5,p45); constraint int_lin_le_reif([1,-1],[s3_1,s2_3],-3,q45);
-constraint bool_clause([p45,q45],[]); constraint int_lin_le_reif([1,-1],[s2_3,s4_2],-5,p46);
-constraint int_lin_le_reif([1,-1],[s4_2,s2_3],-3,q46); constraint bool_clause([p46,q46],[]);
-constraint int_lin_le_reif([1,-1],[s2_3,s5_1],-5,p47); constraint int_lin_le_reif([1,-1],[s5_1,s2_3],-4,q47);
-constraint bool_clause([p47,q47],[]); constraint int_lin_le_reif([1,-1],[s3_0,s4_1],-2,p48);
-constraint int_lin_le_reif([1,-1],[s4_1,s3_0],-4,q48); constraint bool_clause([p48,q48],[]);
-constraint int_lin_le_reif([1,-1],[s3_0,s5_3],-2,p49); constraint int_lin_le_reif([1,-1],[s5_3,s3_0],-4,q49);
-constraint bool_clause([p49,q49],[]); constraint int_lin_le_reif([1,-1],[s3_1,s4_2],-3,p50);
-constraint int_lin_le_reif([1,-1],[s4_2,s3_1],-3,q50); constraint bool_clause([p50,q50],[]);
-constraint int_lin_le_reif([1,-1],[s3_1,s5_1],-3,p51); constraint int_lin_le_reif([1,-1],[s5_1,s3_1],-4,q51);
-constraint bool_clause([p51,q51],[]); constraint int_lin_le_reif([1,-1],[s3_2,s4_0],-8,p52);
-constraint int_lin_le_reif([1,-1],[s4_0,s3_2],-4,q52); constraint bool_clause([p52,q52],[]);
-constraint int_lin_le_reif([1,-1],[s3_2,s5_0],-8,p53); constraint int_lin_le_reif([1,-1],[s5_0,s3_2],-9,q53);
-constraint bool_clause([p53,q53],[]); constraint int_lin_le_reif([1,-1],[s3_3,s4_3],-3,p54);
-constraint int_lin_le_reif([1,-1],[s4_3,s3_3],-3,q54); constraint bool_clause([p54,q54],[]);
-constraint int_lin_le_reif([1,-1],[s3_3,s5_2],-3,p55); constraint int_lin_le_reif([1,-1],[s5_2,s3_3],-3,q55);
-constraint bool_clause([p55,q55],[]); constraint int_lin_le_reif([1,-1],[s4_0,s5_0],-4,p56);
-constraint int_lin_le_reif([1,-1],[s5_0,s4_0],-9,q56); constraint bool_clause([p56,q56],[]);
-constraint int_lin_le_reif([1,-1],[s4_1,s5_3],-4,p57); constraint int_lin_le_reif([1,-1],[s5_3,s4_1],-4,q57);
-constraint bool_clause([p57,q57],[]); constraint int_lin_le_reif([1,-1],[s4_2,s5_1],-3,p58);
-constraint int_lin_le_reif([1,-1],[s5_1,s4_2],-4,q58); constraint bool_clause([p58,q58],[]);
-constraint int_lin_le_reif([1,-1],[s4_3,s5_2],-3,p59); constraint int_lin_le_reif([1,-1],[s5_2,s4_3],-3,q59);
-constraint bool_clause([p59,q59],[]); solve satisfy;";
+/// Five pigeons in four holes, no two in one.
+pub(crate) const PIGEONS: &str =
+    "var 1..4: x0; var 1..4: x1; var 1..4: x2; var 1..4: x3; var 1..4: x4;
+constraint int_ne(x1,x0); constraint int_ne(x2,x0); constraint int_ne(x2,x1); constraint int_ne(x3,x0); constraint int_ne(x3,x1);
+constraint int_ne(x3,x2); constraint int_ne(x4,x0); constraint int_ne(x4,x1); constraint int_ne(x4,x2); constraint int_ne(x4,x3); solve satisfy;";
 
-/// The same with four units more, which suffice.
-pub(crate) const WIDER_SHOP: &str =
-    "var 0..32: s0_0; var 0..40: s0_1; var 0..33: s0_2; var 0..37: s0_3; var 0..35: s1_0; var 0..33: s1_1; var 0..37: s1_2;
-var 0..34: s1_3; var 0..40: s2_0; var 0..37: s2_1; var 0..34: s2_2; var 0..36: s2_3; var 0..39: s3_0; var 0..38: s3_1;
-var 0..33: s3_2; var 0..38: s3_3; var 0..37: s4_0; var 0..37: s4_1; var 0..38: s4_2; var 0..38: s4_3; var 0..32: s5_0;
-var 0..37: s5_1; var 0..38: s5_2; var 0..37: s5_3; var bool: p0; var bool: q0; var bool: p1; var bool: q1;
-var bool: p2; var bool: q2; var bool: p3; var bool: q3; var bool: p4; var bool: q4; var bool: p5; var bool: q5;
-var bool: p6; var bool: q6; var bool: p7; var bool: q7; var bool: p8; var bool: q8; var bool: p9; var bool: q9;
-var bool: p10; var bool: q10; var bool: p11; var bool: q11; var bool: p12; var bool: q12; var bool: p13; var bool: q13;
-var bool: p14; var bool: q14; var bool: p15; var bool: q15; var bool: p16; var bool: q16; var bool: p17; var bool: q17;
-var bool: p18; var bool: q18; var bool: p19; var bool: q19; var bool: p20; var bool: q20; var bool: p21; var bool: q21;
-var bool: p22; var bool: q22; var bool: p23; var bool: q23; var bool: p24; var bool: q24; var bool: p25; var bool: q25;
-var bool: p26; var bool: q26; var bool: p27; var bool: q27; var bool: p28; var bool: q28; var bool: p29; var bool: q29;
-var bool: p30; var bool: q30; var bool: p31; var bool: q31; var bool: p32; var bool: q32; var bool: p33; var bool: q33;
-var bool: p34; var bool: q34; var bool: p35; var bool: q35; var bool: p36; var bool: q36; var bool: p37; var bool: q37;
-var bool: p38; var bool: q38; var bool: p39; var bool: q39; var bool: p40; var bool: q40; var bool: p41; var bool: q41;
-var bool: p42; var bool: q42; var bool: p43; var bool: q43; var bool: p44; var bool: q44; var bool: p45; var bool: q45;
-var bool: p46; var bool: q46; var bool: p47; var bool: q47; var bool: p48; var bool: q48; var bool: p49; var bool: q49;
-var bool: p50; var bool: q50; var bool: p51; var bool: q51; var bool: p52; var bool: q52; var bool: p53; var bool: q53;
-var bool: p54; var bool: q54; var bool: p55; var bool: q55; var bool: p56; var bool: q56; var bool: p57; var bool: q57;
-var bool: p58; var bool: q58; var bool: p59; var bool: q59; constraint int_lin_le([1,-1],[s0_0,s0_1],-9);
-constraint int_lin_le([1,-1],[s0_1,s0_2],-1); constraint int_lin_le([1,-1],[s0_2,s0_3],-8);
-constraint int_lin_le([1,-1],[s1_0,s1_1],-6); constraint int_lin_le([1,-1],[s1_1,s1_2],-8);
-constraint int_lin_le([1,-1],[s1_2,s1_3],-4); constraint int_lin_le([1,-1],[s2_0,s2_1],-1);
-constraint int_lin_le([1,-1],[s2_1,s2_2],-4); constraint int_lin_le([1,-1],[s2_2,s2_3],-7);
-constraint int_lin_le([1,-1],[s3_0,s3_1],-2); constraint int_lin_le([1,-1],[s3_1,s3_2],-3);
-constraint int_lin_le([1,-1],[s3_2,s3_3],-8); constraint int_lin_le([1,-1],[s4_0,s4_1],-4);
-constraint int_lin_le([1,-1],[s4_1,s4_2],-4); constraint int_lin_le([1,-1],[s4_2,s4_3],-3);
-constraint int_lin_le([1,-1],[s5_0,s5_1],-9); constraint int_lin_le([1,-1],[s5_1,s5_2],-4);
-constraint int_lin_le([1,-1],[s5_2,s5_3],-3); constraint int_lin_le_reif([1,-1],[s0_0,s1_3],-9,p0);
-constraint int_lin_le_reif([1,-1],[s1_3,s0_0],-7,q0); constraint bool_clause([p0,q0],[]);
-constraint int_lin_le_reif([1,-1],[s0_0,s2_3],-9,p1); constraint int_lin_le_reif([1,-1],[s2_3,s0_0],-5,q1);
-constraint bool_clause([p1,q1],[]); constraint int_lin_le_reif([1,-1],[s0_0,s3_1],-9,p2);
-constraint int_lin_le_reif([1,-1],[s3_1,s0_0],-3,q2); constraint bool_clause([p2,q2],[]);
-constraint int_lin_le_reif([1,-1],[s0_0,s4_2],-9,p3); constraint int_lin_le_reif([1,-1],[s4_2,s0_0],-3,q3);
-constraint bool_clause([p3,q3],[]); constraint int_lin_le_reif([1,-1],[s0_0,s5_1],-9,p4);
-constraint int_lin_le_reif([1,-1],[s5_1,s0_0],-4,q4); constraint bool_clause([p4,q4],[]);
-constraint int_lin_le_reif([1,-1],[s0_1,s1_0],-1,p5); constraint int_lin_le_reif([1,-1],[s1_0,s0_1],-6,q5);
-constraint bool_clause([p5,q5],[]); constraint int_lin_le_reif([1,-1],[s0_1,s2_0],-1,p6);
-constraint int_lin_le_reif([1,-1],[s2_0,s0_1],-1,q6); constraint bool_clause([p6,q6],[]);
-constraint int_lin_le_reif([1,-1],[s0_1,s3_3],-1,p7); constraint int_lin_le_reif([1,-1],[s3_3,s0_1],-3,q7);
-constraint bool_clause([p7,q7],[]); constraint int_lin_le_reif([1,-1],[s0_1,s4_3],-1,p8);
-constraint int_lin_le_reif([1,-1],[s4_3,s0_1],-3,q8); constraint bool_clause([p8,q8],[]);
-constraint int_lin_le_reif([1,-1],[s0_1,s5_2],-1,p9); constraint int_lin_le_reif([1,-1],[s5_2,s0_1],-3,q9);
-constraint bool_clause([p9,q9],[]); constraint int_lin_le_reif([1,-1],[s0_2,s1_2],-8,p10);
-constraint int_lin_le_reif([1,-1],[s1_2,s0_2],-4,q10); constraint bool_clause([p10,q10],[]);
-constraint int_lin_le_reif([1,-1],[s0_2,s2_1],-8,p11); constraint int_lin_le_reif([1,-1],[s2_1,s0_2],-4,q11);
-constraint bool_clause([p11,q11],[]); constraint int_lin_le_reif([1,-1],[s0_2,s3_2],-8,p12);
-constraint int_lin_le_reif([1,-1],[s3_2,s0_2],-8,q12); constraint bool_clause([p12,q12],[]);
-constraint int_lin_le_reif([1,-1],[s0_2,s4_0],-8,p13); constraint int_lin_le_reif([1,-1],[s4_0,s0_2],-4,q13);
-constraint bool_clause([p13,q13],[]); constraint int_lin_le_reif([1,-1],[s0_2,s5_0],-8,p14);
-constraint int_lin_le_reif([1,-1],[s5_0,s0_2],-9,q14); constraint bool_clause([p14,q14],[]);
-constraint int_lin_le_reif([1,-1],[s0_3,s1_1],-4,p15); constraint int_lin_le_reif([1,-1],[s1_1,s0_3],-8,q15);
-constraint bool_clause([p15,q15],[]); constraint int_lin_le_reif([1,-1],[s0_3,s2_2],-4,p16);
-constraint int_lin_le_reif([1,-1],[s2_2,s0_3],-7,q16); constraint bool_clause([p16,q16],[]);
-constraint int_lin_le_reif([1,-1],[s0_3,s3_0],-4,p17); constraint int_lin_le_reif([1,-1],[s3_0,s0_3],-2,q17);
-constraint bool_clause([p17,q17],[]); constraint int_lin_le_reif([1,-1],[s0_3,s4_1],-4,p18);
-constraint int_lin_le_reif([1,-1],[s4_1,s0_3],-4,q18); constraint bool_clause([p18,q18],[]);
-constraint int_lin_le_reif([1,-1],[s0_3,s5_3],-4,p19); constraint int_lin_le_reif([1,-1],[s5_3,s0_3],-4,q19);
-constraint bool_clause([p19,q19],[]); constraint int_lin_le_reif([1,-1],[s1_0,s2_0],-6,p20);
-constraint int_lin_le_reif([1,-1],[s2_0,s1_0],-1,q20); constraint bool_clause([p20,q20],[]);
-constraint int_lin_le_reif([1,-1],[s1_0,s3_3],-6,p21); constraint int_lin_le_reif([1,-1],[s3_3,s1_0],-3,q21);
-constraint bool_clause([p21,q21],[]); constraint int_lin_le_reif([1,-1],[s1_0,s4_3],-6,p22);
-constraint int_lin_le_reif([1,-1],[s4_3,s1_0],-3,q22); constraint bool_clause([p22,q22],[]);
-constraint int_lin_le_reif([1,-1],[s1_0,s5_2],-6,p23); constraint int_lin_le_reif([1,-1],[s5_2,s1_0],-3,q23);
-constraint bool_clause([p23,q23],[]); constraint int_lin_le_reif([1,-1],[s1_1,s2_2],-8,p24);
-constraint int_lin_le_reif([1,-1],[s2_2,s1_1],-7,q24); constraint bool_clause([p24,q24],[]);
-constraint int_lin_le_reif([1,-1],[s1_1,s3_0],-8,p25); constraint int_lin_le_reif([1,-1],[s3_0,s1_1],-2,q25);
-constraint bool_clause([p25,q25],[]); constraint int_lin_le_reif([1,-1],[s1_1,s4_1],-8,p26);
-constraint int_lin_le_reif([1,-1],[s4_1,s1_1],-4,q26); constraint bool_clause([p26,q26],[]);
-constraint int_lin_le_reif([1,-1],[s1_1,s5_3],-8,p27); constraint int_lin_le_reif([1,-1],[s5_3,s1_1],-4,q27);
-constraint bool_clause([p27,q27],[]); constraint int_lin_le_reif([1,-1],[s1_2,s2_1],-4,p28);
-constraint int_lin_le_reif([1,-1],[s2_1,s1_2],-4,q28); constraint bool_clause([p28,q28],[]);
-constraint int_lin_le_reif([1,-1],[s1_2,s3_2],-4,p29); constraint int_lin_le_reif([1,-1],[s3_2,s1_2],-8,q29);
-constraint bool_clause([p29,q29],[]); constraint int_lin_le_reif([1,-1],[s1_2,s4_0],-4,p30);
-constraint int_lin_le_reif([1,-1],[s4_0,s1_2],-4,q30); constraint bool_clause([p30,q30],[]);
-constraint int_lin_le_reif([1,-1],[s1_2,s5_0],-4,p31); constraint int_lin_le_reif([1,-1],[s5_0,s1_2],-9,q31);
-constraint bool_clause([p31,q31],[]); constraint int_lin_le_reif([1,-1],[s1_3,s2_3],-7,p32);
-constraint int_lin_le_reif([1,-1],[s2_3,s1_3],-5,q32); constraint bool_clause([p32,q32],[]);
-constraint int_lin_le_reif([1,-1],[s1_3,s3_1],-7,p33); constraint int_lin_le_reif([1,-1],[s3_1,s1_3],-3,q33);
-constraint bool_clause([p33,q33],[]); constraint int_lin_le_reif([1,-1],[s1_3,s4_2],-7,p34);
-constraint int_lin_le_reif([1,-1],[s4_2,s1_3],-3,q34); constraint bool_clause([p34,q34],[]);
-constraint int_lin_le_reif([1,-1],[s1_3,s5_1],-7,p35); constraint int_lin_le_reif([1,-1],[s5_1,s1_3],-4,q35);
-constraint bool_clause([p35,q35],[]); constraint int_lin_le_reif([1,-1],[s2_0,s3_3],-1,p36);
-constraint int_lin_le_reif([1,-1],[s3_3,s2_0],-3,q36); constraint bool_clause([p36,q36],[]);
-constraint int_lin_le_reif([1,-1],[s2_0,s4_3],-1,p37); constraint int_lin_le_reif([1,-1],[s4_3,s2_0],-3,q37);
-constraint bool_clause([p37,q37],[]); constraint int_lin_le_reif([1,-1],[s2_0,s5_2],-1,p38);
-constraint int_lin_le_reif([1,-1],[s5_2,s2_0],-3,q38); constraint bool_clause([p38,q38],[]);
-constraint int_lin_le_reif([1,-1],[s2_1,s3_2],-4,p39); constraint int_lin_le_reif([1,-1],[s3_2,s2_1],-8,q39);
-constraint bool_clause([p39,q39],[]); constraint int_lin_le_reif([1,-1],[s2_1,s4_0],-4,p40);
-constraint int_lin_le_reif([1,-1],[s4_0,s2_1],-4,q40); constraint bool_clause([p40,q40],[]);
-constraint int_lin_le_reif([1,-1],[s2_1,s5_0],-4,p41); constraint int_lin_le_reif([1,-1],[s5_0,s2_1],-9,q41);
-constraint bool_clause([p41,q41],[]); constraint int_lin_le_reif([1,-1],[s2_2,s3_0],-7,p42);
-constraint int_lin_le_reif([1,-1],[s3_0,s2_2],-2,q42); constraint bool_clause([p42,q42],[]);
-constraint int_lin_le_reif([1,-1],[s2_2,s4_1],-7,p43); constraint int_lin_le_reif([1,-1],[s4_1,s2_2],-4,q43);
-constraint bool_clause([p43,q43],[]); constraint int_lin_le_reif([1,-1],[s2_2,s5_3],-7,p44);
-constraint int_lin_le_reif([1,-1],[s5_3,s2_2],-4,q44); constraint bool_clause([p44,q44],[]);
-constraint int_lin_le_reif([1,-1],[s2_3,s3_1],-5,p45); constraint int_lin_le_reif([1,-1],[s3_1,s2_3],-3,q45);
-constraint bool_clause([p45,q45],[]); constraint int_lin_le_reif([1,-1],[s2_3,s4_2],-5,p46);
-constraint int_lin_le_reif([1,-1],[s4_2,s2_3],-3,q46); constraint bool_clause([p46,q46],[]);
-constraint int_lin_le_reif([1,-1],[s2_3,s5_1],-5,p47); constraint int_lin_le_reif([1,-1],[s5_1,s2_3],-4,q47);
-constraint bool_clause([p47,q47],[]); constraint int_lin_le_reif([1,-1],[s3_0,s4_1],-2,p48);
-constraint int_lin_le_reif([1,-1],[s4_1,s3_0],-4,q48); constraint bool_clause([p48,q48],[]);
-constraint int_lin_le_reif([1,-1],[s3_0,s5_3],-2,p49); constraint int_lin_le_reif([1,-1],[s5_3,s3_0],-4,q49);
-constraint bool_clause([p49,q49],[]); constraint int_lin_le_reif([1,-1],[s3_1,s4_2],-3,p50);
-constraint int_lin_le_reif([1,-1],[s4_2,s3_1],-3,q50); constraint bool_clause([p50,q50],[]);
-constraint int_lin_le_reif([1,-1],[s3_1,s5_1],-3,p51); constraint int_lin_le_reif([1,-1],[s5_1,s3_1],-4,q51);
-constraint bool_clause([p51,q51],[]); constraint int_lin_le_reif([1,-1],[s3_2,s4_0],-8,p52);
-constraint int_lin_le_reif([1,-1],[s4_0,s3_2],-4,q52); constraint bool_clause([p52,q52],[]);
-constraint int_lin_le_reif([1,-1],[s3_2,s5_0],-8,p53); constraint int_lin_le_reif([1,-1],[s5_0,s3_2],-9,q53);
-constraint bool_clause([p53,q53],[]); constraint int_lin_le_reif([1,-1],[s3_3,s4_3],-3,p54);
-constraint int_lin_le_reif([1,-1],[s4_3,s3_3],-3,q54); constraint bool_clause([p54,q54],[]);
-constraint int_lin_le_reif([1,-1],[s3_3,s5_2],-3,p55); constraint int_lin_le_reif([1,-1],[s5_2,s3_3],-3,q55);
-constraint bool_clause([p55,q55],[]); constraint int_lin_le_reif([1,-1],[s4_0,s5_0],-4,p56);
-constraint int_lin_le_reif([1,-1],[s5_0,s4_0],-9,q56); constraint bool_clause([p56,q56],[]);
-constraint int_lin_le_reif([1,-1],[s4_1,s5_3],-4,p57); constraint int_lin_le_reif([1,-1],[s5_3,s4_1],-4,q57);
-constraint bool_clause([p57,q57],[]); constraint int_lin_le_reif([1,-1],[s4_2,s5_1],-3,p58);
-constraint int_lin_le_reif([1,-1],[s5_1,s4_2],-4,q58); constraint bool_clause([p58,q58],[]);
-constraint int_lin_le_reif([1,-1],[s4_3,s5_2],-3,p59); constraint int_lin_le_reif([1,-1],[s5_2,s4_3],-3,q59);
-constraint bool_clause([p59,q59],[]); solve satisfy;";
+/// Eight terms that a sum has room for, and behind them three that it has none for.
+pub(crate) const SLACK: &str =
+    "var 0..1: f0; var 0..1: f1; var 0..1: f2; var 0..1: f3; var 0..1: f4; var 0..1: f5; var 0..1: f6; var 0..1: f7;
+var 0..3: a; var 0..3: b; var 0..3: c; constraint int_lin_le([1,1,1,1,1,1,1,1,20,20,20],[f0,f1,f2,f3,f4,f5,f6,f7,a,b,c],110);
+constraint int_lin_le([-1,-1],[a,b],-4); constraint int_lin_le([-1,-1],[b,c],-4); constraint int_lin_le([-1,-1],[a,c],-4); solve satisfy;";
+
+/// Eight free Booleans, and behind them three that clauses leave no value.
+pub(crate) const CLAUSES: &str =
+    "var bool: f0; var bool: f1; var bool: f2; var bool: f3; var bool: f4; var bool: f5; var bool: f6; var bool: f7;
+var bool: p; var bool: q; var bool: r; constraint bool_clause([p,q],[]); constraint bool_clause([p],[q]); constraint bool_clause([q],[p]);
+constraint bool_clause([r],[p,q]); constraint bool_clause([],[p,q,r]); solve satisfy;";
+
+/// Eight free Booleans, and behind them two lists of which no place has the sum that is asked for.
+pub(crate) const ELEMENTS: &str =
+    "var bool: f0; var bool: f1; var bool: f2; var bool: f3; var bool: f4; var bool: f5; var bool: f6; var bool: f7;
+var 1..4: x; var 1..9: a; var 1..9: b; constraint array_int_element(x,[1,5,9,3],a); constraint array_int_element(x,[2,8,1,6],b);
+constraint int_lin_eq([1,1],[a,b],7); solve satisfy;";
+
+/// Eight free Booleans, and behind them two factors of a sum, and a product that they can't have.
+pub(crate) const PRODUCTS: &str =
+    "var bool: f0; var bool: f1; var bool: f2; var bool: f3; var bool: f4; var bool: f5; var bool: f6; var bool: f7;
+var 2..9: x; var 2..9: y; var 4..81: z; constraint int_times(x,y,z); constraint int_lin_eq([1,1],[x,y],11);
+constraint set_in(z,{19,21,23,25,26,27,29}); solve satisfy;";
+
+/// Eight free Booleans, and behind them the greatest and the least of two numbers of an odd sum, in an even distance.
+pub(crate) const EXTREMES: &str =
+    "var bool: f0; var bool: f1; var bool: f2; var bool: f3; var bool: f4; var bool: f5; var bool: f6; var bool: f7;
+var 0..9: x; var 0..9: y; var 0..9: m; var 0..9: n; constraint int_max(x,y,m); constraint int_min(x,y,n); constraint int_lin_eq([1,1],[x,y],9);
+constraint int_lin_eq([1,-1],[m,n],4); solve satisfy;";
+
+/// Eight free Booleans, and behind them six numbers, no two alike, in two sums that are too small.
+pub(crate) const DIFFERENT: &str =
+    "var bool: f0; var bool: f1; var bool: f2; var bool: f3; var bool: f4; var bool: f5; var bool: f6; var bool: f7;
+var 1..6: a; var 1..6: b; var 1..6: c; var 1..6: d; var 1..6: e; var 1..6: f; constraint pccp_all_different([a,b,c,d,e,f]);
+constraint int_lin_le([1,1,1],[a,b,c],9); constraint int_lin_le([1,1,1],[d,e,f],11); solve satisfy;";
+
+/// Eight free Booleans, and behind them five tasks in less time than they take, two at once.
+pub(crate) const CROWDED: &str =
+    "var bool: f0; var bool: f1; var bool: f2; var bool: f3; var bool: f4; var bool: f5; var bool: f6; var bool: f7;
+var 0..3: a; var 0..3: b; var 0..3: c; var 0..3: d; var 0..3: e; constraint pccp_cumulative([a,b,c,d,e],[3,3,3,3,3],[2,2,2,2,2],4);
+solve satisfy;";
+
+/// Eight free Booleans, and behind them four tasks on one machine, in one unit of time too few.
+pub(crate) const MACHINE: &str =
+    "var bool: f0; var bool: f1; var bool: f2; var bool: f3; var bool: f4; var bool: f5; var bool: f6; var bool: f7;
+var 0..10: s0; var 0..9: s1; var 0..8: s2; var 0..11: s3; var bool: p0; var bool: q0; var bool: p1; var bool: q1; var bool: p2; var bool: q2;
+var bool: p3; var bool: q3; var bool: p4; var bool: q4; var bool: p5; var bool: q5;
+constraint int_lin_le_reif([1,-1],[s0,s1],-3,p0); constraint int_lin_le_reif([1,-1],[s1,s0],-4,q0);
+constraint bool_clause([p0,q0],[]);
+constraint int_lin_le_reif([1,-1],[s0,s2],-3,p1); constraint int_lin_le_reif([1,-1],[s2,s0],-5,q1);
+constraint bool_clause([p1,q1],[]);
+constraint int_lin_le_reif([1,-1],[s0,s3],-3,p2); constraint int_lin_le_reif([1,-1],[s3,s0],-2,q2);
+constraint bool_clause([p2,q2],[]);
+constraint int_lin_le_reif([1,-1],[s1,s2],-4,p3); constraint int_lin_le_reif([1,-1],[s2,s1],-5,q3);
+constraint bool_clause([p3,q3],[]);
+constraint int_lin_le_reif([1,-1],[s1,s3],-4,p4); constraint int_lin_le_reif([1,-1],[s3,s1],-2,q4);
+constraint bool_clause([p4,q4],[]);
+constraint int_lin_le_reif([1,-1],[s2,s3],-5,p5); constraint int_lin_le_reif([1,-1],[s3,s2],-2,q5);
+constraint bool_clause([p5,q5],[]); solve satisfy;";
+
+/// The same with one unit of time more, which suffices.
+pub(crate) const WIDER_MACHINE: &str =
+    "var bool: f0; var bool: f1; var bool: f2; var bool: f3; var bool: f4; var bool: f5; var bool: f6; var bool: f7;
+var 0..11: s0; var 0..10: s1; var 0..9: s2; var 0..12: s3; var bool: p0; var bool: q0; var bool: p1; var bool: q1; var bool: p2; var bool: q2;
+var bool: p3; var bool: q3; var bool: p4; var bool: q4; var bool: p5; var bool: q5;
+constraint int_lin_le_reif([1,-1],[s0,s1],-3,p0); constraint int_lin_le_reif([1,-1],[s1,s0],-4,q0);
+constraint bool_clause([p0,q0],[]);
+constraint int_lin_le_reif([1,-1],[s0,s2],-3,p1); constraint int_lin_le_reif([1,-1],[s2,s0],-5,q1);
+constraint bool_clause([p1,q1],[]);
+constraint int_lin_le_reif([1,-1],[s0,s3],-3,p2); constraint int_lin_le_reif([1,-1],[s3,s0],-2,q2);
+constraint bool_clause([p2,q2],[]);
+constraint int_lin_le_reif([1,-1],[s1,s2],-4,p3); constraint int_lin_le_reif([1,-1],[s2,s1],-5,q3);
+constraint bool_clause([p3,q3],[]);
+constraint int_lin_le_reif([1,-1],[s1,s3],-4,p4); constraint int_lin_le_reif([1,-1],[s3,s1],-2,q4);
+constraint bool_clause([p4,q4],[]);
+constraint int_lin_le_reif([1,-1],[s2,s3],-5,p5); constraint int_lin_le_reif([1,-1],[s3,s2],-2,q5);
+constraint bool_clause([p5,q5],[]); solve satisfy;";

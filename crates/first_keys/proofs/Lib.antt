@@ -1,0 +1,5 @@
+pub mod BoxLaws
+pub mod HalfLaws
+pub mod KeyLaws
+pub mod LeastLaws
+pub mod StepLaws

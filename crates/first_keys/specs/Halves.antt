@@ -1,0 +1,21 @@
+-- How the numbers are parted that a key's variable may have.
+use Rattle.std.specs.Prelude.{◌⊎◌, ℤ, ◌≤ℤ◌, Bool, cond}
+use Rattle.interval.specs.Limits.{IsBound}
+use Rattle.first_keys.specs.declared.halves.Halves.{Halves}
+
+-- the best of the numbers from low to high
+abbrev pub best_of : Bool → ℤ → ℤ → ℤ
+best_of upper_first low high = cond upper_first high low
+
+-- the ranges lie in the one from low to high, and each of its numbers is in one of them
+pub record AreHalves (low high : ℤ) (halves : Halves) : Type 0 where
+  pub better_low : IsBound halves.better_low
+  pub better_high : IsBound halves.better_high
+  pub rest_low : IsBound halves.rest_low
+  pub rest_high : IsBound halves.rest_high
+  pub better_from : low ≤ℤ halves.better_low
+  pub better_to : halves.better_high ≤ℤ high
+  pub rest_from : low ≤ℤ halves.rest_low
+  pub rest_to : halves.rest_high ≤ℤ high
+  pub each : (z : ℤ) → low ≤ℤ z → z ≤ℤ high →
+      ((halves.better_low ≤ℤ z) × (z ≤ℤ halves.better_high)) ⊎ ((halves.rest_low ≤ℤ z) × (z ≤ℤ halves.rest_high))

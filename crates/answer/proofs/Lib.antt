@@ -30,3 +30,4 @@ pub mod OneResults
 pub mod AskedAlike
 pub mod OneLimited
 pub mod JoinsLaws
+pub mod RacedLaws

@@ -17,3 +17,4 @@ pub mod Fronts
 pub mod Laws
 pub mod Settled
 pub mod Joins
+pub mod Raced

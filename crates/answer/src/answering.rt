@@ -18,10 +18,12 @@ use crate::collecting::{all_of, first_of, is_any_spent, is_open, list_of_one};
 use crate::first_job::first_ends;
 use crate::laws::law_best_is_first;
 use crate::least_job::least_ends;
+use crate::marks::{mark_of, second_mark};
 use crate::objective::{best_of, cut_to_value};
 use crate::options::Options;
 use crate::parts::parts_of;
 use crate::plan::Plan;
+use crate::raced::{is_raced, raced_answer};
 use crate::settled::is_settled;
 use branching::{law_every_list, law_one_list};
 use constraint_model::{FznModel, Goal};
@@ -38,18 +40,6 @@ use std::alloc::Global;
 use std::thread::Threads;
 use subproblems::{law_cuts, law_paths};
 use tree_parts::law_whole_of_parts;
-
-/// The mark behind some solutions: `whole` is that of a search that no limit stopped.
-fn mark_of(is_spent: bool, given: &ListOf<ListOf<i64>>, whole: Mark) -> Mark
-    ensures { result ≡ mark_for is_spent given.now whole }
-{
-    match (is_spent, given.is_empty()) {
-        (true, true) => Mark::Unknown,
-        (true, false) => Mark::Plain,
-        (false, true) => Mark::Unsatisfiable,
-        (false, false) => whole,
-    }
-}
 
 /// The first solution.
 fn first_answer<R: Threads + Sync, C: Gate + Sync, L: Gate + Sync>(
@@ -134,18 +124,6 @@ fn or_best(first: Option<ListOf<i64>>, best: ListOf<i64>) -> Option<ListOf<i64>>
     match first {
         Some(values) => Some(values),
         None => Some(best),
-    }
-}
-
-/// The mark of the second phase.
-fn second_mark(open_part: bool) -> Mark
-    ensures open_part { OnTrue open_part (result ≡ Mark.Plain) }
-    ensures none_open { OnFalse open_part (result ≡ Mark.Complete) }
-{
-    if open_part {
-        Mark::Plain
-    } else {
-        Mark::Complete
     }
 }
 
@@ -281,6 +259,9 @@ fn answer_of<R: Threads + Sync, C: Gate + Sync, L: Gate + Sync>(
     requires crew { IsCrewFor options crew.old }
     ensures { IfOk result (IsGiven run.now.model.now options) }
 {
+    if is_raced(run, options) {
+        return raced_answer(rt, alloc, run, options);
+    }
     match run.model.goal {
         Goal::Satisfy => {
             if options.all {

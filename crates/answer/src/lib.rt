@@ -15,10 +15,12 @@ mod collecting;
 mod first_job;
 mod laws;
 mod least_job;
+mod marks;
 mod objective;
 mod options;
 mod parts;
 mod plan;
+mod raced;
 mod settled;
 
 pub use answering::{Gates, answer};

@@ -2,25 +2,13 @@
 
 ghost use Rattle.std.specs.Prelude.{◌≡◌};
 ghost use Rattle.std.specs.Bool.{OnTrue, OnFalse};
-ghost use Rattle.solution_lists.specs.Static.{IsStaticSearch};
 ghost use Rattle.answer.specs.Parts.{whole_tree};
 ghost use Rattle.answer.specs.Settled.{IsSettled};
 
 use crate::options::Options;
-use constraint_model::{FznModel, VarSel};
+use constraint_model::FznModel;
+use first_keys::is_static;
 use tree_cover::Part;
-
-/// Whether each phase takes its variables as they are listed, so that the order of the solutions doesn't depend on the bounds.
-fn is_static(model: &FznModel) -> bool
-    ensures as_they_stand { OnTrue result (IsStaticSearch model.now) }
-    ensures by_bounds { OnFalse result (IsStaticSearch model.now → ⊥) }
-{
-    model
-        .search
-        .as_slice()
-        .iter()
-        .all(|phase| phase.var_sel == VarSel::InputOrder)
-}
 
 /// Whether the one part is the whole tree.
 fn is_whole(parts: &[Part]) -> bool

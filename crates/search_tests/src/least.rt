@@ -125,7 +125,7 @@ fn assert_ends<R: Abort + Threads + Sync, M: OfModel>(
 }
 
 /// Whether the model has an objective.
-pub(crate) fn has_objective(goal: Goal) -> bool
+fn has_objective(goal: Goal) -> bool
     ensures { OnTrue result (goal ≢ Satisfy) }
 {
     match goal {

@@ -24,5 +24,3 @@ mod paths;
 mod posts;
 #[cfg(test)]
 mod searches;
-#[cfg(test)]
-mod turns;

@@ -84,7 +84,7 @@ fn first_of<R: Threads + Sync>(
 }
 
 /// Searches for the first solution, where nobody else does. With it comes what was posted.
-pub(crate) fn first<R: Threads + Sync>(
+fn first<R: Threads + Sync>(
     rt: &R,
     alloc: Global,
     text: &str,

@@ -90,7 +90,11 @@ fn run_rounds(
     'rounds: loop {
         rounds += 1;
         match run_round(up, kernels, masks, b, sets) {
-            Progress::Still => return Ok(Limited::Fixed { rounds }),
+            Progress::Still => {
+                // it is empty already, and now its sweeps pass over all of it at once
+                sets.asked.clear();
+                return Ok(Limited::Fixed { rounds });
+            }
             Progress::Moved => {}
             Progress::Crossed => {
                 sets.asked.clear();

@@ -1,13 +1,14 @@
 -- Sets of kernels as bits of words, one more than whole words of bits.
-use Rattle.std.proofs.Common.{◌≡◌, ◌≢◌, ℕ, ◌+◌, ◌-◌, ◌*◌, ◌/◌, ◌%◌, ◌^◌, ◌<◌, ◌≤◌, ◌==◌, Bool, true, false, ◌||◌, ◌&&◌, List, [], ◌∷◌, length, get_or, set, take, min, replicate, bit_and, bit_or, w32, refl, sym, ◌∙◌, ap, subst, ⊎_elim, arith}
+use Rattle.std.proofs.Common.{◌≡◌, ◌≢◌, ℕ, ◌+◌, ◌-◌, ◌*◌, ◌/◌, ◌%◌, ◌^◌, ◌<◌, ◌≤◌, ◌==◌, Bool, true, false, ◌||◌, ◌&&◌, List, [], ◌∷◌, length, get_or, set, take, min, replicate, bit_and, bit_or, w32, inl, inr, refl, sym, ◌∙◌, ap, subst, ⊎_elim, arith}
 use Rattle.std.specs.Int.{bit_at}
 use Rattle.std.specs.List.{list_any}
 use Rattle.std.proofs.lemmas.List.Folds.{list_any-append}
-use Rattle.std.proofs.lemmas.Bool.{cases_eq}
+use Rattle.std.proofs.lemmas.Bool.{true≢false, cases_eq, cases_Bool}
 use Rattle.std.proofs.lemmas.Bool.Decides.{Decides-eqb, nat_tests}
 use Rattle.std.proofs.lemmas.List.{length-set, length-replicate, get_or-set_same, get_or-set_other, get_or-replicate, take_more}
 use Rattle.std.proofs.lemmas.Nat.Bits.{bit_at_clear_same, bit_at_clear_other, bit_at_and, bit_at-lt}
 use Rattle.moved_set.specs.Words.{has_bit, has, set_of, hits, names}
+use Rattle.moved_set.specs.Pages.{AreMarked}
 use Rattle.moved_set.specs.Asked.{IsFirst, IsLast, IsUnited, IsUnitedIn}
 use Rattle.moved_set.specs.declared.mask.Mask.{Mask}
 use Rattle.moved_set.proofs.SetLaws.{length-set_of, set_of_at, set_of_is, has_bit-or}
@@ -206,3 +207,38 @@ and_move false a b = refl
 
 pub both_same : (a b c d : Bool) → a ≡ c → b ≡ d → (a && b) ≡ (c && d)
 both_same a b c d e f = ap (λ (t : Bool). t && b) e ∙ ap (λ (t : Bool). c && t) f
+
+-- ---- pages
+
+pub marked_lent : (words lent : List ℕ) (pages lent_pages : List Bool) (count to : ℕ) → lent ≡ words → lent_pages ≡ pages → to ≤ count
+    → AreMarked words pages count → AreMarked lent lent_pages to
+marked_lent words lent pages lent_pages count to words_are pages_are within marked j h e =
+    ap (λ (ps : List Bool). get_or ps (j / 2048) true) pages_are ∙ marked j (omega arith) (sym (ap (λ (ws : List ℕ). has ws j) words_are) ∙ e)
+
+-- a number less leaves no page unmarked
+pub had_before : (words : List ℕ) (count v word j : ℕ) → v < count → v / 32 < length words → word ≡ get_or words (v / 32) 0 → j < count
+    → has (set words (v / 32) (bit_and word (2 ^ 32 - 1 - 1 * 2 ^ (v % 32) % 2 ^ 32))) j ≡ true → has words j ≡ true
+had_before words count v word j h there word_is within e =
+    let new : List ℕ = set words (v / 32) (bit_and (get_or words (v / 32) 0) (2 ^ 32 - 1 - 1 * 2 ^ (v % 32) % 2 ^ 32)) in
+    let as_new : has new j ≡ true = sym (ap (λ (n : ℕ). has (set words (v / 32) (bit_and n (2 ^ 32 - 1 - 1 * 2 ^ (v % 32) % 2 ^ 32))) j) word_is) ∙ e in
+    let at : get_or (set (set_of words count) v false) j false ≡ true =
+    sym (ap (λ (s : List Bool). get_or s j false) (set_of_cleared words count v h there)) ∙ set_of_at new count j within ∙ as_new in
+    let inside : v < length (set_of words count) = omega (arith, length-set_of words count) in
+    elim (cases_eq j v) [
+      | inl same ↦ absurd (true≢false (sym at ∙ ap (λ (n : ℕ). get_or (set (set_of words count) v false) n false) same ∙ get_or-set_same (set_of words count) v false false inside))
+      | inr other ↦ sym (set_of_at words count j within) ∙ sym (get_or-set_other (set_of words count) v j false false other) ∙ at
+    ]
+
+-- words of which the marked pages are cleared
+pub cleared_words : (old : List Bool) (words lent items : List ℕ) (pages lent_pages : List Bool) (count : ℕ) → set_of words count ≡ old → lent ≡ words → lent_pages ≡ pages
+    → AreMarked words pages count → ((j : ℕ) → has lent j ≡ false → has items j ≡ false) → ((j : ℕ) → get_or lent_pages (j / 2048) true ≡ true → has items j ≡ false)
+    → set_of items count ≡ replicate (length old) false
+cleared_words old words lent items pages lent_pages count is words_are pages_are marked kept cleared =
+    let same : count ≡ length old = sym (length-set_of words count) ∙ ap length is in
+    let none : (j : ℕ) → j < count → has items j ≡ false =
+    λ j h. elim (cases_Bool (has lent j)) [
+      | inl some ↦ cleared j (ap (λ (ps : List Bool). get_or ps (j / 2048) true) pages_are ∙ marked j h (sym (ap (λ (ws : List ℕ). has ws j) words_are) ∙ some))
+      | inr none ↦ kept j none
+    ] in
+    set_of_is items count (replicate count false) (length-replicate count false) (λ j h. none j h ∙ sym (get_or-replicate count j false false h))
+    ∙ ap (λ (n : ℕ). replicate n false) same

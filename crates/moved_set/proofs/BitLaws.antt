@@ -1,5 +1,5 @@
 -- Bits of words: the least and the greatest that is 1, those from one on and those up to one.
-use Rattle.std.proofs.Common.{ℕ, suc, ◌≡◌, ◌≢◌, ◌+◌, ◌-◌, ◌*◌, ◌/◌, ◌%◌, ◌^◌, ◌<◌, ◌≤◌, ◌==◌, true, false, List, get_or, bit_and, bit_or, min, inl, inr, arith, sym, ap, ◌∙◌, ⊎_elim, w32}
+use Rattle.std.proofs.Common.{ℕ, suc, ◌≡◌, ◌≢◌, ◌+◌, ◌-◌, ◌*◌, ◌/◌, ◌%◌, ◌^◌, ◌<◌, ◌≤◌, ◌==◌, true, false, List, get_or, bit_and, bit_or, min, length, inl, inr, arith, refl, sym, ap, ◌∙◌, ⊎_elim, w32}
 use Rattle.std.specs.Int.{bit_at}
 use lib.Count.{count_leading_zeros, count_trailing_zeros}
 use Rattle.std.proofs.lemmas.Bool.{true≢false, cases_lt, cases_eq}
@@ -169,4 +169,42 @@ found_last words place to bits result near after same none greatest =
       found = λ h.
           let here : result - 1 ≡ place * 32 + k = omega arith in
           ap (has words) here ∙ word_has words place k within ∙ sym (same k within before) ∙ greatest.one;
+    }
+
+-- nothing from a number to the end of its word, and nothing in the words behind it
+nothing_between : (words : List ℕ) (from bits place : ℕ) → bits ≡ 0
+    → ((k : ℕ) → k < 32 → from % 32 ≤ k → has_bit bits k ≡ has_bit (get_or words (from / 32) 0) k)
+    → ((j : ℕ) → (from / 32 + 1) * 32 ≤ j → j < place * 32 → has words j ≡ false)
+    → (j : ℕ) → from ≤ j → j < place * 32 → has words j ≡ false
+nothing_between words from bits place e same passed j above below = elim (cases_lt j ((from / 32 + 1) * 32)) [
+  | inl l ↦ none_there words (from / 32) from ((from / 32 + 1) * 32) bits (λ k h a b. same k h (omega arith)) e j above l (omega arith) (omega arith)
+  | inr g ↦ passed j (omega arith) below
+]
+
+-- the first number is in a word behind that of the number where it began
+pub first_behind : (words : List ℕ) (from count bits place result : ℕ) → from ≤ count → bits ≡ 0
+    → ((k : ℕ) → k < 32 → from % 32 ≤ k → has_bit bits k ≡ has_bit (get_or words (from / 32) 0) k)
+    → ((j : ℕ) → (from / 32 + 1) * 32 ≤ j → j < place * 32 → has words j ≡ false)
+    → from / 32 + 1 ≤ place → IsLeastAt (get_or words place 0) place count result → IsFirst (has words) from count result
+first_behind words from count bits place result le e same passed at least =
+    found_first words place from count (get_or words place 0) result le (omega arith) (nothing_between words from bits place e same passed)
+    (λ k h a. refl) (λ k h l. absurd (omega arith)) least
+
+-- and where the words of its page have none, it is in a page behind
+pub first_beyond : (words : List ℕ) (from count bits end : ℕ) (result : ℕ) → from ≤ count → length words ≡ count / 32 + 1 → bits ≡ 0
+    → ((k : ℕ) → k < 32 → from % 32 ≤ k → has_bit bits k ≡ has_bit (get_or words (from / 32) 0) k)
+    → ((j : ℕ) → (from / 32 + 1) * 32 ≤ j → j < end * 32 → has words j ≡ false)
+    → end ≡ min (from / 32 / 64 * 64 + 64) (length words)
+    → IsFirst (has words) ((from / 32 / 64 + 1) * 2048) count result → IsFirst (has words) from count result
+first_beyond words from count bits end result le len e same passed end_is first =
+    let least = first.at_least in
+    let none = nothing_between words from bits end e same passed in
+    record {
+      at_least = omega arith;
+      at_most = first.at_most;
+      passed = λ j above below. elim (cases_lt j (end * 32)) [
+        | inl l ↦ none j above l
+        | inr g ↦ first.passed j (omega arith) below
+      ];
+      found = first.found;
     }

@@ -1,6 +1,7 @@
 pub mod Sets
 pub mod Listed
 pub mod Words
+pub mod Pages
 pub mod Flat
 pub mod Building
 pub mod Consistent

@@ -3,7 +3,9 @@
 ghost use Rattle.std.specs.Prelude.{◌≡◌, ◌<◌, ◌≤◌, ◌*◌, ◌&&◌, ℕ, true, false, length, replicate, slice_set, slice_index_or, All, IfOk};
 ghost use Rattle.moved_set.specs.Asked.{IsFirst, IsLast, IsUnited, IsUnitedIn};
 
-use crate::bits::{last_bit, next_bit, unite_masks, unite_masks_in, unite_masks_in_both};
+use crate::bits::{
+    clear_pages, last_bit, mark_pages, next_bit, unite_masks, unite_masks_in, unite_masks_in_both,
+};
 use crate::mask::Mask;
 use crate::trailed_set::TrailedSet;
 use interval::NoMemory;
@@ -18,6 +20,8 @@ const MOST: usize = 281474976710656;
 pub struct AskedSet {
     // one word more than whole words of bits
     words: Vec<u32>,
+    // for each 64 words whether there may be something in them; the last words, which are fewer, have no mark
+    pages: Vec<bool>,
     count: usize,
 }
 
@@ -42,7 +46,12 @@ impl AskedSet {
             return Err(NoMemory);
         }
         let words = vec![in alloc; 0; count / 32 + 1]?;
-        Ok(AskedSet { words, count })
+        let pages = vec![in alloc; false; count / 2048]?;
+        Ok(AskedSet {
+            words,
+            pages,
+            count,
+        })
     }
 
     /// How many kernels there are, in the set or not.
@@ -52,11 +61,12 @@ impl AskedSet {
         self.count
     }
 
-    /// Takes all kernels out of the set.
+    /// Takes all kernels out of the set, in time that grows with the pages in which there was something.
     pub fn clear(&mut self)
         ensures { self.new ≡ replicate (length self.old) false }
     {
-        self.words.as_mut_slice().fill(0);
+        clear_pages(self.words.as_mut_slice(), self.pages.as_slice());
+        self.pages.as_mut_slice().fill(false);
     }
 
     /// Puts all kernels into the set.
@@ -64,6 +74,7 @@ impl AskedSet {
         ensures { self.new ≡ replicate (length self.old) true }
     {
         self.words.as_mut_slice().fill(u32::MAX);
+        self.pages.as_mut_slice().fill(true);
     }
 
     /// Takes a kernel out of the set.
@@ -80,6 +91,7 @@ impl AskedSet {
         ensures { IsUnited self.old row.now self.new }
     {
         unite_masks(self.words.as_mut_slice(), row);
+        mark_pages(self.pages.as_mut_slice(), row);
     }
 
     /// Puts those kernels of the masks into the set too that are in the other set.
@@ -89,6 +101,7 @@ impl AskedSet {
         ensures { IsUnitedIn self.old row.now (λ j. slice_index_or wanted.now.current j false) self.new }
     {
         unite_masks_in(self.words.as_mut_slice(), row, wanted.words());
+        mark_pages(self.pages.as_mut_slice(), row);
     }
 
     /// Puts those kernels of the masks into the set too that are in both other sets.
@@ -100,6 +113,7 @@ impl AskedSet {
         ensures { IsUnitedIn self.old row.now (λ j. slice_index_or one.now.current j false && slice_index_or other.now.current j false) self.new }
     {
         unite_masks_in_both(self.words.as_mut_slice(), row, one.words(), other.words());
+        mark_pages(self.pages.as_mut_slice(), row);
     }
 
     /// The first kernel of the set from `from` on, or how many kernels there are.
@@ -108,7 +122,12 @@ impl AskedSet {
         requires { from ≤ length self.now }
         ensures { IsFirst (λ j. slice_index_or self.now j false) from (length self.now) result }
     {
-        next_bit(self.words.as_slice(), from, self.count)
+        next_bit(
+            self.words.as_slice(),
+            self.pages.as_slice(),
+            from,
+            self.count,
+        )
     }
 
     /// The place behind the last kernel of the set before `to`, or 0.
@@ -117,6 +136,6 @@ impl AskedSet {
         requires { to ≤ length self.now }
         ensures { IsLast (λ j. slice_index_or self.now j false) to result }
     {
-        last_bit(self.words.as_slice(), to)
+        last_bit(self.words.as_slice(), self.pages.as_slice(), to)
     }
 }

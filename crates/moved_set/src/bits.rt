@@ -1,15 +1,22 @@
 //! Bits of words.
 
-ghost use Rattle.std.specs.Prelude.{◌≡◌, ◌≢◌, ◌<◌, ◌≤◌, ◌+◌, ◌*◌, ◌/◌, ◌||◌, ◌&&◌, ℕ, true, false, length, All};
+ghost use Rattle.std.specs.Prelude.{◌≡◌, ◌≢◌, ◌<◌, ◌≤◌, ◌+◌, ◌-◌, ◌*◌, ◌/◌, ◌||◌, ◌&&◌, ℕ, true, false, length, min, slice_index, slice_index_or, All};
 ghost use Rattle.moved_set.specs.Words.{has, has_bit, hits, names};
+ghost use Rattle.moved_set.specs.Pages.{AreMarked};
 ghost use Rattle.moved_set.specs.Asked.{IsFirst, IsLast, IsLeastAt, IsGreatestAt};
 
 use crate::mask::Mask;
 
+/// A page has so many words. A sweep passes at once over a page in which no bit is 1.
+const PAGE: usize = 64;
+
 /// The first number from `from` on whose bit is 1, or `count`.
 #[inline(always)]
-pub(crate) fn next_bit(words: &[u32], from: usize, count: usize) -> usize
+pub(crate) fn next_bit(words: &[u32], pages: &[bool], from: usize, count: usize) -> usize
     requires words { length words.now ≡ count / 32 + 1 }
+    requires pages { length pages.now ≡ count / 2048 }
+    requires marked { AreMarked words.now pages.now count }
+    requires small { count < 281474976710656 }
     requires from { from ≤ count }
     ensures { IsFirst (has words.now) from count result }
 {
@@ -18,19 +25,49 @@ pub(crate) fn next_bit(words: &[u32], from: usize, count: usize) -> usize
     if bits != 0 {
         return least_at(bits, first, count);
     }
-    for place in pass_over(words, first + 1)..words.len() {
-        let word = words[place];
-        if word != 0 {
-            return least_at(word, place, count);
+    let end = end_of_page(first / PAGE, words.len());
+    let place = first_word(words, first + 1, end);
+    if place < end {
+        return least_at(words[place], place, count);
+    }
+    if end == words.len() {
+        return count;
+    }
+    first_in_pages(words, pages, first / PAGE + 1, count)
+}
+
+/// The first number from a page on whose bit is 1, or `count`.
+#[inline(never)]
+fn first_in_pages(words: &[u32], pages: &[bool], from: usize, count: usize) -> usize
+    requires words { length words.now ≡ count / 32 + 1 }
+    requires pages { length pages.now ≡ count / 2048 }
+    requires marked { AreMarked words.now pages.now count }
+    requires small { count < 281474976710656 }
+    requires from { from ≤ length pages.now }
+    ensures { IsFirst (has words.now) (from * 2048) count result }
+{
+    for page in from..pages.len() {
+        if pages[page] {
+            let end = page * PAGE + PAGE;
+            let place = first_word(words, page * PAGE, end);
+            if place < end {
+                return least_at(words[place], place, count);
+            }
         }
+    }
+    let place = first_word(words, pages.len() * PAGE, words.len());
+    if place < words.len() {
+        return least_at(words[place], place, count);
     }
     count
 }
 
 /// The place behind the last number before `to` whose bit is 1, or 0.
 #[inline(always)]
-pub(crate) fn last_bit(words: &[u32], to: usize) -> usize
+pub(crate) fn last_bit(words: &[u32], pages: &[bool], to: usize) -> usize
     requires to { to ≤ 32 * length words.now }
+    requires pages { to ≤ 2048 * length pages.now + 2048 }
+    requires marked { AreMarked words.now pages.now to }
     requires small { to < 281474976710656 }
     ensures { IsLast (has words.now) to result }
 {
@@ -42,68 +79,144 @@ pub(crate) fn last_bit(words: &[u32], to: usize) -> usize
     if bits != 0 {
         return greatest_at(bits, last);
     }
-    let mut left = pass_back(words, last);
+    let begin = last / PAGE * PAGE;
+    let left = last_word(words, begin, last);
+    if left > begin {
+        return greatest_at(words[left - 1], left - 1);
+    }
+    if begin == 0 {
+        return 0;
+    }
+    last_in_pages(words, pages, last / PAGE)
+}
+
+/// The place behind the last number before a page whose bit is 1, or 0.
+#[inline(never)]
+fn last_in_pages(words: &[u32], pages: &[bool], to: usize) -> usize
+    requires words { to * 64 ≤ length words.now }
+    requires pages { to ≤ length pages.now }
+    requires marked { AreMarked words.now pages.now (to * 2048) }
+    requires small { to < 137438953472 }
+    ensures { IsLast (has words.now) (to * 2048) result }
+{
+    let mut left = to;
     while left > 0 {
-        let word = words[left - 1];
-        if word != 0 {
-            return greatest_at(word, left - 1);
-        }
         left -= 1;
+        if pages[left] {
+            let begin = left * PAGE;
+            let behind = last_word(words, begin, begin + PAGE);
+            if behind > begin {
+                return greatest_at(words[behind - 1], behind - 1);
+            }
+        }
     }
     0
 }
 
-/// A place from `from` on with only zeros before it: `from` itself where few words are left.
+/// The place behind the words of a page, of which the last one may have fewer.
 #[inline(always)]
-fn pass_over(words: &[u32], from: usize) -> usize
-    requires { from ≤ length words.now }
-    ensures at_least { from ≤ result }
-    ensures at_most { result ≤ length words.now }
-    ensures passed { (j : ℕ) → from * 32 ≤ j → j < result * 32 → has words.now j ≡ false }
+fn end_of_page(page: usize, words: usize) -> usize
+    requires { page < 137438953472 }
+    ensures { result ≡ min (page * 64 + 64) words }
 {
-    if words.len() - from < 8 {
-        return from;
-    }
-    pass_over_eights(words, from)
+    (page * PAGE + PAGE).min(words)
 }
 
-/// The same, at most seven words before the first word that isn't 0, or before the end.
-#[inline(never)]
-fn pass_over_eights(words: &[u32], from: usize) -> usize
-    requires { from ≤ length words.now }
+/// The first place from `from` on and before `to` with a word that isn't 0, or `to`.
+#[inline(always)]
+fn first_word(words: &[u32], from: usize, to: usize) -> usize
+    requires from { from ≤ to }
+    requires to { to ≤ length words.now }
     ensures at_least { from ≤ result }
-    ensures at_most { result ≤ length words.now }
+    ensures at_most { result ≤ to }
+    ensures passed { (j : ℕ) → from * 32 ≤ j → j < result * 32 → has words.now j ≡ false }
+    ensures found { result < to → slice_index words.now result ≢ 0 }
+{
+    for place in pass_over(words, from, to)..to {
+        if words[place] != 0 {
+            return place;
+        }
+    }
+    to
+}
+
+/// The place behind the last word before `to` and from `from` on that isn't 0, or `from`.
+#[inline(always)]
+fn last_word(words: &[u32], from: usize, to: usize) -> usize
+    requires from { from ≤ to }
+    requires to { to ≤ length words.now }
+    ensures at_least { from ≤ result }
+    ensures at_most { result ≤ to }
+    ensures passed { (j : ℕ) → result * 32 ≤ j → j < to * 32 → has words.now j ≡ false }
+    ensures found { from < result → slice_index words.now (result - 1) ≢ 0 }
+{
+    let mut left = pass_back(words, from, to);
+    while left > from {
+        if words[left - 1] != 0 {
+            return left;
+        }
+        left -= 1;
+    }
+    from
+}
+
+/// A place with only zeros before it from `from` on: `from` itself where few words are left.
+#[inline(always)]
+fn pass_over(words: &[u32], from: usize, to: usize) -> usize
+    requires from { from ≤ to }
+    requires to { to ≤ length words.now }
+    ensures at_least { from ≤ result }
+    ensures at_most { result ≤ to }
+    ensures passed { (j : ℕ) → from * 32 ≤ j → j < result * 32 → has words.now j ≡ false }
+{
+    if to - from < 8 {
+        return from;
+    }
+    pass_over_eights(words, from, to)
+}
+
+/// The same, at most seven words before the first word that isn't 0, or before `to`.
+#[inline(never)]
+fn pass_over_eights(words: &[u32], from: usize, to: usize) -> usize
+    requires from { from ≤ to }
+    requires to { to ≤ length words.now }
+    ensures at_least { from ≤ result }
+    ensures at_most { result ≤ to }
     ensures passed { (j : ℕ) → from * 32 ≤ j → j < result * 32 → has words.now j ≡ false }
 {
     let mut place = from;
-    while words.len() - place >= 8 && are_eight_zeros(words, place) {
+    while to - place >= 8 && are_eight_zeros(words, place) {
         place += 8;
     }
     place
 }
 
-/// A place up to `to` with only zeros from it to there: `to` itself where few words are before it.
+/// A place with only zeros from it up to `to`: `to` itself where few words are behind `from`.
 #[inline(always)]
-fn pass_back(words: &[u32], to: usize) -> usize
-    requires { to ≤ length words.now }
+fn pass_back(words: &[u32], from: usize, to: usize) -> usize
+    requires from { from ≤ to }
+    requires to { to ≤ length words.now }
+    ensures at_least { from ≤ result }
     ensures at_most { result ≤ to }
     ensures passed { (j : ℕ) → result * 32 ≤ j → j < to * 32 → has words.now j ≡ false }
 {
-    if to < 8 {
+    if to - from < 8 {
         return to;
     }
-    pass_back_eights(words, to)
+    pass_back_eights(words, from, to)
 }
 
-/// The same, at most seven words behind the last word that isn't 0, or behind the beginning.
+/// The same, at most seven words behind the last word that isn't 0, or behind `from`.
 #[inline(never)]
-fn pass_back_eights(words: &[u32], to: usize) -> usize
-    requires { to ≤ length words.now }
+fn pass_back_eights(words: &[u32], from: usize, to: usize) -> usize
+    requires from { from ≤ to }
+    requires to { to ≤ length words.now }
+    ensures at_least { from ≤ result }
     ensures at_most { result ≤ to }
     ensures passed { (j : ℕ) → result * 32 ≤ j → j < to * 32 → has words.now j ≡ false }
 {
     let mut place = to;
-    while place >= 8 && are_eight_zeros(words, place - 8) {
+    while place - from >= 8 && are_eight_zeros(words, place - 8) {
         place -= 8;
     }
     place
@@ -215,4 +328,54 @@ fn unite_mask(words: &mut [u32], mask: Mask)
     ensures { (j : ℕ) → has words.new j ≡ (has words.old j || hits j mask) }
 {
     words[mask.place as usize] |= mask.bits;
+}
+
+/// Marks the pages of the masks.
+#[inline(always)]
+pub(crate) fn mark_pages(pages: &mut [bool], row: &[Mask])
+    ensures kept { (p : ℕ) → slice_index_or pages.old p true ≡ true → slice_index_or pages.new p true ≡ true }
+    ensures marked { (j : ℕ) → names row.now j ≡ true → slice_index_or pages.new (j / 2048) true ≡ true }
+{
+    if pages.len() != 0 {
+        mark_each(pages, row);
+    }
+}
+
+/// The same, where there are pages that have marks.
+#[inline(never)]
+fn mark_each(pages: &mut [bool], row: &[Mask])
+    ensures kept { (p : ℕ) → slice_index_or pages.old p true ≡ true → slice_index_or pages.new p true ≡ true }
+    ensures marked { (j : ℕ) → names row.now j ≡ true → slice_index_or pages.new (j / 2048) true ≡ true }
+{
+    for mask in row {
+        let page = mask.place as usize / PAGE;
+        if page < pages.len() {
+            pages[page] = true;
+        }
+    }
+}
+
+/// Sets the words of the marked pages to 0, and those of the last page, which has no mark.
+pub(crate) fn clear_pages(words: &mut [u32], pages: &[bool])
+    requires small { length pages.now < 137438953472 }
+    ensures kept { (j : ℕ) → has words.old j ≡ false → has words.new j ≡ false }
+    ensures cleared { (j : ℕ) → slice_index_or pages.now (j / 2048) true ≡ true → has words.new j ≡ false }
+{
+    for page in 0..pages.len() {
+        if pages[page] {
+            clear_words(words, page * PAGE, page * PAGE + PAGE);
+        }
+    }
+    let end = words.len();
+    clear_words(words, pages.len() * PAGE, end);
+}
+
+/// Sets the words from one place on and before another to 0.
+fn clear_words(words: &mut [u32], from: usize, to: usize)
+    ensures kept { (j : ℕ) → has words.old j ≡ false → has words.new j ≡ false }
+    ensures cleared { (j : ℕ) → from * 32 ≤ j → j < to * 32 → has words.new j ≡ false }
+{
+    for place in from..to.min(words.len()) {
+        words[place] = 0;
+    }
 }

@@ -54,8 +54,5 @@ rounds-preserved c = record {
   turn = turns_on c.rounds.up c.rounds.rounds c.rounds.invariant.turn;
 }
 
-pub returns-in-Still-clause-empty : goal.returns-in-Still-clause-empty
-returns-in-Still-clause-empty c = (c.in-Still.ensures.round.still refl).2
-
 pub returns-in-Still-clause-resting : goal.returns-in-Still-clause-resting
 returns-in-Still-clause-resting c = rest_at_end c.args.kernels.now c.rounds.b.current _ _ _ c.in-Still.ensures.round

@@ -1,0 +1,13 @@
+use Rattle.std.proofs.Common.{◌≡◌, ◌<◌, ◌≤◌, ◌*◌, ◌-◌, ◌+◌, ◌/◌, ℕ, true, false, length, min, take, get_or}
+use Rattle.moved_set.specs.Words.{has, names}
+use Rattle.moved_set.proofs.bits.last_word.Given as goal
+
+abbrev pub invariant-loop-left : goal.invariant-loop-left
+invariant-loop-left l = record {
+  beyond : l.from ≤ l.left;
+  before : l.left ≤ l.to;
+  passed : (j : ℕ) → l.left * 32 ≤ j → j < l.to * 32 → has l.words j ≡ false;
+}
+
+abbrev pub decreases-loop-left : goal.decreases-loop-left
+decreases-loop-left l = l.left

@@ -20,6 +20,9 @@ use interval::{BoxOf, NoMemory};
 use moved_set::{AskedSet, MovedSet};
 use std::alloc::Global;
 
+/// What a visit costs of a kernel of at most three variables, and of each other one besides its variables, in units of work.
+const SHORT_VISIT: u64 = 4;
+
 /// The variables that moved since the last call, and what the rounds work with.
 #[derive(Drop)]
 pub struct MovedSets {
@@ -42,6 +45,12 @@ impl MovedSets {
             moved: MovedSet::new(alloc, count)?,
             asking: AskedSets::new(alloc, kernels)?,
         })
+    }
+
+    /// The units of work of all visits so far: a hint.
+    #[inline(always)]
+    pub fn visits(&self) -> u64 {
+        self.asking.visits
     }
 
     /// For a box of which nothing is known: all variables moved, all kernels are asked, none rests, and none that was left is kept.
@@ -100,6 +109,8 @@ pub struct AskedSets {
     pub(crate) told: Told,
     // one for each kernel
     hints: Vec<Hint>,
+    // the units of work of all visits so far: no contract speaks of them
+    visits: u64,
 }
 
 impl AskedSets {
@@ -115,6 +126,7 @@ impl AskedSets {
             rests: Rests::new(alloc, kernels)?,
             told: Told::new(alloc),
             hints: vec![in alloc; Hint::new(); kernels]?,
+            visits: 0,
         })
     }
 
@@ -156,6 +168,8 @@ impl AskedSets {
         ensures told { self.new.told.refused ≡ false → AreGathered b.now (narrowing_tells kernel.now b.now) self.new.told.tells.items }
         ensures rest { IsRest kernel.now b.now result }
     {
+        let units = kernel.var_count() as u64;
+        self.visits = self.visits.saturating_add(units);
         if place < self.hints.len() {
             self.told.gather(kernel, shape, b, &mut self.hints[place])
         } else {
@@ -200,7 +214,7 @@ impl AskedSets {
         self.rest_for(place, rest)
     }
 
-    /// Lets the kernel at a place rest so long.
+    /// Lets the kernel at a place rest so long. Each visit that doesn't cross the box ends so, and is counted here.
     #[inline(always)]
     pub(crate) fn rest_for(&mut self, place: usize, rest: Rest) -> Result<(), NoMemory>
         requires open { place < count_of self.old.rests.open.current }
@@ -211,6 +225,7 @@ impl AskedSets {
         ensures stacks { KeepStacks self.old.rests self.new.rests }
         ensures rested { (k : Kernel) (b : Bounds) → IsRest k b rest → OnOk result (HasRested k place b self.old.rests self.new.rests) }
     {
+        self.visits = self.visits.saturating_add(SHORT_VISIT);
         self.rests.note(place, rest)
     }
 }

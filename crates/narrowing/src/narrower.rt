@@ -57,6 +57,15 @@ impl Narrower {
         }
     }
 
+    /// The units of work of all visits so far, a hint: a visit costs some, and more of a kernel that names many variables. Those
+    /// of several lanes aren't counted.
+    pub fn visits(&self) -> u64 {
+        match self {
+            Narrower::Alone(alone) => alone.sets.visits(),
+            Narrower::Lanes(_) => 0,
+        }
+    }
+
     /// Notes variable `v`, whose bounds are put.
     pub fn note(&mut self, v: u32)
         requires { v < len_of self.old }

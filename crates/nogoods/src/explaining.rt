@@ -10,6 +10,7 @@ use crate::analysis::Learning;
 use crate::past::{recall, same_before};
 use crate::resolving::{resolve, resolve_by};
 use crate::touched::Touched;
+use crate::watches::look_work;
 use crate::weakening::weaken;
 use guarded_tell::{Kernel, Tell};
 use interval::{BoxOf, NoMemory};
@@ -37,10 +38,12 @@ pub(crate) fn explain(
 {
     match cause {
         Cause::Choice => Ok(false),
-        Cause::Kernel(number) => explain_by_kernel(what, number, place, past, literals, at),
+        Cause::Kernel(number) => {
+            explain_by_kernel(what, number, place, past, literals, touched, at)
+        }
         Cause::Nogood(number) => {
             touched.touch_nogood(number);
-            explain_by_nogood(what, number, literals, at)
+            explain_by_nogood(what, number, literals, touched, at)
         }
     }
 }
@@ -52,6 +55,7 @@ fn explain_by_kernel(
     place: usize,
     past: &mut BoxOf,
     literals: &mut Literals,
+    touched: &mut Touched,
     at: usize,
 ) -> Result<bool, NoMemory>
     requires what { CanLearn what.now }
@@ -67,7 +71,8 @@ fn explain_by_kernel(
         return Ok(false);
     }
     let kernel = &what.kernels[number];
-    propose(kernel, what.space, what.log, place, past, literals.at(at));
+    let sought = literals.at(at);
+    propose(kernel, what.space, what.log, place, past, touched, sought);
     resolve(kernel, past, what.space, literals, at)
 }
 
@@ -75,16 +80,31 @@ fn explain_by_kernel(
 /// of them may be tighter, and fail by another bound.
 const MOST_BOXES: u32 = 8;
 
+/// What it costs to try a box of a kernel of so many variables: it is made from the log, visited, and weakened bound by bound.
+fn box_work(variables: usize) -> u64 {
+    (variables as u64).saturating_add(1).saturating_mul(12)
+}
+
 /// Proposes the bounds that the kernel's variables had before the event at a place of the log, or before one that the kernel put just
 /// before it, weakened as far as the kernel tells the literal still. It is a hint.
-fn propose(kernel: &Kernel, space: &BoxOf, log: &Log, place: usize, past: &mut BoxOf, sought: Tell)
+fn propose(
+    kernel: &Kernel,
+    space: &BoxOf,
+    log: &Log,
+    place: usize,
+    past: &mut BoxOf,
+    touched: &mut Touched,
+    sought: Tell,
+)
     requires kernel { IsKernel (length space.now) kernel.now }
     requires same_count { length past.old ≡ length space.now }
     ensures { length past.new ≡ length past.old }
 {
+    let units = box_work(kernel.var_count());
     let mut before = Some(place);
     for _ in 0..MOST_BOXES {
         if let Some(place) = before {
+            touched.spend(units);
             recall(kernel, space, log, place, past);
             if weaken(kernel, space, past, sought) {
                 return;
@@ -100,6 +120,7 @@ fn explain_by_nogood(
     what: &Learning<'_>,
     number: u32,
     literals: &mut Literals,
+    touched: &mut Touched,
     at: usize,
 ) -> Result<bool, NoMemory>
     requires what { CanLearn what.now }
@@ -112,6 +133,7 @@ fn explain_by_nogood(
     if number >= what.nogoods.len() {
         return Ok(false);
     }
-    let nogood = &what.nogoods[number];
-    resolve_by(nogood.literals.as_slice(), what.space, literals, at)
+    let reason = what.nogoods[number].literals.as_slice();
+    touched.spend(look_work(reason.len()));
+    resolve_by(reason, what.space, literals, at)
 }

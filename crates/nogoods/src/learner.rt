@@ -146,6 +146,11 @@ impl Learner {
         })
     }
 
+    /// The units of work of all analyses, and of all looks at nogoods, so far: a hint, comparable with what visits cost.
+    pub fn work(&self) -> u64 {
+        self.touched.work().saturating_add(self.watches.work())
+    }
+
     /// Makes a nogood of a literal that a box meets with its opposite.
     fn make(
         &mut self,

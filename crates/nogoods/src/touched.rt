@@ -1,4 +1,5 @@
-//! What an analysis read: hints for whoever chooses variables, and for which nogoods are kept.
+//! What an analysis read, and how much work that was: hints for whoever chooses variables, for which nogoods are kept, and for
+//! how long a search goes on.
 
 use guarded_tell::Tell;
 use std::alloc::Global;
@@ -11,6 +12,8 @@ pub struct Touched {
     pub variables: Vec<u32>,
     /// The numbers of the nogoods.
     pub nogoods: Vec<u32>,
+    // the units of work of all analyses so far
+    work: u64,
 }
 
 /// Puts a number behind the others, if there is memory for it.
@@ -27,7 +30,18 @@ impl Touched {
         Touched {
             variables: Vec::new(alloc),
             nogoods: Vec::new(alloc),
+            work: 0,
         }
+    }
+
+    /// The units of work of all analyses so far.
+    pub(crate) fn work(&self) -> u64 {
+        self.work
+    }
+
+    /// Counts units of work.
+    pub(crate) fn spend(&mut self, units: u64) {
+        self.work = self.work.saturating_add(units);
     }
 
     /// Forgets them, for another analysis.

@@ -47,6 +47,13 @@ pub(crate) struct Watches {
     looked: usize,
     // the place in the row of the next event from which on it is looked at
     place: usize,
+    // the units of work of all looks so far
+    work: u64,
+}
+
+/// What a look at a nogood costs of which so many literals are read.
+pub(crate) fn look_work(literals: usize) -> u64 {
+    (literals as u64).saturating_add(2).saturating_mul(2)
 }
 
 /// The row of a side of a variable.
@@ -136,6 +143,14 @@ fn look_at(met: Tell, pair: Pair, literals: &[Tell], b: &BoxOf) -> Look {
     }
 }
 
+/// How many literals the nogood of this number has.
+fn length_of(store: &[Nogood], number: u32) -> usize {
+    match store.get(number as usize) {
+        None => 0,
+        Some(nogood) => nogood.literals.as_slice().len(),
+    }
+}
+
 /// Empty rows for so many variables.
 fn empty_rows(alloc: Global, count: u32) -> Result<Vec<Vec<Watch>>, AllocError> {
     let mut rows = Vec::new(alloc);
@@ -154,7 +169,18 @@ impl Watches {
             begun: 0,
             looked: 0,
             place: 0,
+            work: 0,
         })
+    }
+
+    /// The units of work of all looks so far.
+    pub(crate) fn work(&self) -> u64 {
+        self.work
+    }
+
+    /// Counts units of work.
+    fn spend(&mut self, units: u64) {
+        self.work = self.work.saturating_add(units);
     }
 
     /// Forgets what is watched: all nogoods are looked at, and watch something, from now on.
@@ -194,6 +220,7 @@ impl Watches {
         let Ok(number) = u32::try_from(number) else {
             return;
         };
+        self.spend(literals.len() as u64);
         let pair = latest_two(literals, b, log);
         if self.pairs.as_slice().len() != number as usize || self.pairs.push(pair).is_err() {
             return;
@@ -281,14 +308,17 @@ impl Watches {
     ) -> Option<usize> {
         match self.look(t, watch.number, store, b) {
             Look::Stay => {
+                self.spend(look_work(1));
                 self.pass();
                 None
             }
             Look::Turn(pair, place) => {
+                self.spend(look_work(place as usize));
                 self.turn_to(row, watch, pair, place, store);
                 None
             }
             Look::Suspect => {
+                self.spend(look_work(length_of(store, watch.number)));
                 self.pass();
                 Some(watch.number as usize)
             }

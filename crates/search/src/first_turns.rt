@@ -56,7 +56,7 @@ impl FirstTurns {
         let mut kept = Kept::new();
         let searcher = kept.begin(alloc, run, start)?;
         let asked = sub.copy(alloc)?;
-        let meter = Meter::new(alloc, run, sub)?;
+        let meter = Meter::new(sub.len());
         Ok(FirstTurns {
             searcher,
             sub: asked,
@@ -90,9 +90,8 @@ impl FirstTurns {
         law_every_list();
         law_one_list();
         law_can_search(run, &self.sub);
-        self.meter.begin(&self.searcher);
         let found = self.searcher.node_unlimited(rt, alloc, run, None)?;
-        self.meter.end(&self.searcher);
+        self.meter.count(&self.searcher);
         Ok(found)
     }
 

@@ -78,7 +78,7 @@ impl LeastTurns {
         let mut kept = Kept::new();
         let searcher = kept.begin(alloc, run, start)?;
         let asked = sub.copy(alloc)?;
-        let meter = Meter::new(alloc, run, sub)?;
+        let meter = Meter::new(sub.len());
         Ok(LeastTurns {
             searcher,
             sub: asked,
@@ -157,9 +157,8 @@ impl LeastTurns {
         law_records_solutions();
         law_records_below();
         law_can_search(run, &self.sub);
-        self.meter.begin(&self.searcher);
         let found = self.searcher.node_unlimited(rt, alloc, run, self.lowest)?;
-        self.meter.end(&self.searcher);
+        self.meter.count(&self.searcher);
         Ok(self.keep(run.model.goal, found))
     }
 

@@ -24,19 +24,19 @@ keep-requires-clause-numbers g c =
 pub returns-clause-turns : goal.returns-clause-turns
 returns-clause-turns g c =
     (kept c.args.run.now c.requires.run c.args.self.now c.requires.turns c.law_inside_order.ensures c.law_branches.ensures (boxes_of c.node_unlimited.new.self) c.in_ok-found.found
-    c.in_ok-found.ensures.visit c.node_unlimited.new.self c.end.new.self refl c.in_ok-found.ensures.ready c.in_ok-found.ensures.count c.law_records_solutions.ensures c.law_records_below.ensures
+    c.in_ok-found.ensures.visit c.node_unlimited.new.self c.count.new.self refl c.in_ok-found.ensures.ready c.in_ok-found.ensures.count c.law_records_solutions.ensures c.law_records_below.ensures
     c.keep.new.self c.keep.result c.keep.ensures.some c.keep.ensures.none).again
 
 pub returns-clause-found : goal.returns-clause-found
 returns-clause-found g c =
     (kept c.args.run.now c.requires.run c.args.self.now c.requires.turns c.law_inside_order.ensures c.law_branches.ensures (boxes_of c.node_unlimited.new.self) c.in_ok-found.found
-    c.in_ok-found.ensures.visit c.node_unlimited.new.self c.end.new.self refl c.in_ok-found.ensures.ready c.in_ok-found.ensures.count c.law_records_solutions.ensures c.law_records_below.ensures
+    c.in_ok-found.ensures.visit c.node_unlimited.new.self c.count.new.self refl c.in_ok-found.ensures.ready c.in_ok-found.ensures.count c.law_records_solutions.ensures c.law_records_below.ensures
     c.keep.new.self c.keep.result c.keep.ensures.some c.keep.ensures.none).found
 
 pub returns-clause-same : goal.returns-clause-same
 returns-clause-same g c =
     (kept c.args.run.now c.requires.run c.args.self.now c.requires.turns c.law_inside_order.ensures c.law_branches.ensures (boxes_of c.node_unlimited.new.self) c.in_ok-found.found
-    c.in_ok-found.ensures.visit c.node_unlimited.new.self c.end.new.self refl c.in_ok-found.ensures.ready c.in_ok-found.ensures.count c.law_records_solutions.ensures c.law_records_below.ensures
+    c.in_ok-found.ensures.visit c.node_unlimited.new.self c.count.new.self refl c.in_ok-found.ensures.ready c.in_ok-found.ensures.count c.law_records_solutions.ensures c.law_records_below.ensures
     c.keep.new.self c.keep.result c.keep.ensures.some c.keep.ensures.none).same
 
 pub returns-clause-less : goal.returns-clause-less

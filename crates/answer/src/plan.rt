@@ -3,6 +3,7 @@
 ghost use Rattle.std.specs.Prelude.{◌≡◌, ◌<◌, ℕ, List, IfOk, IfSome};
 ghost use Rattle.interval.specs.Boxes.{Bounds, IsInside};
 ghost use Rattle.guarded_tell.specs.declared.kernel.Kernel.{Kernel};
+ghost use Rattle.moved_fixpoint.specs.Made.{IsMadeBy};
 ghost use Rattle.constraint_model.specs.declared.model.FznModel.{FznModel};
 ghost use Rattle.subproblem_walk.specs.Walks.{IsWalkFrom, StandsUnder, box_of, IsMadeFrom};
 ghost use Rattle.answer.specs.Places.{PartLeadsTo, PartLeadsBelow};
@@ -60,6 +61,17 @@ impl Own {
     }
 }
 
+/// With more propagators than these a search begins with those alone that name the variable by which its box was cut.
+const MOST_ASKED: usize = 1 << 14;
+
+/// By which variable the box of a part is said to be made, for so many propagators. Where they are few nothing is said, so that all
+/// are visited at first: then those come to rest that the part needs no more, which else would be visited at each of its nodes.
+fn told(kernels: usize, changed: Option<u32>) -> Option<u32>
+    ensures { (ks : List Kernel) (b : Bounds) → IsMadeBy changed ks b → IsMadeBy result ks b }
+{
+    if kernels <= MOST_ASKED { None } else { changed }
+}
+
 /// What the part with this number leads to.
 pub(crate) fn subproblem<L>(
     alloc: Global,
@@ -107,6 +119,11 @@ pub(crate) fn subproblem_below<L>(
         start: plan.start,
         depth: part.depth,
     };
-    let found = walk.path_box_below(alloc, &tree, part.number, best)?;
-    Ok(found)
+    match walk.path_box_below(alloc, &tree, part.number, best)? {
+        Some(Subproblem { boxes, changed }) => Ok(Some(Subproblem {
+            boxes,
+            changed: told(plan.run.program.kernels.len(), changed),
+        })),
+        None => Ok(None),
+    }
 }

@@ -16,7 +16,7 @@ use crate::marks::mark_of;
 use crate::objective::cut_to_value;
 use crate::options::Options;
 use branching::law_every_list;
-use constraint_model::{FznModel, Goal};
+use constraint_model::Goal;
 use free_search::FreeSearch;
 use fzn_print::{Answer, Mark};
 use gate::Gate;
@@ -27,9 +27,6 @@ use search::Run;
 use solution_lists::{law_in_declaration_order, law_solutions_listed};
 use std::alloc::Global;
 use std::thread::Threads;
-
-/// The most propagators times variables of a program that is searched by a race.
-const MOST_VISITS: u64 = 1 << 28;
 
 /// Whether no limit is set.
 fn is_unlimited(options: Options) -> bool
@@ -48,21 +45,7 @@ fn is_for_one(goal: Goal, all: bool) -> bool
     }
 }
 
-/// Whether the program is small enough for a search that visits each propagator again for each key, which no turn counts.
-fn is_light<L>(run: &Run<'_, L>) -> bool {
-    let kernels = run.program.kernels.as_slice().len() as u64;
-    let pairs = run.program.start.len() as u64;
-    kernels.saturating_mul(pairs) <= MOST_VISITS
-}
-
-/// Whether no search annotation says in which order to search.
-fn is_unguided(model: &FznModel) -> bool {
-    // the last phase is always there
-    model.search.as_slice().len() == 1
-}
-
-/// Whether a race gives the answer: no limit is set, one thread searches for one solution, no order is asked for, and the
-/// program isn't too large.
+/// Whether a race gives the answer: no limit is set, and one thread searches with one lane, for one solution.
 pub(crate) fn is_raced<L>(run: &Run<'_, L>, options: Options) -> bool
     ensures unlimited { OnTrue result (IsUnlimited options) }
     ensures one { OnTrue result (run.now.model.now.goal ≡ Satisfy → options.all ≡ false) }
@@ -71,8 +54,6 @@ pub(crate) fn is_raced<L>(run: &Run<'_, L>, options: Options) -> bool
         && options.lanes == 1
         && is_unlimited(options)
         && is_for_one(run.model.goal, options.all)
-        && is_unguided(run.model)
-        && is_light(run)
 }
 
 /// The first solution.
@@ -93,7 +74,7 @@ fn raced_first<R: Threads + Sync, L: Gate + Sync>(
     law_solutions_listed();
     law_in_declaration_order();
     let start = &run.program.start;
-    let first = first_of_race(rt, alloc, run, start, None, None, Turns::usual())?;
+    let first = first_of_race(rt, alloc, run, start, None, None, Turns::usual(run))?;
     let solutions = list_of_one(alloc, first)?;
     let mark = mark_of(false, &solutions, Mark::Plain);
     Ok(Answer { solutions, mark })
@@ -169,7 +150,7 @@ fn raced_optimum<R: Threads + Sync, L: Gate + Sync>(
     let mut cut = run.program.start.copy(alloc)?;
     cut_to_value(run.model.goal, values.as_slice(), &mut cut);
     let known = Some(values);
-    let first = first_of_race(rt, alloc, run, &cut, known, free, Turns::usual())?;
+    let first = first_of_race(rt, alloc, run, &cut, known, free, Turns::usual(run))?;
     let solutions = list_of_one(alloc, first)?;
     Ok(Answer {
         solutions,
@@ -189,7 +170,7 @@ fn raced_least<R: Threads + Sync, L: Gate + Sync>(
     requires objective { run.now.model.now.goal ≢ Satisfy }
     ensures { IfOk result (IsGiven run.now.model.now options) }
 {
-    let Raced { best, free } = least_of_race(rt, alloc, run, Turns::usual())?;
+    let Raced { best, free } = least_of_race(rt, alloc, run, Turns::usual(run))?;
     match best {
         None => Ok(no_answer(alloc, run, options)),
         Some(best) => {

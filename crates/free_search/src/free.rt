@@ -109,9 +109,10 @@ impl FreeSearch {
     {
         law_inside_order();
         law_point_solves();
+        self.guide.begin_search(0);
         match settled_in(rt, alloc, run, b)? {
             Some(settled) => {
-                self.guide.spend_visits(settled.boxes.log(), 0);
+                self.guide.spend_visits(settled.narrower.visits());
                 let narrowed = settled.boxes.current().copy(alloc)?;
                 Ok(Some(narrowed))
             }

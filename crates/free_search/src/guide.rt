@@ -1,15 +1,9 @@
 //! What guides a free search. All of it are hints: no contract speaks of them.
 
-ghost use Rattle.std.specs.List.{All};
-ghost use Rattle.guarded_tell.specs.Kernels.{HasNumbers};
-ghost use Rattle.search.specs.Premises.{IsRun};
-
 use constraint_model::{FznModel, Goal, Phase, Term, ValSel};
-use guarded_tell::Kernel;
 use interval::{BoxOf, NoMemory};
-use search::Run;
+use search::{Run, node_work};
 use std::alloc::Global;
-use trailed_box::Log;
 
 /// How many failures the shortest restart waits for.
 const RESTART_UNIT: u64 = 100;
@@ -41,8 +35,12 @@ pub struct Guide {
     // how many failures this block has, and how many are left of them
     block: u64,
     block_left: u64,
-    // for each variable what the visits cost that a move of it asks for
-    costs: Vec<u64>,
+    // what a search costs that begins with nothing visited, and what a node costs besides its visits
+    start: u64,
+    node: u64,
+    // what this search's visits cost, and what the learner's work did, when it was last looked
+    visited: u64,
+    learned: u64,
     // the units of work that were spent
     spent: u64,
     nodes: u64,
@@ -124,30 +122,6 @@ fn has_no_objective(model: &FznModel) -> bool {
     }
 }
 
-/// Adds what a visit of the kernel costs to each of its variables.
-fn add_costs(kernel: &Kernel, costs: &mut [u64])
-    requires { HasNumbers kernel.now }
-{
-    let count = kernel.var_count();
-    for i in 0..count {
-        let place = kernel.var_at(i) as usize;
-        if place < costs.len() {
-            costs[place] = costs[place].saturating_add(count as u64);
-        }
-    }
-}
-
-/// For each of so many variables what the visits cost that a move of it asks for.
-fn costs_of(alloc: Global, kernels: &[Kernel], count: u32) -> Result<Vec<u64>, NoMemory>
-    requires { All HasNumbers kernels.now }
-{
-    let mut costs = vec![in alloc; 1; count as usize]?;
-    for place in 0..kernels.len() {
-        add_costs(&kernels[place], costs.as_mut_slice());
-    }
-    Ok(costs)
-}
-
 /// The part of a variable's numbers that is tried first: the wanted number alone where that is a bound, else those up to it.
 fn first_part(low: i64, high: i64, wanted: i64) -> (i64, i64) {
     if wanted >= high {
@@ -161,11 +135,9 @@ fn first_part(low: i64, high: i64, wanted: i64) -> (i64, i64) {
 
 impl Guide {
     /// One that knows of no search yet. Errors: memory.
-    pub fn new<L>(alloc: Global, run: &Run<'_, L>) -> Result<Guide, NoMemory>
-        requires { IsRun run.now }
-    {
+    pub fn new<L>(alloc: Global, run: &Run<'_, L>) -> Result<Guide, NoMemory> {
         let model = run.model;
-        let kernels = run.program.kernels.as_slice();
+        let kernels = run.program.kernels.as_slice().len() as u64;
         let count = run.program.start.len();
         let mut values = vec![in alloc; 0; count as usize]?;
         let order = order_of(alloc, model, values.as_mut_slice())?;
@@ -181,7 +153,10 @@ impl Guide {
             activity: vec![in alloc; 0; count as usize]?,
             step: FIRST_STEP,
             values,
-            costs: costs_of(alloc, kernels, count)?,
+            start: kernels.saturating_add(count as u64),
+            node: node_work(count),
+            visited: 0,
+            learned: 0,
             spent: 0,
             nodes: 0,
             turn: 1,
@@ -190,8 +165,8 @@ impl Guide {
         })
     }
 
-    /// How many units of work were spent so far: a visit costs as many as it has arguments, a nogood that is looked at and an
-    /// entry of the log one.
+    /// How many units of work were spent so far, of the same kind as a plain search's: those of visits, of the learner's work, and
+    /// some for each node and for each search.
     pub fn spent(&self) -> u64 {
         self.spent
     }
@@ -204,28 +179,33 @@ impl Guide {
     /// Counts a node.
     pub(crate) fn count_node(&mut self) {
         self.nodes = self.nodes.saturating_add(1);
+        self.spend(self.node);
     }
 
     /// Counts units of work.
-    pub(crate) fn spend(&mut self, units: u64) {
+    fn spend(&mut self, units: u64) {
         self.spent = self.spent.saturating_add(units);
     }
 
-    /// Counts the visits that the events from a place of the log on asked for.
-    pub(crate) fn spend_visits(&mut self, log: &Log, from: usize) {
-        self.spend(1);
-        for place in from..log.len() {
-            if let Some(event) = log.at(place) {
-                self.spend_at(event.var as usize);
-            }
-        }
+    /// Counts what a search costs that begins: a searcher is made that has visited nothing yet, and so many nogoods are looked at.
+    pub(crate) fn begin_search(&mut self, nogoods: usize) {
+        self.visited = 0;
+        self.spend(self.start);
+        self.spend((nogoods as u64).saturating_mul(2));
     }
 
-    /// Counts the visits that a move of a variable asks for.
-    fn spend_at(&mut self, place: usize) {
-        if let Some(cost) = self.costs.as_slice().get(place) {
-            self.spent = self.spent.saturating_add(*cost);
-        }
+    /// Counts visits, of which this search had so many so far.
+    pub(crate) fn spend_visits(&mut self, visited: u64) {
+        let visits = visited.saturating_sub(self.visited);
+        self.visited = visited;
+        self.spend(visits);
+    }
+
+    /// Counts a learner's work, which was so much so far.
+    pub(crate) fn spend_learned(&mut self, learned: u64) {
+        let work = learned.saturating_sub(self.learned);
+        self.learned = learned;
+        self.spend(work);
     }
 
     /// What is tried next in a box: a variable, and a part of its numbers.

@@ -247,9 +247,8 @@ pub(crate) fn node<R: Threads + Sync, L: Gate + Sync>(
 {
     law_quiet_where_closed();
     law_known_where_rests();
-    let from = searcher.boxes.log().len();
     let is_fixed = searcher.narrow(rt, alloc, task.run)?;
-    guide.spend_visits(searcher.boxes.log(), from);
+    guide.spend_visits(searcher.narrower.visits());
     if !is_fixed {
         return Ok(fail(alloc, task, searcher, learner, guide, None));
     }
@@ -287,6 +286,7 @@ pub(crate) fn nodes<R: Threads + Sync, L: Gate + Sync>(
         if guide.restarts() {
             return Ok(None);
         }
+        guide.spend_learned(learner.work());
         if guide.spent() >= most {
             return Ok(Some(FreeEnd::GaveUp));
         }

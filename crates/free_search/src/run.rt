@@ -116,6 +116,8 @@ pub fn run_free<R: Threads + Sync, L: Gate + Sync>(
 {
     law_inside_order();
     law_can_search(run, space);
+    let most = guide.spent().saturating_add(budget);
+    guide.begin_search(learner.store.as_slice().len());
     if is_crossed(sub) {
         return Ok(FreeEnd::Refuted);
     }
@@ -124,6 +126,5 @@ pub fn run_free<R: Threads + Sync, L: Gate + Sync>(
     }
     let mut searcher = Searcher::new(alloc, run, space)?;
     let task = Task { run, space, sub };
-    let most = guide.spent().saturating_add(budget);
     rounds(rt, alloc, &task, &mut searcher, learner, guide, most)
 }

@@ -10,7 +10,7 @@ ghost use Rattle.race.specs.Firsts.{IsFirstIn, IsPlain, IsRoad};
 
 use crate::road::{Road, RoadTurn, free_turn, road_from};
 use crate::task::Task;
-use crate::turns::{DOUBLINGS, Turns, doubled};
+use crate::turns::{DOUBLINGS, Turns, doubled, free_turn_before};
 use first_keys::is_static;
 use free_search::FreeSearch;
 use gate::Gate;
@@ -54,7 +54,7 @@ fn race<R: Threads + Sync, L: Gate + Sync>(
     let mut road = road;
     let mut units = least;
     for _ in 0..DOUBLINGS {
-        match free_turn(rt, alloc, task, road, units) {
+        match free_turn(rt, alloc, task, road, free_turn_before(units)) {
             RoadTurn::Answered(answer) => return Ok(answer),
             RoadTurn::Over => return finish(rt, alloc, task, plain),
             RoadTurn::Goes(next) => match plain.go_on(rt, alloc, task.run, Some(units))? {

@@ -10,7 +10,7 @@ ghost use Rattle.race.specs.Leasts.{IsLeastIn, IsStanding, IsPlainTurn, IfPaused
 use crate::incumbent::{Incumbent, by_plain, cost_of};
 use crate::lowering::{FreeTurn, Raced, free_turn};
 use crate::task::Task;
-use crate::turns::{DOUBLINGS, Turns, doubled};
+use crate::turns::{DOUBLINGS, Turns, doubled, free_turn_before};
 use first_keys::is_static;
 use gate::Gate;
 use interval::{NoMemory, law_inside_order};
@@ -110,7 +110,7 @@ fn race<R: Threads + Sync, L: Gate + Sync>(
     let mut raced = Raced { best, free: None };
     let mut units = least;
     for _ in 0..DOUBLINGS {
-        match free_turn(rt, alloc, task, raced, units) {
+        match free_turn(rt, alloc, task, raced, free_turn_before(units)) {
             FreeTurn::Proved(outcome) => return Ok(outcome),
             FreeTurn::Over(best) => {
                 return finish(rt, alloc, task, plain, Raced { best, free: None });

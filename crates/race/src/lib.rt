@@ -1,7 +1,7 @@
 //! The plain search and a free one by turns, on one thread: what the faster of the two says.
 //!
 //! The plain search begins, and keeps what it has left over its turns. Then the free search, which learns from failures, and the
-//! plain one have turns of equal work, doubled each time; in the end the plain one goes on alone, so that a race ends where
+//! plain one have turns, doubled each time, of which the free one's are the shorter (`src/turns.rt`); in the end the plain one goes on alone, so that a race ends where
 //! the plain search does. `first_of_race` gives the first solution of a box in the order of the search tree; there the free
 //! search refutes, and in a static order finds the first solution key by key. `least_of_race` gives a solution of least
 //! cost; there each search cuts its boxes below the best cost of both.

@@ -10,8 +10,8 @@ const NODE_WORK: u64 = 8;
 /// Of so many variables the choice of one costs a unit.
 const VARIABLES_A_UNIT: u64 = 16;
 
-/// What the work of a node is besides its visits, where the box has so many variables.
-pub(crate) fn node_work(variables: u32) -> u64 {
+/// The units of work of a node besides its visits, where the box has so many variables: a hint, for plain searches and others.
+pub fn node_work(variables: u32) -> u64 {
     (variables as u64 / VARIABLES_A_UNIT).saturating_add(NODE_WORK)
 }
 

@@ -10,12 +10,12 @@ pub resolve_by-requires-clause-reason : goal.resolve_by-requires-clause-reason
 resolve_by-requires-clause-reason c =
     let what = c.args.what.now in
     let kept = c.requires.what.nogoods c.args.number c.index-what-number.result (omega arith) in
-    subst (λ (ts : List Tell). All (IsPlaced (length what.space.now)) ts) (sym c.as_slice.ensures.value) kept.placed
+    subst (λ (ts : List Tell). All (IsPlaced (length what.space.now)) ts) (sym c.as_slice-reason.ensures.value) kept.placed
 
 pub returns-clause-nogood : goal.returns-clause-nogood
 returns-clause-nogood c =
     let what = c.args.what.now in
     let kept = c.requires.what.nogoods c.args.number c.index-what-number.result (omega arith) in
     on_ok_weaker c.resolve_by.result
-    (λ law. law what.kernels.now (subst (λ (ts : List Tell). IsNogood what.kernels.now what.space.now ts) (sym c.as_slice.ensures.value) kept.holds))
+    (λ law. law what.kernels.now (subst (λ (ts : List Tell). IsNogood what.kernels.now what.space.now ts) (sym c.as_slice-reason.ensures.value) kept.holds))
     c.resolve_by.ensures.nogood

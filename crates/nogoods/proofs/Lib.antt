@@ -1,3 +1,2 @@
 pub mod NogoodLaws
-pub mod Watching
 pub mod Keeping

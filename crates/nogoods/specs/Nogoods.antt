@@ -51,7 +51,3 @@ AreMetBounds space b kernel before after =
 abbrev pub AreMetBut : Bounds → List Tell → ℕ → List Tell → List Tell → Type 0
 AreMetBut space reason own before after =
     (p : Bounds) → IsInside p space → Meets p after → Meets p before × MeetsBut p reason own
-
--- whoever meets all of these tells meets the literal
-abbrev pub IsTold : List Tell → Tell → Type 0
-IsTold ts sought = (b : Bounds) → Meets b ts → Keeps b sought

@@ -6,12 +6,12 @@ ghost use Rattle.literals.specs.Literals.{IsPlaced};
 ghost use Rattle.nogoods.specs.Learnings.{CanLearn, GoesOver};
 
 use crate::explaining::explain;
-use crate::past::{is_one_since, met_by};
 use crate::store::Nogood;
 use crate::touched::Touched;
 use guarded_tell::Kernel;
 use interval::{BoxOf, NoMemory};
 use literals::Literals;
+use reasons::{is_one_since, met_by};
 use trailed_box::Log;
 
 /// What an analysis reads.

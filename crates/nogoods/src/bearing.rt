@@ -10,8 +10,9 @@ ghost use Rattle.nogoods.specs.Bearings.{IfTold, IfFailed, IsFailing, IsTelling}
 
 use crate::laws::law_nogoods;
 use guarded_tell::Tell;
-use interval::{BOUND_LIMIT, BoxOf};
+use interval::BoxOf;
 use literals::{Seen, is_met, opposite, see};
+use reasons::is_bound;
 
 /// How nogoods bear on a box.
 #[derive(Clone, Copy, PartialEq, Eq, Debug)]
@@ -22,14 +23,6 @@ pub enum Bearing {
     Told(Tell, usize),
     /// The box meets the nogood of this number: no solution lies in it.
     Failed(usize),
-}
-
-/// Whether the number can be a bound.
-#[tactic(auto, unfolding(interval::specs::Limits::bound_limit, interval::specs::Limits::largest_number))]
-pub(crate) fn is_bound(z: i64) -> bool
-    ensures { OnTrue result (IsBound z) }
-{
-    z >= -BOUND_LIMIT && z <= BOUND_LIMIT
 }
 
 /// Whether the box doesn't meet the literal, and its bound can be put.

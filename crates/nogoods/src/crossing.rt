@@ -4,10 +4,10 @@ ghost use Rattle.std.specs.Prelude.{length, IfSome};
 ghost use Rattle.literals.specs.Literals as words;
 ghost use Rattle.literals.specs.Literals.{IsPlaced};
 
-use crate::bearing::is_bound;
 use guarded_tell::{Side, Tell};
 use interval::BoxOf;
 use literals::opposite;
+use reasons::is_bound;
 use trailed_box::Log;
 
 /// A literal and its opposite can be put.

@@ -7,7 +7,7 @@ ghost use Rattle.literals.specs.Literals as words;
 ghost use Rattle.literals.specs.Literals.{IsPlaced};
 ghost use Rattle.nogoods.specs.Nogoods.{IsNogood};
 
-use crate::reasons::{meet_others, meet_unless};
+use crate::bounds_met::{meet_others, meet_unless};
 use guarded_tell::Tell;
 use interval::{BoxOf, NoMemory};
 use literals::{Literals, opposite};

@@ -18,7 +18,6 @@ use crate::analysis::{Learning, analyze};
 use crate::bearing::{Bearing, bearing_on};
 use crate::crossing::crossing_of;
 use crate::first::{begin, begin_by};
-use crate::past::place_met;
 use crate::store::Nogood;
 use crate::touched::Touched;
 use crate::uses::Uses;
@@ -26,6 +25,7 @@ use crate::watches::Watches;
 use guarded_tell::{Kernel, Tell};
 use interval::{BoxOf, NoMemory};
 use literals::Literals;
+use reasons::place_met;
 use std::alloc::Global;
 use trailed_box::Log;
 

@@ -8,25 +8,17 @@
 
 mod analysis;
 mod bearing;
+mod bounds_met;
 mod crossing;
-mod crowds;
-mod elements;
 mod explaining;
 mod first;
-mod halls;
 mod laws;
 mod learner;
-mod past;
-mod ranges;
-mod reasons;
 mod resolving;
 mod store;
-mod sums;
 mod touched;
 mod uses;
-mod watch;
 mod watches;
-mod weakening;
 
 pub use analysis::{Learning, analyze};
 pub use bearing::Bearing;

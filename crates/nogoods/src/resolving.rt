@@ -11,12 +11,12 @@ ghost use Rattle.literals.specs.Literals as words;
 ghost use Rattle.literals.specs.Literals.{IsPlaced, IsAsTight};
 ghost use Rattle.nogoods.specs.Nogoods.{IsNogood};
 
+use crate::bounds_met::{meet_bounds, meet_others};
 use crate::laws::law_nogoods;
-use crate::reasons::{meet_bounds, meet_others};
-use crate::watch::{is_proper_in, is_told};
 use guarded_tell::{Kernel, Tell};
 use interval::{BoxOf, NoMemory, law_inside_order};
 use literals::{Literals, is_as_tight, law_literals, opposite};
+use reasons::{is_proper_in, is_told};
 
 /// Replaces the literal at a place by the bounds of a kernel's variables in the box, if the kernel tells it there; else
 /// nothing is changed. Whether it is replaced. Errors: memory.

@@ -1,11 +1,11 @@
 //! Which nogoods are looked at where bounds moved. Nothing here is relied on: a nogood that is named is looked at, and one that isn't
 //! named though it bears on the box narrows it later or never.
 
-use crate::past::{place_met, told_by};
 use crate::store::Nogood;
 use guarded_tell::{Side, Tell};
 use interval::{BoxOf, NoMemory};
 use literals::{is_as_tight, is_met};
+use reasons::{place_met, told_by};
 use std::alloc::{AllocError, Global};
 use trailed_box::Log;
 

@@ -1,4 +1,0 @@
-use Rattle.nogoods.proofs.elements.first_spare.Given as goal
-
-abbrev pub decreases-loop-first : goal.decreases-loop-first
-decreases-loop-first l = l.first

@@ -1,8 +1,8 @@
 //! The better half of the numbers that a key may still have.
 
-ghost use Rattle.std.specs.Prelude.{◌≡◌, ◌≤ℤ◌, ◌<ℤ◌, IfSome, IfNone};
+ghost use Rattle.std.specs.Prelude.{◌≡◌, ◌+ℤ◌, ◌-ℤ◌, ◌≤ℤ◌, ◌<ℤ◌, pos, true, false, IfSome, IfNone};
 ghost use Rattle.interval.specs.Limits.{IsBound};
-ghost use Rattle.first_keys.specs.Halves.{AreHalves, best_of};
+ghost use Rattle.first_keys.specs.Halves.{AreHalves, AreNearer, best_of};
 
 /// Two ranges of the numbers of a variable.
 #[derive(Clone, Copy, Debug)]
@@ -24,7 +24,8 @@ fn middle_below(low: i64, value: i64) -> i64
     requires value { IsBound value }
     requires below { low <ℤ value }
     ensures from { low ≤ℤ result }
-    ensures to { result <ℤ value }
+    ensures near { (result -ℤ low) +ℤ (result -ℤ low) <ℤ value -ℤ low }
+    ensures middle { (value -ℤ result) +ℤ (value -ℤ result) ≤ℤ (value -ℤ low) +ℤ pos 2 }
     ensures bound { IsBound result }
 {
     let width = (value - low) as u64;
@@ -38,7 +39,8 @@ fn halve_lower(low: i64, high: i64, value: i64) -> Halves
     requires high { IsBound high }
     requires below { low <ℤ value }
     requires to { value ≤ℤ high }
-    ensures { AreHalves low high result }
+    ensures halves { AreHalves low high result }
+    ensures nearer { AreNearer false low high value result }
 {
     let middle = middle_below(low, value);
     Halves {
@@ -56,7 +58,8 @@ fn halve_upper(low: i64, high: i64, value: i64) -> Halves
     requires high { IsBound high }
     requires from { low ≤ℤ value }
     requires above { value <ℤ high }
-    ensures { AreHalves low high result }
+    ensures halves { AreHalves low high result }
+    ensures nearer { AreNearer true low high value result }
 {
     let middle = -middle_below(-high, -value);
     Halves {
@@ -74,6 +77,7 @@ pub(crate) fn halve(low: i64, high: i64, value: i64, is_upper_first: bool) -> Op
     requires from { low ≤ℤ value }
     requires to { value ≤ℤ high }
     ensures halves { IfSome result (AreHalves low high) }
+    ensures nearer { IfSome result (AreNearer is_upper_first low high value) }
     ensures best { IfNone result (value ≡ best_of is_upper_first low high) }
 {
     if is_upper_first {

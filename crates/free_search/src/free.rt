@@ -2,6 +2,7 @@
 
 ghost use Rattle.std.specs.Prelude.{ℤ, List, IfOk, IfSome, IfNone};
 ghost use Rattle.interval.specs.Boxes.{IsInside};
+ghost use Rattle.fixpoint_laws.specs.Fixpoints.{IsGreatest, Fails};
 ghost use Rattle.solution_lists.specs.Solutions.{SolvesInside};
 ghost use Rattle.search.specs.Premises.{IsRun};
 ghost use Rattle.free_search.specs.Ends.{IfFound, IfRefuted};
@@ -92,7 +93,8 @@ impl FreeSearch {
         Ok(end)
     }
 
-    /// Narrows a box inside the start by propagation alone: all of its solutions stay. None where it has none. Errors: memory.
+    /// The greatest closed box in a box inside the start, by propagation alone: all solutions stay. None where no closed box is there, so
+    /// that it has no solution. Errors: memory.
     pub fn narrow<R: Threads + Sync, L: Gate + Sync>(
         &mut self,
         rt: &R,
@@ -104,6 +106,8 @@ impl FreeSearch {
         requires free { IsFreeSearch run.now self.old }
         requires inside { IsInside b.now run.now.program.now.start }
         ensures free { IsFreeSearch run.now self.new }
+        ensures greatest { IfOk result (λ narrowed. IfSome narrowed (λ n. IsGreatest n b.now run.now.program.now.kernels)) }
+        ensures fails { IfOk result (λ narrowed. IfNone narrowed (Fails b.now run.now.program.now.kernels)) }
         ensures some { IfOk result (λ narrowed. IfSome narrowed (HoldsAll run.now.model.now b.now)) }
         ensures none { IfOk result (λ narrowed. IfNone narrowed ((a : List ℤ) → SolvesInside run.now.model.now b.now a → ⊥)) }
     {

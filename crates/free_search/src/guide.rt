@@ -234,14 +234,13 @@ impl Guide {
         let mut best = (0, 1, 0);
         let mut most = None;
         for v in self.order.as_slice() {
-            if *v < b.len() && b.low(*v) < b.high(*v) {
-                let activity = self.activity_of(*v);
-                if is_more(activity, most) {
-                    most = Some(activity);
-                    let wanted = entry_of(self.values.as_slice(), *v);
-                    let (low, high) = first_part(b.low(*v), b.high(*v), wanted);
-                    best = (*v, low, high);
-                }
+            // the box is read last: most variables are less active than the best so far
+            let activity = self.activity_of(*v);
+            if is_more(activity, most) && *v < b.len() && b.low(*v) < b.high(*v) {
+                most = Some(activity);
+                let wanted = entry_of(self.values.as_slice(), *v);
+                let (low, high) = first_part(b.low(*v), b.high(*v), wanted);
+                best = (*v, low, high);
             }
         }
         best

@@ -51,14 +51,18 @@ fn go_back_to<L>(run: &Run<'_, L>, searcher: &mut Searcher, length: usize)
     }
 }
 
-/// Goes back from a box that failed to the last one that was left, and further, as long as the log was as long as that.
-fn go_back<L>(run: &Run<'_, L>, searcher: &mut Searcher, length: usize) -> bool
+/// Goes back from a box that failed to the last one that was left, and further, as long as the log was as long as that. Whether it
+/// went back: not where no box is left, nor where no place is known to go back to.
+fn go_back<L>(run: &Run<'_, L>, searcher: &mut Searcher, length: Option<usize>) -> bool
     requires { AreLeft run.now.program.now.kernels searcher.old }
     ensures ready { OnTrue result (IsReady run.now.program.now.kernels searcher.new) }
     ensures count { count_of searcher.new ≡ count_of searcher.old }
 {
     law_quiet_where_closed();
     law_known_where_rests();
+    let Some(length) = length else {
+        return false;
+    };
     if !searcher.back(run) {
         return false;
     }
@@ -111,15 +115,18 @@ fn refutes(learner: &Learner, learned: Option<usize>, b: &BoxOf) -> bool
     }
 }
 
-/// How long the log was where what was learned says something.
-fn jump_place(learner: &Learner, learned: Option<usize>, log: &Log) -> usize {
-    match learned {
-        Some(number) => learner.jump_place(number, log),
-        None => usize::MAX,
+/// How long the log was where what was learned says something; none where nothing was learned, or where no log is kept, as after memory
+/// was refused: the search would decide the same again.
+fn jump_place(learner: &Learner, learned: Option<usize>, log: &Log) -> Option<usize> {
+    let number = learned?;
+    if log.is_open() {
+        Some(learner.jump_place(number, log))
+    } else {
+        None
     }
 }
 
-/// Learns from a box that failed, and goes back. It says how the search ends, where it does.
+/// Learns from a box that failed, and goes back. It says how the search ends, where it does: it gives up where it can't learn.
 fn fail<L>(
     alloc: Global,
     task: &Task<'_, '_, L>,

@@ -1,10 +1,10 @@
 -- Two ranges that make up one.
-use Rattle.std.proofs.Common.{◌≡◌, ℤ, inl, inr, arith}
+use Rattle.std.proofs.Common.{◌≡◌, ℤ, true, false, inl, inr, arith}
 use Rattle.std.specs.Prelude.{pos, ◌+ℤ◌, ◌-ℤ◌, ◌≤ℤ◌, ◌<ℤ◌, ◌≤◌}
 use Rattle.std.proofs.lemmas.Int.{ints, by_lt_z}
 use Rattle.interval.specs.Limits.{IsBound}
 use Rattle.first_keys.specs.declared.halves.Halves.{Halves}
-use Rattle.first_keys.specs.Halves.{AreHalves}
+use Rattle.first_keys.specs.Halves.{AreHalves, AreNearer}
 
 bound_between : (low high z : ℤ) → IsBound low → IsBound high → low ≤ℤ z → z ≤ℤ high → IsBound z
 bound_between low high z l h a b = omega (arith, ints)
@@ -41,3 +41,26 @@ module _ (low high cut : ℤ) (halves : Halves) (is_low : IsBound low) (is_high 
     rest_to = omega (arith, ints);
     each = λ z l m. by_lt_z z cut (λ below. inr (omega (arith, ints), omega (arith, ints))) (λ above. inl (omega (arith, ints), omega (arith, ints)));
   }
+
+-- where the cut lies in the middle of the numbers that are better than the known one
+pub lower_nearer : (low high value cut : ℤ) (halves : Halves) → low ≤ℤ cut → ((cut -ℤ low) +ℤ (cut -ℤ low)) <ℤ (value -ℤ low) →
+    ((value -ℤ cut) +ℤ (value -ℤ cut)) ≤ℤ ((value -ℤ low) +ℤ pos 2) → value ≤ℤ high → halves.better_low ≡ low → halves.better_high ≡ cut →
+    halves.rest_low ≡ cut +ℤ pos 1 → halves.rest_high ≡ high → AreNearer false low high value halves
+lower_nearer low high value cut halves from near middle to e f g h = record {
+  some = omega (arith, ints);
+  found = λ z l m. omega (arith, ints);
+  from = omega (arith, ints);
+  to = omega (arith, ints);
+  refuted = omega (arith, ints);
+}
+
+pub upper_nearer : (low high value cut : ℤ) (halves : Halves) → cut ≤ℤ high → ((high -ℤ cut) +ℤ (high -ℤ cut)) <ℤ (high -ℤ value) →
+    ((cut -ℤ value) +ℤ (cut -ℤ value)) ≤ℤ ((high -ℤ value) +ℤ pos 2) → low ≤ℤ value → halves.better_low ≡ cut → halves.better_high ≡ high →
+    halves.rest_low ≡ low → halves.rest_high ≡ cut -ℤ pos 1 → AreNearer true low high value halves
+upper_nearer low high value cut halves to near middle from e f g h = record {
+  some = omega (arith, ints);
+  found = λ z l m. omega (arith, ints);
+  from = omega (arith, ints);
+  to = omega (arith, ints);
+  refuted = omega (arith, ints);
+}

@@ -29,8 +29,8 @@ distance upper_first low high value = cond upper_first (high -ℤ value) (value 
 pub record AreNearer (upper_first : Bool) (low high value : ℤ) (halves : Halves) : Type 0 where
   pub some : halves.better_low ≤ℤ halves.better_high
   pub found : (z : ℤ) → halves.better_low ≤ℤ z → z ≤ℤ halves.better_high →
-      distance upper_first low high z +ℤ distance upper_first low high z <ℤ distance upper_first low high value
+      (distance upper_first low high z +ℤ distance upper_first low high z) <ℤ distance upper_first low high value
   pub from : halves.rest_low ≤ℤ value
   pub to : value ≤ℤ halves.rest_high
-  pub refuted : distance upper_first halves.rest_low halves.rest_high value +ℤ distance upper_first halves.rest_low halves.rest_high value ≤ℤ
+  pub refuted : (distance upper_first halves.rest_low halves.rest_high value +ℤ distance upper_first halves.rest_low halves.rest_high value) ≤ℤ
       distance upper_first low high value

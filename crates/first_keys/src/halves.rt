@@ -24,8 +24,8 @@ fn middle_below(low: i64, value: i64) -> i64
     requires value { IsBound value }
     requires below { low <ℤ value }
     ensures from { low ≤ℤ result }
-    ensures near { (result -ℤ low) +ℤ (result -ℤ low) <ℤ value -ℤ low }
-    ensures middle { (value -ℤ result) +ℤ (value -ℤ result) ≤ℤ (value -ℤ low) +ℤ pos 2 }
+    ensures near { ((result -ℤ low) +ℤ (result -ℤ low)) <ℤ (value -ℤ low) }
+    ensures middle { ((value -ℤ result) +ℤ (value -ℤ result)) ≤ℤ ((value -ℤ low) +ℤ pos 2) }
     ensures bound { IsBound result }
 {
     let width = (value - low) as u64;

@@ -1,6 +1,6 @@
 -- Two ranges that make up one.
 use Rattle.std.proofs.Common.{◌≡◌, ℤ, true, false, inl, inr, arith}
-use Rattle.std.specs.Prelude.{pos, ◌+ℤ◌, ◌-ℤ◌, ◌≤ℤ◌, ◌<ℤ◌, ◌≤◌}
+use Rattle.std.specs.Prelude.{pos, ◌+ℤ◌, ◌-ℤ◌, ◌≤ℤ◌, ◌<ℤ◌}
 use Rattle.std.proofs.lemmas.Int.{ints, by_lt_z}
 use Rattle.interval.specs.Limits.{IsBound}
 use Rattle.first_keys.specs.declared.halves.Halves.{Halves}

@@ -3,3 +3,4 @@ mod LaneEnds
 mod Copies
 mod Noting
 pub mod RestNoting
+mod LaneCounts

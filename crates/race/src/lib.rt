@@ -21,5 +21,7 @@ mod turns;
 pub use first::first_of_race;
 pub use incumbent::Incumbent;
 pub use least::least_of_race;
-pub use lowering::Raced;
+pub use lowering::{Raced, look_below};
+pub use road::{Road, RoadTurn, free_turn, road_from};
+pub use task::Task;
 pub use turns::Turns;

@@ -50,7 +50,7 @@ pub(crate) enum FreeTurn {
 }
 
 /// Looks for a solution that costs less than so much, if that is given, and else for any. Errors: memory.
-fn look_below<R: Threads + Sync, L: Gate + Sync>(
+pub fn look_below<R: Threads + Sync, L: Gate + Sync>(
     rt: &R,
     alloc: Global,
     task: &Task<'_, '_, L>,

@@ -19,7 +19,7 @@ use std::thread::Threads;
 
 /// How far the free search has come.
 #[derive(Drop)]
-pub(crate) enum Road {
+pub enum Road {
     /// It isn't made yet; this solution is known, if one is.
     Unmade(Option<ListOf<i64>>),
     /// It looks for a solution.
@@ -30,7 +30,7 @@ pub(crate) enum Road {
 
 /// How a turn of the free search ends.
 #[derive(Drop)]
-pub(crate) enum RoadTurn {
+pub enum RoadTurn {
     /// With the first solution in the box, or with none where it has none.
     Answered(Option<ListOf<i64>>),
     /// It can have another turn.
@@ -154,7 +154,7 @@ fn begin<R: Threads + Sync, L: Gate + Sync>(
 }
 
 /// A turn of the free search. Memory that is refused ends it, and nothing else.
-pub(crate) fn free_turn<R: Threads + Sync, L: Gate + Sync>(
+pub fn free_turn<R: Threads + Sync, L: Gate + Sync>(
     rt: &R,
     alloc: Global,
     task: &Task<'_, '_, L>,
@@ -192,7 +192,7 @@ fn keyed<L>(
 }
 
 /// Where the free search begins: it goes on if it is made, and from a solution if one is known. None: it has nothing to say.
-pub(crate) fn road_from<L>(
+pub fn road_from<L>(
     alloc: Global,
     task: &Task<'_, '_, L>,
     known: Option<ListOf<i64>>,

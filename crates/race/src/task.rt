@@ -5,11 +5,11 @@ use search::Run;
 
 /// A box that is searched, and how.
 #[derive(Drop)]
-pub(crate) struct Task<'a, 'b, L> {
+pub struct Task<'a, 'b, L> {
     /// The run.
-    pub(crate) run: &'a Run<'b, L>,
+    pub run: &'a Run<'b, L>,
     /// The box.
-    pub(crate) sub: &'a BoxOf,
+    pub sub: &'a BoxOf,
     /// Whether the order of the solutions is static.
-    pub(crate) is_static: bool,
+    pub is_static: bool,
 }

@@ -1,0 +1,2 @@
+pub mod TogetherLaws
+pub mod BoxLaws

@@ -1,6 +1,6 @@
 //! What the searches of a portfolio tell together.
 
-ghost use Rattle.std.specs.Prelude.{◌≡◌, ◌≢◌, ◌⊎◌, ℤ, List, All, IfSome};
+ghost use Rattle.std.specs.Prelude.{◌≡◌, ◌≢◌, ◌⊎◌, ◌≤ℤ◌, ℤ, List, All, IfSome};
 ghost use Rattle.std.specs.Bool.{OnTrue};
 ghost use Rattle.std.specs.List.{AllZip};
 ghost use Rattle.interval.specs.Boxes.{Bounds};
@@ -73,13 +73,7 @@ fn better(one: Option<Incumbent>, other: Option<Incumbent>) -> Option<Incumbent>
     match (one, other) {
         (None, best) => best,
         (best, None) => best,
-        (Some(a), Some(b)) => {
-            if b.cost < a.cost {
-                Some(b)
-            } else {
-                Some(a)
-            }
-        }
+        (Some(a), Some(b)) => { if b.cost < a.cost { Some(b) } else { Some(a) } }
     }
 }
 
@@ -95,14 +89,44 @@ fn best_of_parts(first: Option<Incumbent>, told: Vec<CostTold>) -> Option<Incumb
     best
 }
 
-/// Whether a bound shows that no solution costs less.
-fn is_least(best: &Option<Incumbent>, bound: Bound) -> bool
-    ensures { (model : FznModel) (b : Bounds) → CostsAtLeast model b bound.at_least → OnTrue result (CostsAtLeast model b (best_cost best.now)) }
+/// What all solutions in a box cost at least, if that is known of the whole, or of each part.
+fn bound_of_all(whole: Option<Bound>, parts: &[CostTold]) -> Option<Bound>
+    ensures { (model : FznModel) (b : Bounds) → IfSome whole (λ bound. CostsAtLeast model b bound.at_least) → BoundTogether model b parts.now →
+        IfSome result (λ bound. CostsAtLeast model b bound.at_least) }
 {
-    match (best, bound.at_least) {
-        (_, None) => true,
-        (Some(best), Some(least)) => best.cost <= least,
-        (None, Some(_)) => false,
+    match whole {
+        Some(bound) => Some(bound),
+        None => bound_of_parts(parts),
+    }
+}
+
+/// Whether a bound shows that no solution costs less.
+fn is_least(cost: i64, bound: Bound) -> bool
+    ensures { OnTrue result ((other : ℤ) → IsAtMost bound.at_least other → cost ≤ℤ other) }
+{
+    match bound.at_least {
+        Some(least) => cost <= least,
+        None => true,
+    }
+}
+
+/// What a bound and the best solution tell of the least cost.
+fn concluded(bound: Bound, best: Option<Incumbent>) -> LeastTold
+    ensures { (model : FznModel) (b : Bounds) → model.goal ≢ Satisfy → CostsAtLeast model b bound.at_least → IfSome best (IsIncumbent model b) →
+        TellsLeast model b result }
+{
+    match best {
+        Some(best) => {
+            if is_least(best.cost, bound) {
+                LeastTold::Known(Some(best))
+            } else {
+                LeastTold::Unknown
+            }
+        }
+        None => match bound.at_least {
+            None => LeastTold::Known(None),
+            Some(_) => LeastTold::Unknown,
+        },
     }
 }
 
@@ -112,13 +136,9 @@ pub fn least_told(whole: CostTold, parts: Vec<CostTold>) -> LeastTold
     ensures { (model : FznModel) (b : Bounds) → model.goal ≢ Satisfy → TellsCosts model b b whole → All (λ part. IfSome part.best (IsIncumbent model b)) parts.items →
         BoundTogether model b parts.items → TellsLeast model b result }
 {
-    let bound = match whole.bound {
-        Some(bound) => Some(bound),
-        None => bound_of_parts(parts.as_slice()),
-    };
-    let best = best_of_parts(whole.best, parts);
-    match bound {
-        Some(bound) if is_least(&best, bound) => LeastTold::Known(best),
-        _ => LeastTold::Unknown,
+    let CostTold { bound, best } = whole;
+    match bound_of_all(bound, parts.as_slice()) {
+        Some(bound) => concluded(bound, best_of_parts(best, parts)),
+        None => LeastTold::Unknown,
     }
 }

@@ -18,3 +18,5 @@ pub mod Laws
 pub mod Settled
 pub mod Joins
 pub mod Raced
+pub mod Portfolios
+pub mod PortfolioJobs

@@ -14,6 +14,7 @@ ghost use Rattle.answer.specs.Given.{mark_for, IsSetUp, IsBestKnown, IsBestOfPar
 ghost use Rattle.answer.specs.Settled.{IsSettled};
 
 use crate::all_job::all_ends;
+use crate::beside::{first_beside, is_beside, least_beside};
 use crate::collecting::{all_of, first_of, is_any_spent, is_open, list_of_one};
 use crate::first_job::first_ends;
 use crate::laws::law_best_is_first;
@@ -246,6 +247,49 @@ fn least_answer<R: Threads + Sync, C: Gate + Sync, L: Gate + Sync>(
     }
 }
 
+/// The first solution, beside a free search if no limit is set.
+fn one_answer<R: Threads + Sync, C: Gate + Sync, L: Gate + Sync>(
+    rt: &R,
+    alloc: Global,
+    run: &Run<'_, L>,
+    options: Options,
+    crew: &mut Workers,
+    gate: &C,
+) -> Result<Answer, NoMemory>
+    requires set_up { IsSetUp run.now options }
+    requires crew { IsCrewFor options crew.old }
+    requires satisfy { run.now.model.now.goal ≡ Satisfy }
+    requires first { options.all ≡ false }
+    ensures { IfOk result (IsGiven run.now.model.now options) }
+{
+    if is_beside(options) {
+        return first_beside(rt, alloc, run, options, crew, gate);
+    }
+    first_answer(rt, alloc, run, options, crew, gate)
+}
+
+/// The first solution of least cost, beside a free search if no limit is set and the two tell it.
+fn best_answer<R: Threads + Sync, C: Gate + Sync, L: Gate + Sync>(
+    rt: &R,
+    alloc: Global,
+    run: &Run<'_, L>,
+    options: Options,
+    crew: &mut Workers,
+    gate: &C,
+) -> Result<Answer, NoMemory>
+    requires set_up { IsSetUp run.now options }
+    requires crew { IsCrewFor options crew.old }
+    requires objective { run.now.model.now.goal ≢ Satisfy }
+    ensures { IfOk result (IsGiven run.now.model.now options) }
+{
+    if is_beside(options) {
+        if let Some(answer) = least_beside(rt, alloc, run, options, crew, gate)? {
+            return Ok(answer);
+        }
+    }
+    least_answer(rt, alloc, run, options, crew, gate)
+}
+
 /// The answer of a set up run.
 fn answer_of<R: Threads + Sync, C: Gate + Sync, L: Gate + Sync>(
     rt: &R,
@@ -267,10 +311,10 @@ fn answer_of<R: Threads + Sync, C: Gate + Sync, L: Gate + Sync>(
             if options.all {
                 all_answer(rt, alloc, run, options, crew, gate)
             } else {
-                first_answer(rt, alloc, run, options, crew, gate)
+                one_answer(rt, alloc, run, options, crew, gate)
             }
         }
-        Goal::Minimize(_) | Goal::Maximize(_) => least_answer(rt, alloc, run, options, crew, gate),
+        Goal::Minimize(_) | Goal::Maximize(_) => best_answer(rt, alloc, run, options, crew, gate),
     }
 }
 

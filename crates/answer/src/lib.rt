@@ -11,8 +11,11 @@
 
 mod all_job;
 mod answering;
+mod beside;
 mod collecting;
+mod cost_job;
 mod first_job;
+mod head_job;
 mod laws;
 mod least_job;
 mod marks;
@@ -22,6 +25,7 @@ mod parts;
 mod plan;
 mod raced;
 mod settled;
+mod told_ends;
 
 pub use answering::{Gates, answer};
 pub use fzn_print::Answer;

@@ -81,7 +81,7 @@ fn raced_first<R: Threads + Sync, L: Gate + Sync>(
 }
 
 /// The answer where there is no solution.
-fn no_answer<L>(alloc: Global, run: &Run<'_, L>, options: Options) -> Answer
+pub(crate) fn no_answer<L>(alloc: Global, run: &Run<'_, L>, options: Options) -> Answer
     requires set_up { IsSetUp run.now options }
     requires unlimited { IsUnlimited options }
     requires none { (a : List ℤ) → SolvesInside run.now.model.now run.now.program.now.start a → ⊥ }

@@ -79,14 +79,14 @@ lies_below model (Some sub ∷ paths) found a (first, rest, own, others, e) h =
 module _ (order : InsideOrder) (one : OneList) (every : EveryList) (laws : PathLaws) (cuts : CutLaws) (whole : WholeOfParts) (listed : SolutionsAreListed) (model : FznModel) (rule : IsSearchOf model)
     (f : IsProgramOf model (program_of model)) (options : Options) (parts : List Part) (are_parts : AreParts parts) where
   -- a part and its subproblem, in which the assignment solves the model
-  record IsCoveredAt (a : Assignment) : Type 0 where
-    number : ℕ
-    below : number < length parts
-    sub : Bounds
-    leads : PartLeadsTo model (kernels_of model) parts (start_of model) number (Some sub)
-    solves : SolvesInside model sub a
+  pub record IsCoveredAt (a : Assignment) : Type 0 where
+    pub number : ℕ
+    pub below : number < length parts
+    pub sub : Bounds
+    pub leads : PartLeadsTo model (kernels_of model) parts (start_of model) number (Some sub)
+    pub solves : SolvesInside model sub a
 
-  covered : (a : Assignment) → IsSolution model a → IsCoveredAt a
+  pub covered : (a : Assignment) → IsSolution model a → IsCoveredAt a
   covered a h =
       let start = start_of model in
       let can = start_can_be_cut order model rule f in

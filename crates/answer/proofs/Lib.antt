@@ -31,3 +31,6 @@ pub mod AskedAlike
 pub mod OneLimited
 pub mod JoinsLaws
 pub mod RacedLaws
+pub mod TellingRuns
+pub mod TellingHeads
+pub mod TellingCosts

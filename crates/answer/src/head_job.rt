@@ -177,13 +177,22 @@ fn run_part<R: Threads + Sync, L: Gate + Sync>(
 }
 
 /// A copy of a solution.
-fn copy_of(alloc: Global, known: Option<&ListOf<i64>>) -> Result<Option<ListOf<i64>>, NoMemory>
-    ensures { (P : List ℤ → Type 0) → IfSome known (λ a. P a.now) → IfOk result (λ copy. IfSome copy P) }
+fn copy_of(alloc: Global, values: &ListOf<i64>) -> Result<ListOf<i64>, NoMemory>
+    ensures { IfOk result (λ copy. copy ≡ values.now) }
 {
-    match known {
+    let copy = Vec::from_slice(alloc, values.as_slice())?;
+    Ok(ListOf::from_vec(copy))
+}
+
+/// A copy of the solution that is known, if one is.
+fn known_copy<L>(alloc: Global, job: &HeadJob<'_, L>) -> Result<Option<ListOf<i64>>, NoMemory>
+    requires known { IfSome job.now.known (λ a. SolvesInside (model_of job.now.plan.now) job.now.plan.now.start.now a.now) }
+    ensures { IfOk result (λ copy. IfSome copy (SolvesInside (model_of job.now.plan.now) job.now.plan.now.start.now)) }
+{
+    match job.known {
         Some(values) => {
-            let copy = Vec::from_slice(alloc, values.as_slice())?;
-            Ok(Some(ListOf::from_vec(copy)))
+            let copy = copy_of(alloc, values)?;
+            Ok(Some(copy))
         }
         None => Ok(None),
     }
@@ -204,7 +213,7 @@ fn run_free<R: Threads + Sync, C: Gate, L: Gate + Sync>(
     ensures told { TellsHead (model_of job.now.plan.now) job.now.plan.now.parts.now job.now.plan.now.start.now 0 result }
 {
     let mut turns = FreeTurns::new(job.progress, gate, job.plan.options.workers);
-    let Ok(known) = copy_of(alloc, job.known) else {
+    let Ok(known) = known_copy(alloc, job) else {
         return FirstTold::Unknown;
     };
     let told = first_by_free(rt, alloc, job.plan.run, job.plan.start, known, &mut turns);

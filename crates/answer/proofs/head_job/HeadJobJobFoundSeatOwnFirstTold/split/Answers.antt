@@ -1,0 +1,9 @@
+use Rattle.answer.specs.Plans.{model_of}
+use Rattle.answer.specs.Portfolios.{TellsHead}
+use Rattle.answer.proofs.TellingRuns.{no_runs_tell}
+use Rattle.answer.proofs.head_job.HeadJobJobFoundSeatOwnFirstTold.split.Goals as goal
+
+pub returns-clause-new_stands : goal.returns-clause-new_stands
+returns-clause-new_stands g c = λ runs h.
+    let plan = c.args.self.now.plan.now in
+    no_runs_tell (TellsHead (model_of plan) plan.parts.now plan.start.now)

@@ -1,5 +1,5 @@
 -- What a portfolio tells of the first solution.
-use Rattle.std.proofs.Common.{◌≡◌, ℕ, zero, suc, ◌<◌, List, [], ◌∷◌, ◌++◌, length, get_or, slice_get, flat_map, Option, None, Some, refl, sym, ap, subst, ◌∙◌, arith}
+use Rattle.std.proofs.Common.{◌≡◌, ℕ, zero, suc, ◌<◌, List, [], ◌∷◌, ◌++◌, length, take, get_or, slice_get, flat_map, Option, None, Some, refl, sym, ap, subst, ◌∙◌, arith}
 use Rattle.std.specs.List.{AllZip}
 use Rattle.std.proofs.lemmas.Option.{slice_get_within, get_or_from_slice_get}
 use Rattle.interval.specs.Boxes.{Bounds, IsInside, IsInRange, InsideOrder}
@@ -19,6 +19,7 @@ use Rattle.portfolio.specs.declared.told.FirstTold.{FirstTold}
 use Rattle.portfolio.specs.Told.{TellsFirst, joined, TellsFirstIn}
 use Rattle.answer.specs.declared.plan.Plan.{Plan}
 use Rattle.answer.specs.Lists.{Assignment}
+use Rattle.answer.specs.Results.{listed}
 use Rattle.answer.specs.Places.{StandsAt, PartLeadsTo}
 use Rattle.answer.specs.Plans.{IsPlan, model_of, kernels_in}
 use Rattle.answer.specs.Parts.{AreParts}
@@ -39,6 +40,13 @@ whole_tells plan is told h found s = h found (subst (λ (ks : List Kernel). Solu
 
 pub tells_whole : {L : Type 0} (plan : Plan L) → IsPlan plan → (told : FirstTold) → TellsFirstOf (model_of plan) (Some plan.start.now) told → TellsFirstIn plan.run.now plan.start.now told
 tells_whole plan is told h found s = h found (subst (λ (ks : List Kernel). SolutionsIn (model_of plan) ks plan.start.now found) is.run.program.kernels s)
+
+-- the first that was collected is the head, where it is the first of the list
+pub head_of_first : (found : List Assignment) (answer : Option Assignment) → listed answer ≡ take 1 found → answer ≡ head_of found
+head_of_first [] None e = refl
+head_of_first [] (Some a) e = absurd cc
+head_of_first (b ∷ found) None e = absurd cc
+head_of_first (b ∷ found) (Some a) e = cc
 
 -- ---- one run
 

@@ -21,6 +21,8 @@ mod parts;
 #[cfg(test)]
 mod paths;
 #[cfg(test)]
+mod portfolios;
+#[cfg(test)]
 mod posts;
 #[cfg(test)]
 mod searches;

@@ -1,6 +1,6 @@
 //! How long the turns of a race are.
 
-use search::Run;
+use search::{Run, node_work};
 
 /// How often the turns are doubled; then the plain search goes on alone.
 pub(crate) const DOUBLINGS: u32 = 44;
@@ -28,9 +28,12 @@ impl Turns {
     /// Those that answers are given by. They are longer in a large program, where the free search needs longer to begin.
     pub fn usual<L>(run: &Run<'_, L>) -> Turns {
         let kernels = run.program.kernels.as_slice().len() as u64;
-        let size = kernels.saturating_add(run.program.start.len() as u64);
+        let variables = run.program.start.len();
+        let size = kernels.saturating_add(variables as u64);
+        // the nodes of one way down the tree
+        let dive = (variables as u64).saturating_mul(node_work(variables));
         Turns {
-            first: LEAST_TURN.max(size.saturating_mul(FIRST_EACH)),
+            first: LEAST_TURN.max(size.saturating_mul(FIRST_EACH).saturating_add(dive)),
             least: LEAST_TURN.max(size.saturating_mul(LATER_EACH)),
         }
     }

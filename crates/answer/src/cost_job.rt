@@ -143,7 +143,7 @@ fn run_free<R: Threads + Sync, C: Gate, L: Gate + Sync, M: OfModel>(
     ensures parts { best_parts seat.new ≡ best_parts seat.old }
     ensures told { TellsCost (model_of job.now.plan.now) job.now.plan.now.parts.now job.now.plan.now.start.now 0 result }
 {
-    let mut turns = FreeTurns::new(job.progress, gate, job.plan.options.workers);
+    let mut turns = FreeTurns::new(job.progress, gate);
     let sharing = Sharing {
         run: job.plan.run,
         best: job.best,

@@ -212,7 +212,7 @@ fn run_free<R: Threads + Sync, C: Gate, L: Gate + Sync>(
     ensures parts { found_parts seat.new ≡ found_parts seat.old }
     ensures told { TellsHead (model_of job.now.plan.now) job.now.plan.now.parts.now job.now.plan.now.start.now 0 result }
 {
-    let mut turns = FreeTurns::new(job.progress, gate, job.plan.options.workers);
+    let mut turns = FreeTurns::new(job.progress, gate);
     let Ok(known) = known_copy(alloc, job) else {
         return FirstTold::Unknown;
     };

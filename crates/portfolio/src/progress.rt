@@ -6,6 +6,9 @@ use std::sync::atomic::{AtomicU64, Ordering};
 /// How many units of work the first turn of the free search has.
 const FIRST_TURN: u64 = 1_000_000;
 
+/// The number with which the free search passes a gate: no worker has it.
+const FREE_NUMBER: u32 = 64;
+
 /// For how many turns in which no part is searched the free search goes on.
 const TURNS_ALONE: u64 = 16;
 
@@ -69,21 +72,19 @@ impl Progress {
 #[derive(Drop)]
 pub struct FreeTurns<'a, C> {
     progress: &'a Progress,
-    // is passed before each turn, as by one worker more
+    // is passed before each turn
     gate: &'a C,
-    worker: u32,
     turn: u64,
     // for how many turns no part was searched
     alone: u64,
 }
 
 impl<'a, C: Gate> FreeTurns<'a, C> {
-    /// Before the first turn, beside so many workers.
-    pub fn new(progress: &'a Progress, gate: &'a C, workers: u32) -> FreeTurns<'a, C> {
+    /// Before the first turn.
+    pub fn new(progress: &'a Progress, gate: &'a C) -> FreeTurns<'a, C> {
         FreeTurns {
             progress,
             gate,
-            worker: workers,
             turn: 0,
             alone: 0,
         }
@@ -93,7 +94,7 @@ impl<'a, C: Gate> FreeTurns<'a, C> {
     /// an eighth of them, so that those who have ended don't wait long; and where no part was searched for some time, as where
     /// no other thread can be had, the parts come next.
     pub(crate) fn next(&mut self, spent: u64) -> Option<u64> {
-        self.gate.pass(self.worker, self.turn);
+        self.gate.pass(FREE_NUMBER, self.turn);
         self.turn = self.turn.saturating_add(1);
         if self.progress.is_quiet() {
             self.alone = self.alone.saturating_add(1);

@@ -5,7 +5,10 @@
 //! solution that it gives solves the model. A model has one finished answer (`law_one_finished`). For an objective a second
 //! search looks for the first solution of the least cost, unless the best one is known to be it (`law_best_is_first`).
 //!
-//! It builds on `search`, `subproblem_walk`, `tree_cutter`, `crew` and `fzn_print`. Which of the answers comes, where a limit allows several,
+//! Where several workers search and no limit is set, one of them has a search of the whole in a free order, and the others the
+//! parts (`src/beside.rt`). What the runs hear of each other are hints: what they told is put together once all are over.
+//!
+//! It builds on `search`, `race`, `portfolio`, `subproblem_walk`, `tree_cutter`, `crew` and `fzn_print`. Which of the answers comes, where a limit allows several,
 //! isn't claimed. Begin with `src/answering.rt`.
 #![tactic(auto)]
 

@@ -1,13 +1,11 @@
 -- What a portfolio tells of the least cost.
-use Rattle.std.proofs.Common.{◌≡◌, ◌≢◌, ℕ, suc, ℤ, ◌<◌, List, ◌∷◌, length, get_or, slice_get, All, Option, None, Some, refl, sym, subst, ◌∙◌, arith}
+use Rattle.std.proofs.Common.{◌≡◌, ◌≢◌, ℕ, suc, ◌<◌, List, ◌∷◌, length, get_or, All, Option, None, Some, refl, sym, subst, arith}
 use Rattle.std.specs.Prelude.{IfSome}
 use Rattle.std.proofs.lemmas.Option.{slice_get-get_or}
 use Rattle.std.proofs.lemmas.List.Elements.{All-from_get_or}
 use Rattle.interval.specs.Boxes.{Bounds, InsideOrder}
-use Rattle.guarded_tell.specs.declared.kernel.Kernel.{Kernel}
 use Rattle.constraint_model.specs.declared.model.Goal.{Goal}
 use Rattle.constraint_model.specs.declared.model.FznModel.{FznModel}
-use Rattle.constraint_model.specs.Relations.{cost_of}
 use Rattle.constraint_model.specs.Searches.{IsSearchOf}
 use Rattle.decompose.specs.Kernels.{kernels_of}
 use Rattle.decompose.specs.Program.{start_of, IsProgramOf}
@@ -22,7 +20,7 @@ use Rattle.race.specs.Leasts.{IsIncumbent}
 use Rattle.portfolio.specs.declared.told.Bound.{Bound}
 use Rattle.portfolio.specs.declared.told.CostTold.{CostTold}
 use Rattle.portfolio.specs.declared.told.LeastTold.{LeastTold}
-use Rattle.portfolio.specs.Told.{TellsCosts, IsBoundedFrom, BoundTogether, TellsLeast}
+use Rattle.portfolio.specs.Told.{TellsCosts, BoundTogether, TellsLeast}
 use Rattle.answer.specs.declared.options.Options.{Options}
 use Rattle.answer.specs.declared.plan.Plan.{Plan}
 use Rattle.answer.specs.Plans.{IsPlan, model_of, kernels_in}

@@ -1,15 +1,14 @@
 -- What a portfolio tells of the first solution.
-use Rattle.std.proofs.Common.{◌≡◌, ℕ, zero, suc, ◌<◌, List, [], ◌∷◌, ◌++◌, length, take, get_or, slice_get, flat_map, Option, None, Some, refl, sym, ap, subst, ◌∙◌, arith}
+use Rattle.std.proofs.Common.{◌≡◌, ℕ, suc, List, [], ◌∷◌, ◌++◌, length, take, Option, None, Some, refl, sym, ap, subst, ◌∙◌, arith}
 use Rattle.std.specs.List.{AllZip}
 use Rattle.std.proofs.lemmas.Option.{slice_get_within, get_or_from_slice_get}
 use Rattle.interval.specs.Boxes.{Bounds, IsInside, IsInRange, InsideOrder}
 use Rattle.guarded_tell.specs.declared.kernel.Kernel.{Kernel}
 use Rattle.constraint_model.specs.declared.model.FznModel.{FznModel}
-use Rattle.constraint_model.specs.Searches.{IsSearchOf}
 use Rattle.decompose.specs.Kernels.{kernels_of}
 use Rattle.branching.specs.Tree.{OneList, EveryList, SolutionsIn}
 use Rattle.subproblems.specs.Cuts.{CanBeCut, CutLaws}
-use Rattle.subproblems.specs.Paths.{SolutionsOf, SolutionsOfAll, PathLaws}
+use Rattle.subproblems.specs.Paths.{SolutionsOfAll, PathLaws}
 use Rattle.tree_cover.specs.declared.part.Part.{Part}
 use Rattle.tree_parts.specs.Whole.{WholeOfParts}
 use Rattle.search.specs.declared.kind.Kind.{Kind}

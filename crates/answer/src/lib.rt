@@ -8,8 +8,8 @@
 //! Where several workers search and no limit is set, one of them has a search of the whole in a free order, and the others the
 //! parts (`src/beside.rt`). What the runs hear of each other are hints: what they told is put together once all are over.
 //!
-//! It builds on `search`, `race`, `portfolio`, `subproblem_walk`, `tree_cutter`, `crew` and `fzn_print`. Which of the answers comes, where a limit allows several,
-//! isn't claimed. Begin with `src/answering.rt`.
+//! It builds on `search`, `race`, `portfolio`, `subproblem_walk`, `tree_cutter`, `crew` and `fzn_print`. Which of the answers comes,
+//! where a limit allows several, isn't claimed. Begin with `src/answering.rt`.
 #![tactic(auto)]
 
 mod all_job;

@@ -1,10 +1,9 @@
-use Rattle.std.proofs.Common.{◌≡◌, ℤ, List, length, All, Some, refl, sym, ap, subst, ◌∙◌, arith}
+use Rattle.std.proofs.Common.{ℤ, List, length, All, Some, refl, sym, ap, subst, ◌∙◌, arith}
 use Rattle.interval.specs.Limits.{IsBound}
 use Rattle.interval.specs.Boxes.{Bounds, IsInside}
 use Rattle.constraint_model.specs.Relations.{cost_of}
 use Rattle.decompose.specs.Program.{start_of}
 use Rattle.search.specs.Costs.{IsObjectiveIn}
-use Rattle.race.specs.Leasts.{IsIncumbent}
 use Rattle.fzn_print.specs.declared.marks.Mark.{Mark}
 use Rattle.answer.specs.Cuts.{cut_to}
 use Rattle.answer.proofs.ListedLaws.{is_program, long_start}

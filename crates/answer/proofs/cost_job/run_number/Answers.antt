@@ -1,4 +1,4 @@
-use Rattle.std.proofs.Common.{◌≡◌, ℕ, suc, ◌-◌, sym, subst, ◌∙◌, arith}
+use Rattle.std.proofs.Common.{◌≡◌, ℕ, suc, ◌-◌, sym, subst, ◌∙◌}
 use Rattle.answer.specs.Plans.{model_of}
 use Rattle.answer.specs.Portfolios.{TellsCost}
 use Rattle.answer.proofs.TellingRuns.{run_more_tells, told_run, behind_is}

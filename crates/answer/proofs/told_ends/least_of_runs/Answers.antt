@@ -1,4 +1,4 @@
-use Rattle.std.proofs.Common.{List, ◌∷◌, sym, subst, ◌∙◌}
+use Rattle.std.proofs.Common.{◌∷◌, sym, subst, ◌∙◌}
 use Rattle.interval.specs.Boxes.{Bounds}
 use Rattle.portfolio.specs.Told.{TellsLeast}
 use Rattle.answer.specs.Plans.{model_of}

@@ -1,4 +1,3 @@
-use Rattle.std.proofs.Common.{Some}
 use Rattle.race.specs.Leasts.{IsIncumbent}
 use Rattle.portfolio.proofs.TogetherLaws.{best_next, one_of_two}
 use Rattle.portfolio.proofs.together.best_of_parts.Goals as goal

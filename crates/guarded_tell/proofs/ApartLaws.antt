@@ -114,14 +114,6 @@ limit_number k count l x y limit kernel (cs, vs, e, d) =
     let linear : IsLinear cs vs limit = subst (λ (j : Kernel). HasNumbers j) e kernel.numbers in
     linear.limit_in_range
 
-pub coded_sum : (limit low w : ℤ) → IsNumber limit → IsBound low → low ≡ w → to_z w64 (of_z w64 (to_z w64 (of_z w64 limit) +ℤ to_z w64 (of_z w64 low))) ≡ limit +ℤ w
-unfolding bound_limit largest_number
-coded_sum limit low w h k e = omega (arith, ints)
-
-pub coded_rest : (limit low w : ℤ) → IsNumber limit → IsBound low → low ≡ w → to_z w64 (of_z w64 (to_z w64 (of_z w64 limit) -ℤ to_z w64 (of_z w64 low))) ≡ limit -ℤ w
-unfolding bound_limit largest_number
-coded_rest limit low w h k e = omega (arith, ints)
-
 pub unit_product : (a z : ℤ) → unsigned_abs a ≡ 1 → IsBound z → to_z w64 (of_z w64 (to_z w64 (of_z w64 a) *ℤ to_z w64 (of_z w64 z))) ≡ a *ℤ z
 unfolding bound_limit largest_number
 unit_product (pos zero) z e h = absurd (omega arith)

@@ -4,7 +4,6 @@ use Rattle.std.proofs.lemmas.Int.{ints, clamps}
 use Rattle.std.proofs.lemmas.Bool.{or_cases}
 use Rattle.std.proofs.lemmas.List.{append-nil}
 use Rattle.std.proofs.lemmas.List.Elements.{All-append}
-use Rattle.std.specs.Int.{int_max}
 use Rattle.std.specs.Int.RustNames.{int_lt, int_le}
 use mir.Syntax.{w64}
 use Rattle.std.specs.List.{zip, flat_map}
@@ -20,39 +19,26 @@ use Rattle.small_sums.specs.declared.short.SmallTerm.{SmallTerm}
 use Rattle.short_tells.specs.declared.short_terms.Room.{Room}
 use Rattle.guarded_tell.specs.declared.shape.Shape.TheVariants.{AtMost, Same}
 use Rattle.guarded_tell.specs.Words.{Keeps, when, is_sure, is_out, tell_true, tell_false}
-use Rattle.sum_tells.specs.Linear.{Term, IsLinear, least_of, greatest_of, product_at_most, product_at_least, literal_tells}
+use Rattle.sum_tells.specs.Linear.{Term, IsLinear, least_of, greatest_of, product_at_most, literal_tells}
 use Rattle.sum_tells.specs.Equality.{is_same, equation_tells}
 use Rattle.tell_laws.specs.Narrowing.{narrowing}
 use Rattle.guarded_tell.specs.Narrowing.{narrowing_tells}
 use Rattle.guarded_tell.specs.Kernels.{tells, HasNumbers, IsKernel}
-use Rattle.small_sums.specs.Short.{small_product_limit, small_limit, short_sum_limit, growth_limit, sums_of_two, IsTermOf, IsShortGrowth}
+use Rattle.small_sums.specs.Short.{small_product_limit, small_limit, short_sum_limit, sums_of_two, IsTermOf}
 use Rattle.short_tells.specs.ShortTells.{room_tells, any_room, room_at_most, room_equal}
 use Rattle.guarded_tell.specs.Shapes.{IsDifference, IsDifferenceIn, IsShapeOf}
 use Rattle.tell_laws.proofs.Lists.{All-one, All-when}
 use Rattle.sum_tells.proofs.EqualityLaws.{least_under_greatest}
 use Rattle.tell_laws.proofs.NarrowingLaws.{none_narrows}
-use Rattle.small_sums.proofs.QuietLaws.{sure_keeps, at_most_wide, at_least_wide}
+use Rattle.small_sums.proofs.QuietLaws.{sure_keeps, at_most_wide}
 use Rattle.guarded_tell.proofs.ShapeQuiet.{difference_sums}
-use Rattle.short_tells.proofs.ShortSumLaws.{sure_not_out, none_told, at_most_by_room, equal_by_room}
-
--- a small term grows by little
-pub small_growth : (b : Bounds) (a : ℤ) (x : ℕ) (t : SmallTerm) → IsTermOf b a x t → IsShortGrowth b a x
-unfolding small_product_limit small_limit growth_limit
-small_growth b a x t h = record {
-  bounds = h.bounds;
-  short = let l = h.least in let g = h.greatest in let m = h.small.least in let n = h.small.greatest in omega (arith, ints);
-}
+use Rattle.short_tells.proofs.ShortSumLaws.{none_told, at_most_by_room, equal_by_room}
 
 pub at_most_number : (k : Kernel) (count : ℕ) (l : Lit) (x y : ℕ) (limit : ℤ) → IsKernel count k → IsShapeOf k (AtMost l x y limit) → IsNumber limit
 unfolding IsShapeOf HasNumbers
 at_most_number k count l x y limit kernel (cs, vs, e, d) =
     let linear : IsLinear cs vs limit = subst (λ (j : Kernel). HasNumbers j) e kernel.numbers in
     linear.limit_in_range
-
--- the sums of two terms, part by part
-pub sums_are : (s : Sums) (p : Pair) → s.least ≡ (p.first.least +ℤ p.second.least) → s.greatest ≡ (p.first.greatest +ℤ p.second.greatest)
-    → s.widest ≡ int_max (p.first.greatest -ℤ p.first.least) (p.second.greatest -ℤ p.second.least) → s ≡ sums_of_two p.first p.second
-sums_are s p e f g = (λ i. record { least = e i; greatest = f i; widest = g i })
 
 -- they are short
 module _ (b : Bounds) (x y : ℕ) (p : Pair) (within : IsDifferenceIn b x y p) (s : ℤ) where
@@ -161,16 +147,6 @@ module _ (quotients : QuotientOrder) (clamped : ClampOrder) (b : Bounds) (k : Ke
     rising_is = (λ i. cond (sym sure i) rising (cond (is_out l b) (record { rise = None; fall = Some (sums.greatest -ℤ (c +ℤ pos 1)) }) any_room))
 
     module _ (a : ℤ) (v : ℕ) (t : SmallTerm) (term : IsTermOf b a v t) where
-      wide : (t.greatest -ℤ t.least) ≤ℤ (c -ℤ sums.least) → (t.greatest -ℤ t.least) ≤ℤ (sums.greatest -ℤ c) → narrowing b (room_tells b both (a, v)) ≡ []
-      wide up down =
-          let l = term.least in let g = term.greatest in
-          let rise = least_of b (a, v) +ℤ (c -ℤ sums.least) in
-          let fall = greatest_of b (a, v) -ℤ (sums.greatest -ℤ c) in
-          none_narrows b (room_tells b both (a, v))
-          (All-append (Keeps b) (product_at_most v a rise) (product_at_least v a fall)
-          (at_most_wide quotients clamped b v a rise term.bounds.low term.bounds.high (omega (arith, ints)))
-          (at_least_wide quotients clamped b v a fall term.bounds.low term.bounds.high (omega (arith, ints))))
-
       high : (t.greatest -ℤ t.least) ≤ℤ (c -ℤ sums.least) → narrowing b (room_tells b rising (a, v)) ≡ []
       high up =
           let l = term.least in let g = term.greatest in
@@ -179,34 +155,6 @@ module _ (quotients : QuotientOrder) (clamped : ClampOrder) (b : Bounds) (k : Ke
           (All-append (Keeps b) (product_at_most v a rise) []
           (at_most_wide quotients clamped b v a rise term.bounds.low term.bounds.high (omega (arith, ints)))
           (λ i d h. absurd (omega arith)))
-
-    module _ (shape : IsShapeOf k (Same l x y limit)) (room : Room) (is : room ≡ room_equal b l c sums) where
-      at_room : (v : Term) → narrowing b (room_tells b both v) ≡ [] → narrowing b (room_tells b room v) ≡ []
-      at_room v none = (λ i. narrowing b (room_tells b ((is ∙ sym both_is) i) v)) ∙ none
-
-      pub same_first : (p.first.least +ℤ p.second.greatest) ≤ℤ c → c ≤ℤ (p.first.greatest +ℤ p.second.least) → narrowing_tells k b ≡ narrowing b (room_tells b room (pos 1, x))
-      unfolding IsShapeOf tells
-      same_first up down = at shape
-        where
-          at : IsShapeOf k (Same l x y limit) → narrowing_tells k b ≡ narrowing b (room_tells b room (pos 1, x))
-          at (cs, vs, e, d) =
-              let one = first_proper in let two = second_proper in
-              (λ i. narrowing b (tells (e i) b))
-              ∙ equal_by_room clamped b l cs vs limit c sums (difference_sums b x y p within cs vs d) read room (sure_not_out clamped b l sure) is
-              ∙ (λ i. equation_none (omega (arith, ints)) (omega (arith, ints)) i ++ flat_map (λ (t : Term). narrowing b (room_tells b room t)) (zip cs vs))
-              ∙ by_first (λ (t : Term). narrowing b (room_tells b room t)) x y cs vs d (at_room (negsuc 0, y) (wide (negsuc 0) y p.second within.second (omega (arith, ints)) (omega (arith, ints))))
-
-      pub same_second : (p.first.greatest +ℤ p.second.least) ≤ℤ c → c ≤ℤ (p.first.least +ℤ p.second.greatest) → narrowing_tells k b ≡ narrowing b (room_tells b room (negsuc 0, y))
-      unfolding IsShapeOf tells
-      same_second up down = at shape
-        where
-          at : IsShapeOf k (Same l x y limit) → narrowing_tells k b ≡ narrowing b (room_tells b room (negsuc 0, y))
-          at (cs, vs, e, d) =
-              let one = first_proper in let two = second_proper in
-              (λ i. narrowing b (tells (e i) b))
-              ∙ equal_by_room clamped b l cs vs limit c sums (difference_sums b x y p within cs vs d) read room (sure_not_out clamped b l sure) is
-              ∙ (λ i. equation_none (omega (arith, ints)) (omega (arith, ints)) i ++ flat_map (λ (t : Term). narrowing b (room_tells b room t)) (zip cs vs))
-              ∙ by_second (λ (t : Term). narrowing b (room_tells b room t)) x y cs vs d (at_room (pos 1, x) (wide (pos 1) x p.first within.first (omega (arith, ints)) (omega (arith, ints))))
 
     module _ (shape : IsShapeOf k (AtMost l x y limit)) (room : Room) (is : room ≡ room_at_most b l c sums) where
       at_rising : (v : Term) → narrowing b (room_tells b rising v) ≡ [] → narrowing b (room_tells b room v) ≡ []

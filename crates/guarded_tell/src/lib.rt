@@ -24,7 +24,6 @@ mod narrowing;
 mod product;
 mod quiet;
 mod resting;
-mod rooms;
 mod seen;
 mod settled;
 mod shape;

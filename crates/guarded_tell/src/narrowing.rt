@@ -12,10 +12,8 @@ ghost use Rattle.tell_laws.specs.Narrowing.{narrowing};
 ghost use Rattle.guarded_tell.specs.Narrowing.{narrowing_tells};
 ghost use Rattle.guarded_tell.specs.Rests.{IsRest};
 
-use crate::differences::{give_either, give_triple, is_apart_given};
 use crate::quiet::Hint;
 use crate::resting::{Rest, listed_rest, seen_rest};
-use crate::rooms::{is_open_given, is_sure_given};
 use crate::shape::Shape;
 use crate::slight_sum::give_slight_sum;
 use crate::{Hear, Kernel, Tell, law_tell_place, visit_tells};
@@ -71,45 +69,9 @@ pub fn visit_unseen<H: Hear>(
         | Shape::Slight
         | Shape::Other => { visit_listed(k, shape, b, hint, h) }
         _ => {
-            give_short(k, shape, b, h);
+            pass_tells(k, b, h);
             Rest::Awake
         }
-    }
-}
-
-/// Gives the tells of a difference, or of a clause of two literals or three.
-#[inline(never)]
-fn give_short<H: Hear>(k: &Kernel, shape: &Shape, b: &BoxOf, h: &mut H)
-    requires kernel { IsKernel (length b.now) k.now }
-    requires shape { IsShapeOf k.now shape.now }
-    requires proper { IsProperIn (vars_of k.now) b.now }
-    requires hearer { MayHearAll H.can_hear H.hears h.old (narrowing_tells k.now b.now) }
-    ensures { HearsAll H.hears h.old (narrowing_tells k.now b.now) h.new }
-{
-    match shape {
-        Shape::Either { first, second } => give_either(*first, *second, b, h),
-        Shape::Triple {
-            first,
-            second,
-            third,
-        } => give_triple(*first, *second, *third, b, h),
-        _ => give_difference(k, shape, b, h),
-    }
-}
-
-/// The same of a difference.
-fn give_difference<H: Hear>(k: &Kernel, shape: &Shape, b: &BoxOf, h: &mut H)
-    requires kernel { IsKernel (length b.now) k.now }
-    requires shape { IsShapeOf k.now shape.now }
-    requires proper { IsProperIn (vars_of k.now) b.now }
-    requires hearer { MayHearAll H.can_hear H.hears h.old (narrowing_tells k.now b.now) }
-    ensures { HearsAll H.hears h.old (narrowing_tells k.now b.now) h.new }
-{
-    if !is_apart_given(k, shape, b, h)
-        && !is_open_given(k, shape, b, h)
-        && !is_sure_given(k, shape, b, h)
-    {
-        give_tells(k, b, h);
     }
 }
 
@@ -239,6 +201,7 @@ fn is_quiet(k: &Kernel, b: &BoxOf) -> bool
 }
 
 /// Passes the kernel's tells that narrow the box on to `h`.
+#[inline(never)]
 fn pass_tells<H: Hear>(k: &Kernel, b: &BoxOf, h: &mut H)
     requires kernel { IsKernel (length b.now) k.now }
     requires proper { IsProperIn (vars_of k.now) b.now }

@@ -1,16 +1,3 @@
 pub mod Words
 pub mod Hearing
 pub mod Kernels
-pub mod Narrowing
-pub mod Shapes
-pub mod Settled
-pub mod Rests
-pub mod Sides
-pub mod Open
-pub mod Sole
-pub mod Three
-pub mod Found
-pub mod Few
-pub mod Seen
-pub mod Held
-pub mod Natural

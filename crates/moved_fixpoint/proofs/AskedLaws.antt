@@ -6,7 +6,7 @@ use Rattle.std.proofs.lemmas.List.{get_or_past, get_or-set_other, get_or-set_sam
 use Rattle.std.proofs.lemmas.List.Elements.{All-nil, All-push}
 use Rattle.interval.specs.Boxes.{Bounds}
 use Rattle.guarded_tell.specs.Words.{Tell}
-use Rattle.guarded_tell.specs.Rests.{IsFixedAt}
+use Rattle.kernel_visits.specs.Rests.{IsFixedAt}
 use Rattle.moved_set.specs.Sets.{IsIn, Naming}
 use Rattle.moved_set.specs.Asking.{IsAsked}
 use Rattle.moved_fixpoint.specs.declared.rests.Rests.{Rests}

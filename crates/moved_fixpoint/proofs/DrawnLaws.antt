@@ -8,7 +8,7 @@ use Rattle.interval.specs.Boxes.{Bounds, IsProper, InsideOrder}
 use Rattle.guarded_tell.specs.declared.kernel.Kernel.{Kernel}
 use Rattle.guarded_tell.specs.Words.{IsProperIn}
 use Rattle.guarded_tell.specs.Kernels.{vars_of, IsKernel, IsClosedUnder}
-use Rattle.guarded_tell.specs.Rests.{IsQuietUntilFixed}
+use Rattle.kernel_visits.specs.Rests.{IsQuietUntilFixed}
 use Rattle.moved_set.specs.Sets.{IsIn, Naming, IsNaming, set_at}
 use Rattle.moved_fixpoint.specs.declared.rests.Rests.{Rests}
 use Rattle.moved_fixpoint.specs.Moved.{Set, AreMovedOrQuiet}

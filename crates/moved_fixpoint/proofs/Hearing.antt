@@ -8,7 +8,7 @@ use Rattle.std.proofs.lemmas.List.Elements.{All-nil, All-cons, All-head, All-tai
 use Rattle.interval.specs.Boxes.{Bounds, low_of, high_of, put_of, IsInside, IsProper, IsCrossed, InsideOrder}
 use Rattle.interval.specs.Limits.{IsBound}
 use Rattle.guarded_tell.specs.Words.{Tell, Side, Low, High}
-use Rattle.guarded_tell.specs.Sides.{SameSide}
+use Rattle.kernel_visits.specs.Sides.{SameSide}
 use Rattle.guarded_tell.specs.Words.{Keeps}
 use Rattle.guarded_tell.specs.Hearing.{HearsAll}
 use Rattle.fixpoint_laws.specs.Changes.{TightensOne}

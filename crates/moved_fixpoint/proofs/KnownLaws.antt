@@ -6,7 +6,7 @@ use Rattle.std.proofs.lemmas.Int.{ints}
 use Rattle.std.proofs.lemmas.List.{get_or_past}
 use Rattle.interval.specs.Boxes.{Bounds, put_of, IsInside, InsideOrder}
 use Rattle.guarded_tell.specs.Kernels.{vars_of}
-use Rattle.guarded_tell.specs.Rests.{IsFixedAt}
+use Rattle.kernel_visits.specs.Rests.{IsFixedAt}
 use Rattle.moved_set.specs.Sets.{IsIn}
 use Rattle.moved_fixpoint.specs.Moved.{Set, count_of}
 use Rattle.moved_fixpoint.specs.Resting.{KnownUnlessMoved}

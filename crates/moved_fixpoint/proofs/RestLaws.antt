@@ -5,7 +5,7 @@ use Rattle.interval.specs.Boxes.{Bounds, IsInside, IsProper, InsideOrder}
 use Rattle.guarded_tell.specs.declared.kernel.Kernel.{Kernel}
 use Rattle.guarded_tell.specs.Words.{IsProperIn}
 use Rattle.guarded_tell.specs.Kernels.{vars_of, IsKernel, IsClosedUnder}
-use Rattle.guarded_tell.specs.Rests.{IsFixedAt, FixesNoOther, IsEntailed, IsQuietUntilFixed}
+use Rattle.kernel_visits.specs.Rests.{IsFixedAt, FixesNoOther, IsEntailed, IsQuietUntilFixed}
 use Rattle.moved_set.specs.Sets.{IsIn}
 use Rattle.moved_fixpoint.specs.Moved.{Set}
 use Rattle.moved_fixpoint.specs.Runs.{SameAt}

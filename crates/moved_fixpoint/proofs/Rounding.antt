@@ -10,7 +10,7 @@ use Rattle.guarded_tell.specs.Kernels.{vars_of, tells, IsKernel, IsClosedUnder}
 use Rattle.fixpoint_laws.specs.Rounds.{HaveRun}
 use Rattle.fixpoint_laws.specs.OneRound.{IsHeardBetween}
 use Rattle.moved_set.specs.Sets.{IsIn}
-use Rattle.guarded_tell.specs.Rests.{IsEntailed, IsQuietUntilFixed}
+use Rattle.kernel_visits.specs.Rests.{IsEntailed, IsQuietUntilFixed}
 use Rattle.moved_fixpoint.specs.declared.rests.Rests.{Rests}
 use Rattle.moved_fixpoint.specs.declared.joiner.Progress.{Progress}
 use Rattle.moved_fixpoint.specs.declared.joiner.Progress.TheVariants.{Still, Moved, Crossed}

@@ -19,8 +19,8 @@ use Rattle.guarded_tell.specs.Words.{Keeps, KeepsSide, IsProperIn, IsInsideIn, A
 use Rattle.guarded_tell.specs.Hearing.{HearsAll}
 use Rattle.guarded_tell.specs.Kernels.{vars_of, tells, IsKernel, IsClosedUnder}
 use Rattle.tell_laws.specs.Narrowing.{narrows}
-use Rattle.guarded_tell.specs.Narrowing.{narrowing_tells}
-use Rattle.guarded_tell.specs.Sides.{IsOneSided, is_sided}
+use Rattle.kernel_visits.specs.Narrowing.{narrowing_tells}
+use Rattle.kernel_visits.specs.Sides.{IsOneSided, is_sided}
 use Rattle.moved_set.specs.Sets.{IsIn, Naming, IsNaming, set_at, side_set_at}
 use Rattle.fixpoint_laws.specs.Changes.{TightensOne}
 use Rattle.fixpoint_laws.specs.Rounds.{HasRun}
@@ -32,9 +32,9 @@ use Rattle.moved_fixpoint.specs.Rested.{Heeds, HasRested}
 use Rattle.moved_fixpoint.specs.Asked.{has_one, heard_at, AreAsked, IsAskedBy}
 use Rattle.moved_fixpoint.specs.Heard.{GoesOn, Becomes, Hears, Joined, joined}
 use Rattle.moved_fixpoint.specs.Sweeps.{with_tells, unless_crossed, after_kernel}
-use Rattle.guarded_tell.specs.declared.resting.Rest.{Rest}
-use Rattle.guarded_tell.specs.Rests.{IsEntailed, IsQuietFor}
-use Rattle.guarded_tell.specs.Seen.{SideLeavesNone, IsFailedBy, IsEntailedBy}
+use Rattle.kernel_visits.specs.declared.resting.Rest.{Rest}
+use Rattle.kernel_visits.specs.Rests.{IsEntailed, IsQuietFor}
+use Rattle.seen_tells.specs.Seen.{SideLeavesNone, IsFailedBy, IsEntailedBy}
 use Rattle.moved_fixpoint.specs.Gathered.{AreCut, AreGathered}
 use Rattle.moved_fixpoint.specs.Runs.{SameAt, SparesSide, IsUnmoved, HasVisited, KernelRuns}
 use Rattle.moved_fixpoint.proofs.RestLaws.{in_or_not, proper_of, entailed_here, quiet_here}

@@ -10,8 +10,8 @@ use Rattle.interval.specs.Boxes.{Bounds, low_of, high_of, IsInside, InsideOrder}
 use Rattle.guarded_tell.specs.declared.kernel.Kernel.{Kernel}
 use Rattle.guarded_tell.specs.Words.{Side, Low, High, Keeps, IsProperIn}
 use Rattle.guarded_tell.specs.Kernels.{vars_of, tells, IsKernel, IsClosedUnder}
-use Rattle.guarded_tell.specs.Rests.{IsFixedAt, FixesNoOther, IsQuietUntilFixed}
-use Rattle.guarded_tell.specs.Sides.{sides_of, SameSide, Reads, AgreeInRead, IsOneSided}
+use Rattle.kernel_visits.specs.Rests.{IsFixedAt, FixesNoOther, IsQuietUntilFixed}
+use Rattle.kernel_visits.specs.Sides.{sides_of, SameSide, Reads, AgreeInRead, IsOneSided}
 use Rattle.moved_fixpoint.proofs.Telling.{keeps_inside}
 
 -- what is told on a box is placed

@@ -6,7 +6,7 @@ use Rattle.guarded_tell.specs.declared.kernel.Kernel.{Kernel}
 use Rattle.guarded_tell.specs.Words.{Tell, Side}
 use Rattle.guarded_tell.specs.Kernels.{IsClosedUnder}
 use Rattle.moved_set.specs.Sets.{IsIn, Naming, set_at, side_set_at}
-use Rattle.guarded_tell.specs.Rests.{IsQuietUntilFixed}
+use Rattle.kernel_visits.specs.Rests.{IsQuietUntilFixed}
 use Rattle.moved_fixpoint.specs.declared.rests.Rests.{Rests}
 use Rattle.moved_fixpoint.specs.Moved.{Set, count_of}
 use Rattle.moved_fixpoint.specs.Resting.{AreEntailedUnlessOpen}

@@ -2,7 +2,7 @@
 use Rattle.std.specs.Prelude.{◌≡◌, ◌⊎◌, ℕ, true, false, List, [], ◌∷◌, ◌++◌, take, Contains}
 use Rattle.interval.specs.Boxes.{Bounds}
 use Rattle.guarded_tell.specs.Words.{Tell}
-use Rattle.guarded_tell.specs.Seen.{LeavesNone}
+use Rattle.seen_tells.specs.Seen.{LeavesNone}
 use Rattle.moved_fixpoint.specs.declared.told.Told.{Told}
 
 -- the first of the tells were gathered, among them one that leaves its variable no number

@@ -4,7 +4,7 @@ use Rattle.std.specs.List.{All}
 use Rattle.interval.specs.Boxes.{Bounds, put_of}
 use Rattle.guarded_tell.specs.declared.kernel.Kernel.{Kernel}
 use Rattle.guarded_tell.specs.Kernels.{vars_of, IsKernel, IsClosedUnder}
-use Rattle.guarded_tell.specs.Shapes.{AreShapesOf}
+use Rattle.kernel_visits.specs.Shapes.{AreShapesOf}
 use Rattle.fixpoint_laws.specs.Fixpoints.{IsClosed}
 use Rattle.moved_set.specs.Sets.{IsIn, Naming, IsNaming}
 

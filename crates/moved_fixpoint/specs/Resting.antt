@@ -4,7 +4,7 @@ use Rattle.std.specs.List.{All}
 use Rattle.interval.specs.Boxes.{Bounds, put_of, IsInside}
 use Rattle.guarded_tell.specs.declared.kernel.Kernel.{Kernel}
 use Rattle.guarded_tell.specs.Kernels.{vars_of}
-use Rattle.guarded_tell.specs.Rests.{IsFixedAt, IsEntailed, IsQuietUntilFixed}
+use Rattle.kernel_visits.specs.Rests.{IsFixedAt, IsEntailed, IsQuietUntilFixed}
 use Rattle.moved_set.specs.Sets.{IsIn}
 use Rattle.moved_set.specs.Layers.{Layers}
 use Rattle.moved_fixpoint.specs.declared.rests.Rests.{Rests}

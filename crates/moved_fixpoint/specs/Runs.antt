@@ -5,7 +5,7 @@ use Rattle.interval.specs.Boxes.{Bounds, low_of, high_of, IsProper, IsCrossed}
 use Rattle.guarded_tell.specs.declared.kernel.Kernel.{Kernel}
 use Rattle.guarded_tell.specs.Words.{Tell, Side}
 use Rattle.guarded_tell.specs.Kernels.{vars_of, IsClosedUnder}
-use Rattle.guarded_tell.specs.Sides.{SameSide, Reads, IsOneSided}
+use Rattle.kernel_visits.specs.Sides.{SameSide, Reads, IsOneSided}
 use Rattle.fixpoint_laws.specs.Rounds.{HasRun}
 use Rattle.fixpoint_laws.specs.OneRound.{LeavesAlone}
 use Rattle.moved_set.specs.Sets.{IsIn}

@@ -2,7 +2,7 @@
 
 ghost use Rattle.std.specs.Prelude.{◌≡◌, ◌<◌, ◌↔◌, ℕ, length, IsTrue};
 ghost use Rattle.std.specs.List.{All};
-ghost use Rattle.guarded_tell.specs.Rests.{IsFixedAt};
+ghost use Rattle.kernel_visits.specs.Rests.{IsFixedAt};
 ghost use Rattle.moved_set.specs.Sets.{IsIn, set_at, side_set_at};
 ghost use Rattle.moved_fixpoint.specs.Moved.{count_of};
 ghost use Rattle.moved_fixpoint.specs.Resting.{FitRests};

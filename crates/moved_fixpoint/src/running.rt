@@ -6,10 +6,10 @@ ghost use Rattle.std.specs.List.{All};
 ghost use Rattle.interval.specs.Boxes.{IsProper};
 ghost use Rattle.guarded_tell.specs.Words.{IsProperIn};
 ghost use Rattle.guarded_tell.specs.Kernels.{vars_of, IsKernel};
-ghost use Rattle.guarded_tell.specs.Narrowing.{narrowing_tells};
-ghost use Rattle.guarded_tell.specs.Shapes.{IsShapeOf};
-ghost use Rattle.guarded_tell.specs.Rests.{IsEntailed, IsQuietFor, IsRest};
-ghost use Rattle.guarded_tell.specs.Seen.{IsEntailedBy};
+ghost use Rattle.kernel_visits.specs.Narrowing.{narrowing_tells};
+ghost use Rattle.kernel_visits.specs.Shapes.{IsShapeOf};
+ghost use Rattle.kernel_visits.specs.Rests.{IsEntailed, IsQuietFor, IsRest};
+ghost use Rattle.seen_tells.specs.Seen.{IsEntailedBy};
 ghost use Rattle.moved_fixpoint.specs.Moved.{AreMasksOf, count_of};
 ghost use Rattle.moved_fixpoint.specs.Resting.{FitRests, KeepStacks};
 ghost use Rattle.moved_fixpoint.specs.Asked.{has_one, AreAsked};
@@ -21,12 +21,12 @@ use crate::joiner::{Progress, join, join_all, join_two};
 use crate::rests::Rests;
 use crate::sets::AskedSets;
 use fixpoint_laws::law_tightens_one;
-use guarded_tell::{
-    Kernel, Rest, Seen, Shape, Sole, Tell, failing_tell, law_local, law_monotone, law_narrowing,
-    law_sided, law_tell_place, seen_rest, seen_visit, sole_tell,
-};
+use guarded_tell::{Kernel, Tell, law_local, law_monotone, law_tell_place};
 use interval::{BoxOf, law_inside_order};
+use kernel_visits::{Rest, Shape, law_sided, seen_rest};
 use moved_set::{AskedSet, Masks};
+use seen_tells::{Seen, Sole, failing_tell, seen_visit, sole_tell};
+use tell_laws::law_narrowing;
 use trailed_box::{Cause, TrailedBox};
 
 /// Asks for the bound of each of these tells.

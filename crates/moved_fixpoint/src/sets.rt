@@ -5,9 +5,9 @@ ghost use Rattle.interval.specs.Boxes.{Bounds};
 ghost use Rattle.guarded_tell.specs.declared.kernel.Kernel.{Kernel};
 ghost use Rattle.guarded_tell.specs.Words.{IsProperIn};
 ghost use Rattle.guarded_tell.specs.Kernels.{vars_of, IsKernel};
-ghost use Rattle.guarded_tell.specs.Narrowing.{narrowing_tells};
-ghost use Rattle.guarded_tell.specs.Shapes.{IsShapeOf};
-ghost use Rattle.guarded_tell.specs.Rests.{IsRest};
+ghost use Rattle.kernel_visits.specs.Narrowing.{narrowing_tells};
+ghost use Rattle.kernel_visits.specs.Shapes.{IsShapeOf};
+ghost use Rattle.kernel_visits.specs.Rests.{IsRest};
 ghost use Rattle.moved_fixpoint.specs.Gathered.{AreGathered};
 ghost use Rattle.moved_fixpoint.specs.Moved.{count_of, Fit, IsEmpty};
 ghost use Rattle.moved_fixpoint.specs.Resting.{AreAwake, AreFresh, AreLeft, FitRests, HasEach, IsBack, KeepCounts, KeepStacks};
@@ -15,10 +15,12 @@ ghost use Rattle.moved_fixpoint.specs.Rested.{HasRested};
 
 use crate::rests::Rests;
 use crate::told::Told;
-use guarded_tell::{Hint, Kernel, Rest, Shape, law_narrowing, rest_of};
+use guarded_tell::Kernel;
 use interval::{BoxOf, NoMemory};
+use kernel_visits::{Hint, Rest, Shape, rest_of};
 use moved_set::{AskedSet, MovedSet};
 use std::alloc::Global;
+use tell_laws::law_narrowing;
 
 /// What a visit costs of a kernel of at most three variables, and of each other one besides its variables, in units of work.
 const SHORT_VISIT: u64 = 4;

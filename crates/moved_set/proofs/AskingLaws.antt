@@ -7,7 +7,7 @@ use Rattle.std.proofs.lemmas.List.{take_more}
 use Rattle.std.proofs.lemmas.List.Elements.{All-append}
 use Rattle.std.proofs.lemmas.List.Folds.{list_any-append}
 use Rattle.std.proofs.lemmas.List.FromFn.{length-map-range_with_len, get_or-map-range_with_len}
-use Rattle.guarded_tell.specs.declared.shape.Shape.{Shape}
+use Rattle.kernel_visits.specs.declared.shape.Shape.{Shape}
 use Rattle.moved_set.specs.declared.mask.Mask.{Mask}
 use Rattle.moved_set.specs.Sets.{side_sets}
 use Rattle.moved_set.specs.Words.{names}

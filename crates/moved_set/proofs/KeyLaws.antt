@@ -7,7 +7,7 @@ use Rattle.std.proofs.lemmas.List.Elements.{Contains-get_or, Contains-append_lef
 use Rattle.guarded_tell.specs.declared.kernel.Kernel.{Kernel}
 use Rattle.guarded_tell.specs.Words.{Side, Low, High, AreVariables}
 use Rattle.guarded_tell.specs.Kernels.{vars_of}
-use Rattle.guarded_tell.specs.Sides.{sides_of, Reads, is_sided}
+use Rattle.kernel_visits.specs.Sides.{sides_of, Reads, is_sided}
 use Rattle.moved_set.specs.declared.parts.Part.{Part}
 use Rattle.moved_set.specs.Parts.{kind_there, kind_at, key_at, keys_from, own_keys, own_keys_at, list_at, part_at, IsPart, AreParts}
 use Rattle.moved_set.proofs.PartLaws.{vars_are}

@@ -9,10 +9,10 @@ use Rattle.std.proofs.lemmas.List.{get_or_past, get_or_default}
 use Rattle.std.proofs.lemmas.List.Elements.{Contains-get_or}
 use Rattle.std.proofs.lemmas.List.Folds.{Any-from_list_any, list_any_at, list_any-append}
 use Rattle.guarded_tell.specs.declared.kernel.Kernel.{Kernel}
-use Rattle.guarded_tell.specs.declared.shape.Shape.{Shape}
+use Rattle.kernel_visits.specs.declared.shape.Shape.{Shape}
 use Rattle.guarded_tell.specs.Kernels.{vars_of, IsKernel}
 use Rattle.guarded_tell.specs.Words.{Side, Low, High}
-use Rattle.guarded_tell.specs.Sides.{is_sided}
+use Rattle.kernel_visits.specs.Sides.{is_sided}
 use Rattle.moved_set.specs.declared.mask.Mask.{Mask}
 use Rattle.moved_set.specs.declared.parts.Part.{Part}
 use Rattle.moved_set.specs.Sets.{IsIn, Naming, IsNaming, IsAskedByEither, set_at, side_sets}

@@ -3,9 +3,9 @@ use Rattle.std.proofs.Common.{◌≡◌, ℕ, ◌<◌, ◌≤◌, ◌+◌, List,
 use Rattle.std.proofs.lemmas.Bool.{cases_lt}
 use Rattle.std.proofs.lemmas.List.{length_push, get_or_append_left, get_or_push, get_or_read}
 use Rattle.guarded_tell.specs.declared.kernel.Kernel.{Kernel}
-use Rattle.guarded_tell.specs.declared.shape.Shape.{Shape}
-use Rattle.guarded_tell.specs.declared.shape.Shape.TheVariants.{Other}
-use Rattle.guarded_tell.specs.Shapes.{IsShapeOf}
+use Rattle.kernel_visits.specs.declared.shape.Shape.{Shape}
+use Rattle.kernel_visits.specs.declared.shape.Shape.TheVariants.{Other}
+use Rattle.kernel_visits.specs.Shapes.{IsShapeOf}
 
 -- so many shapes are those of the first kernels, and `Other` only where a kernel has no other
 pub record AreFirstShapes (kernels : List Kernel) (to : ℕ) (shapes : List Shape) : Type 0 where

@@ -3,7 +3,7 @@ use Rattle.std.specs.Prelude.{◌≡◌, ℕ, zero, suc, ◌<◌, ◌≤◌, ◌
 use Rattle.guarded_tell.specs.declared.kernel.Kernel.{Kernel}
 use Rattle.guarded_tell.specs.Words.{Side, Low, High}
 use Rattle.guarded_tell.specs.Kernels.{vars_of}
-use Rattle.guarded_tell.specs.Sides.{sides_of, is_sided}
+use Rattle.kernel_visits.specs.Sides.{sides_of, is_sided}
 use Rattle.moved_set.specs.declared.parts.Part.{Part}
 
 -- the variables of the kernel at a place

@@ -3,10 +3,10 @@ use Rattle.std.specs.Prelude.{◌≡◌, ℕ, ◌<◌, Bool, true, false, List, 
 use Rattle.guarded_tell.specs.declared.kernel.Kernel.{Kernel}
 use Rattle.guarded_tell.specs.Kernels.{vars_of}
 use Rattle.guarded_tell.specs.Words.{Side, Low, High}
-use Rattle.guarded_tell.specs.Sides.{Reads, is_sided}
-use Rattle.guarded_tell.specs.declared.shape.Shape.{Shape}
-use Rattle.guarded_tell.specs.declared.shape.Shape.TheVariants.{Other}
-use Rattle.guarded_tell.specs.Shapes.{IsShapeOf}
+use Rattle.kernel_visits.specs.Sides.{Reads, is_sided}
+use Rattle.kernel_visits.specs.declared.shape.Shape.{Shape}
+use Rattle.kernel_visits.specs.declared.shape.Shape.TheVariants.{Other}
+use Rattle.kernel_visits.specs.Shapes.{IsShapeOf}
 
 -- the number v is in the set
 abbrev pub IsIn : List Bool → ℕ → Type 0

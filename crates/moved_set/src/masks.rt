@@ -4,7 +4,7 @@
 ghost use Rattle.std.specs.Prelude.{◌≡◌, ◌<◌, ◌≤◌, ◌+◌, ◌*◌, ◌^◌, ◌&&◌, ◌||◌, ℕ, false, length, slice_index_or, All, IfOk};
 ghost use Rattle.std.specs.Bool.{OnTrue};
 ghost use Rattle.guarded_tell.specs.Kernels.{IsKernel};
-ghost use Rattle.guarded_tell.specs.Shapes.{AreShapesOf};
+ghost use Rattle.kernel_visits.specs.Shapes.{AreShapesOf};
 ghost use Rattle.moved_set.specs.Sets.{AreOwnShapes, IsNaming, set_at, side_set_at};
 ghost use Rattle.moved_set.specs.Asking.{IsAsked, side_row, some_uses};
 ghost use Rattle.moved_set.specs.Words.{names};
@@ -17,8 +17,9 @@ use crate::parts::parts_of;
 use crate::rows::Rows;
 use crate::shapes::shapes_of;
 use crate::trailed_set::TrailedSet;
-use guarded_tell::{Kernel, Shape, Side};
+use guarded_tell::{Kernel, Side};
 use interval::NoMemory;
+use kernel_visits::Shape;
 use std::alloc::Global;
 use std::marker::Model;
 

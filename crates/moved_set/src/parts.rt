@@ -4,10 +4,11 @@
 ghost use Rattle.std.specs.Prelude.{ℕ, ◌≡◌, ◌≢◌, ◌<◌, ◌≤◌, ◌-◌, ◌++◌, [], ◌∷◌, drop, length, slice_index_or, All, IsTrue, IfOk, OnOk, IfSome};
 ghost use Rattle.clause_tells.specs.Clause.{clause_vars};
 ghost use Rattle.guarded_tell.specs.Kernels.{vars_of, IsKernel, HasNumbers};
-ghost use Rattle.guarded_tell.specs.Sides.{sides_of, is_sided};
+ghost use Rattle.kernel_visits.specs.Sides.{sides_of, is_sided};
 ghost use Rattle.moved_set.specs.Parts.{HasList, IsPart, AreLists, AreParts, keys_from, kind_at, kind_there, own_keys_at, Grows, GrowsBy};
 
-use guarded_tell::{Extended, Kernel, Literals, Side, is_sided, side_at};
+use guarded_tell::{Extended, Kernel, Literals, Side};
+use kernel_visits::{is_sided, side_at};
 use shared_list::SharedList;
 use std::alloc::{AllocError, Global};
 use std::collections::BTreeMap;

@@ -2,10 +2,11 @@
 
 ghost use Rattle.std.specs.Prelude.{All, IfOk};
 ghost use Rattle.guarded_tell.specs.Kernels.{HasNumbers};
-ghost use Rattle.guarded_tell.specs.Shapes.{AreShapesOf};
+ghost use Rattle.kernel_visits.specs.Shapes.{AreShapesOf};
 ghost use Rattle.moved_set.specs.Sets.{AreOwnShapes};
 
-use guarded_tell::{Kernel, Shape, shape_of};
+use guarded_tell::Kernel;
+use kernel_visits::{Shape, shape_of};
 use std::alloc::{AllocError, Global};
 
 /// The shape of each of these kernels.

@@ -4,13 +4,12 @@ ghost use Rattle.std.specs.Prelude.{◌≡◌, ◌≤◌, IfOk, length, unsigned
 ghost use Rattle.interval.specs.Limits.{IsBound, IsNumber, bound_limit, largest_number};
 ghost use Rattle.interval.specs.Boxes.{IsProper};
 ghost use Rattle.guarded_tell.specs.Kernels.{IsKernel};
-ghost use Rattle.guarded_tell.specs.Shapes.{IsShapeOf};
+ghost use Rattle.kernel_visits.specs.Shapes.{IsShapeOf};
 
-use guarded_tell::{
-    Hear, Hint, Kernel, Seen, Shape, Side, Tell, failing_tell, seen_visit, shape_of, sole_tell,
-    visit_narrowing, visit_tells,
-};
+use guarded_tell::{Hear, Kernel, Side, Tell, visit_tells};
 use interval::{BoxOf, NoMemory, is_crossed};
+use kernel_visits::{Hint, Shape, shape_of, visit_narrowing};
+use seen_tells::{Seen, failing_tell, seen_visit, sole_tell};
 use std::alloc::Global;
 use std::process::Abort;
 
@@ -193,7 +192,7 @@ pub fn row(t: Tell) -> Told {
 
 /// The tells of the kernel on the box of these bounds, in order. Those that narrow it are given alone too, by its shape and
 /// without it, and what its shape alone says of them is so.
-#[tactic(auto, unfolding(guarded_tell::specs::Shapes::IsShapeOf))]
+#[tactic(auto, unfolding(kernel_visits::specs::Shapes::IsShapeOf))]
 fn told(rt: &impl Abort, alloc: Global, kernel: &Kernel, pairs: &Pairs) -> Result<Heard, NoMemory>
     requires { IsKernel 4 kernel.now }
 {

@@ -12,8 +12,9 @@ use crate::four_variables::{
     tell_on_each,
 };
 use guarded_tell::Side::{High, Low};
-use guarded_tell::{Extended, Hint, Kernel, Lit, Shape, Sign, Terms};
+use guarded_tell::{Extended, Kernel, Lit};
 use interval::NoMemory;
+use kernel_visits::{Hint, Shape, Sign, Terms};
 use shared_list::SharedList;
 use std::alloc::{AllocError, Global};
 use std::process::Abort;

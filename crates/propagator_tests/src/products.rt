@@ -7,9 +7,11 @@ ghost use Rattle.guarded_tell.specs.Kernels.{IsKernel};
 use crate::four_variables::{
     PAST, Pairs, Told, are_those_that_narrow, box_of, narrows, row, tells_on,
 };
+use guarded_tell::Kernel;
 use guarded_tell::Side::{High, Low};
-use guarded_tell::{Kernel, Seen, seen_visit, shape_of};
 use interval::{BoxOf, NoMemory};
+use kernel_visits::shape_of;
+use seen_tells::{Seen, seen_visit};
 use std::alloc::Global;
 use std::process::Abort;
 use std::test::Fail;

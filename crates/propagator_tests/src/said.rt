@@ -8,9 +8,11 @@ use crate::four_variables::{LARGEST, PAST, Pairs, Told, box_of, row, tell_on_eac
 use crate::linear::Relation::{AtMost, Equal};
 use crate::linear::{Sum, WAYS, linear};
 use crate::lists::{clause, clause_of_three, greatest};
+use guarded_tell::Kernel;
 use guarded_tell::Side::{High, Low};
-use guarded_tell::{Kernel, Rest, Seen, failing_tell, seen_visit, shape_of, sole_tell};
 use interval::{BoxOf, NoMemory};
+use kernel_visits::{Rest, shape_of};
+use seen_tells::{Seen, failing_tell, seen_visit, sole_tell};
 use std::alloc::Global;
 use std::process::Abort;
 use std::test::Fail;

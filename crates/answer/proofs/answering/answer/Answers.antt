@@ -1,6 +1,6 @@
 use Rattle.std.proofs.Common.{List, refl, subst, ◌∙◌}
 use Rattle.guarded_tell.specs.declared.kernel.Kernel.{Kernel}
-use Rattle.guarded_tell.specs.Shapes.{AreShapesOf}
+use Rattle.kernel_visits.specs.Shapes.{AreShapesOf}
 use Rattle.moved_set.specs.Sets.{IsNaming}
 use Rattle.answer.proofs.answering.answer.Goals as goal
 

@@ -1,6 +1,6 @@
 use Rattle.std.proofs.Common.{sym, subst}
 use Rattle.guarded_tell.specs.Words.{Side, Low, High}
-use Rattle.guarded_tell.specs.Sides.{Reads}
+use Rattle.kernel_visits.specs.Sides.{Reads}
 use Rattle.moved_set.proofs.KeyLaws.{kind_read, kind_none}
 use Rattle.moved_set.proofs.parts.kind_of.Goals as goal
 

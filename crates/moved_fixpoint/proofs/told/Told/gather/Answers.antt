@@ -1,5 +1,5 @@
 use Rattle.std.proofs.Common.{refl}
-use Rattle.guarded_tell.specs.Narrowing.{narrowing_tells}
+use Rattle.kernel_visits.specs.Narrowing.{narrowing_tells}
 use Rattle.moved_fixpoint.proofs.Gathering.{gathered}
 use Rattle.moved_fixpoint.proofs.told.Told.gather.Goals as goal
 

@@ -1,0 +1,12 @@
+pub mod ShapeLaws
+pub mod OpenLaws
+pub mod SoleLaws
+pub mod RoomLaws
+pub mod ClauseQuiet
+pub mod ShapeQuiet
+pub mod RestLaws
+pub mod SettledLaws
+pub mod SeenLaws
+pub mod UnitLaws
+pub mod FoundLaws
+pub mod SideLaws

@@ -1,0 +1,10 @@
+mod ApartLaws
+mod DifferenceLaws
+mod OneLaws
+mod LastLaws
+mod FailLaws
+mod FewLaws
+mod NaturalLaws
+mod GreatestLaws
+mod ThreeLaws
+mod HeldLaws

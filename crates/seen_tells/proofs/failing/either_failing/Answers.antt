@@ -1,0 +1,21 @@
+-- Both literals are out.
+use Rattle.std.proofs.Common.{sym}
+use Rattle.kernel_visits.proofs.ShapeQuiet.{either_places}
+use Rattle.seen_tells.proofs.FailLaws.{either_failed}
+use Rattle.seen_tells.proofs.failing.either_failing.Goals as goal
+
+pub stands_false-requires-clause-variable : goal.stands_false-requires-clause-variable
+stands_false-requires-clause-variable c = (either_places c.args.k.now c.args.b.now c.args.first c.args.second c.requires.kernel c.requires.proper c.requires.shape).first
+
+pub stands_false-requires-clause-proper : goal.stands_false-requires-clause-proper
+stands_false-requires-clause-proper c = (either_places c.args.k.now c.args.b.now c.args.first c.args.second c.requires.kernel c.requires.proper c.requires.shape).first_proper
+
+pub stands_false-requires-then-stands_false-clause-variable : goal.stands_false-requires-then-stands_false-clause-variable
+stands_false-requires-then-stands_false-clause-variable c = (either_places c.args.k.now c.args.b.now c.args.first c.args.second c.requires.kernel c.requires.proper c.requires.shape).second
+
+pub stands_false-requires-then-stands_false-clause-proper : goal.stands_false-requires-then-stands_false-clause-proper
+stands_false-requires-then-stands_false-clause-proper c = (either_places c.args.k.now c.args.b.now c.args.first c.args.second c.requires.kernel c.requires.proper c.requires.shape).second_proper
+
+pub returns-then-stands_false-2 : goal.returns-then-stands_false-2
+returns-then-stands_false-2 c =
+    either_failed c.law_clamp_order.ensures c.args.b.now c.args.k.now c.args.first c.args.second c.requires.shape (sym c.if-stands_false.ensures) (sym c.if-stands_false-2.ensures) (either_places c.args.k.now c.args.b.now c.args.first c.args.second c.requires.kernel c.requires.proper c.requires.shape).first_proper c.tell_true.result c.tell_true.ensures

@@ -19,12 +19,22 @@ use interval::law_inside_order;
 use moved_set::Masks;
 use trailed_box::TrailedBox;
 
-/// Runs the kernels that are asked, in their order, and says how far the round came.
+/// What a visit costs of a kernel of at most three variables, and of each other one besides its variables, in units of work.
+const SHORT_VISIT: u64 = 4;
+
+/// Counts the visits of a round, all at once, so that a visit costs no more for it.
+#[inline(always)]
+fn count(visited: usize, visits: &mut u64) {
+    *visits = visits.saturating_add(SHORT_VISIT.saturating_mul(visited as u64));
+}
+
+/// Runs the kernels that are asked, in their order, says how far the round came, and counts the visits, which no contract speaks of.
 pub(crate) fn run_up(
     kernels: &[Kernel],
     masks: &Masks,
     b: &mut TrailedBox,
     sets: &mut AskedSets,
+    visits: &mut u64,
 ) -> Progress
     requires kernels { All (IsKernel (length b.old.current)) kernels.now }
     requires masks { AreMasksOf kernels.now (length b.old.current) masks.now }
@@ -42,23 +52,28 @@ pub(crate) fn run_up(
     law_local();
     law_tell_place();
     let mut progress = Progress::Still;
+    let mut visited: usize = 0;
     let mut place = sets.asked.next(0);
     'kernels: while place < kernels.len() {
         progress = run_kernel(kernels, masks, place, b, sets, progress);
+        visited += 1;
         if !progress.goes_on() {
+            count(visited, visits);
             return progress;
         }
         place = sets.asked.next(place + 1);
     }
+    count(visited, visits);
     progress
 }
 
-/// Runs the kernels that are asked, the last one first, and says how far the round came.
+/// Runs the kernels that are asked, the last one first, says how far the round came, and counts the visits.
 pub(crate) fn run_down(
     kernels: &[Kernel],
     masks: &Masks,
     b: &mut TrailedBox,
     sets: &mut AskedSets,
+    visits: &mut u64,
 ) -> Progress
     requires kernels { All (IsKernel (length b.old.current)) kernels.now }
     requires masks { AreMasksOf kernels.now (length b.old.current) masks.now }
@@ -76,14 +91,18 @@ pub(crate) fn run_down(
     law_local();
     law_tell_place();
     let mut progress = Progress::Still;
+    let mut visited: usize = 0;
     let mut left = sets.asked.next_back(kernels.len());
     'kernels: while left > 0 {
         let place = left - 1;
         progress = run_kernel(kernels, masks, place, b, sets, progress);
+        visited += 1;
         if !progress.goes_on() {
+            count(visited, visits);
             return progress;
         }
         left = sets.asked.next_back(place);
     }
+    count(visited, visits);
     progress
 }

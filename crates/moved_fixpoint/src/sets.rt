@@ -22,9 +22,6 @@ use moved_set::{AskedSet, MovedSet};
 use std::alloc::Global;
 use tell_laws::law_narrowing;
 
-/// What a visit costs of a kernel of at most three variables, and of each other one besides its variables, in units of work.
-const SHORT_VISIT: u64 = 4;
-
 /// The variables that moved since the last call, and what the rounds work with.
 #[derive(Drop)]
 pub struct MovedSets {
@@ -32,6 +29,8 @@ pub struct MovedSets {
     pub moved: MovedSet,
     /// The kernels that are asked, and those that rest.
     pub asking: AskedSets,
+    // the units of work of all rounds so far, besides those of long kernels: no contract speaks of them
+    pub(crate) visits: u64,
 }
 
 impl MovedSets {
@@ -46,13 +45,14 @@ impl MovedSets {
         Ok(MovedSets {
             moved: MovedSet::new(alloc, count)?,
             asking: AskedSets::new(alloc, kernels)?,
+            visits: 0,
         })
     }
 
     /// The units of work of all visits so far: a hint.
     #[inline(always)]
     pub fn visits(&self) -> u64 {
-        self.asking.visits
+        self.visits.saturating_add(self.asking.long_visits)
     }
 
     /// For a box of which nothing is known: all variables moved, all kernels are asked, none rests, and none that was left is kept.
@@ -111,8 +111,8 @@ pub struct AskedSets {
     pub(crate) told: Told,
     // one for each kernel
     hints: Vec<Hint>,
-    // the units of work of all visits so far: no contract speaks of them
-    visits: u64,
+    // the units of work of the variables of all kernels that were visited to gather their tells
+    long_visits: u64,
 }
 
 impl AskedSets {
@@ -128,7 +128,7 @@ impl AskedSets {
             rests: Rests::new(alloc, kernels)?,
             told: Told::new(alloc),
             hints: vec![in alloc; Hint::new(); kernels]?,
-            visits: 0,
+            long_visits: 0,
         })
     }
 
@@ -171,7 +171,7 @@ impl AskedSets {
         ensures rest { IsRest kernel.now b.now result }
     {
         let units = kernel.var_count() as u64;
-        self.visits = self.visits.saturating_add(units);
+        self.long_visits = self.long_visits.saturating_add(units);
         if place < self.hints.len() {
             self.told.gather(kernel, shape, b, &mut self.hints[place])
         } else {
@@ -216,7 +216,7 @@ impl AskedSets {
         self.rest_for(place, rest)
     }
 
-    /// Lets the kernel at a place rest so long. Each visit that doesn't cross the box ends so, and is counted here.
+    /// Lets the kernel at a place rest so long. Each visit that doesn't cross the box ends so.
     #[inline(always)]
     pub(crate) fn rest_for(&mut self, place: usize, rest: Rest) -> Result<(), NoMemory>
         requires open { place < count_of self.old.rests.open.current }
@@ -227,7 +227,6 @@ impl AskedSets {
         ensures stacks { KeepStacks self.old.rests self.new.rests }
         ensures rested { (k : Kernel) (b : Bounds) → IsRest k b rest → OnOk result (HasRested k place b self.old.rests self.new.rests) }
     {
-        self.visits = self.visits.saturating_add(SHORT_VISIT);
         self.rests.note(place, rest)
     }
 }

@@ -31,6 +31,7 @@ fn run_round(
     masks: &Masks,
     b: &mut TrailedBox,
     sets: &mut AskedSets,
+    visits: &mut u64,
 ) -> Progress
     requires kernels { All (IsKernel (length b.old.current)) kernels.now }
     requires masks { AreMasksOf kernels.now (length b.old.current) masks.now }
@@ -45,9 +46,9 @@ fn run_round(
     ensures swept { Becomes (sweep_by up kernels.now b.old.current) result b.new.current }
 {
     if up {
-        run_up(kernels, masks, b, sets)
+        run_up(kernels, masks, b, sets, visits)
     } else {
-        run_down(kernels, masks, b, sets)
+        run_down(kernels, masks, b, sets, visits)
     }
 }
 
@@ -64,6 +65,7 @@ fn run_rounds(
     kernels: &[Kernel],
     masks: &Masks,
     sets: &mut AskedSets,
+    visits: &mut u64,
     round_limit: u64,
 ) -> Result<Limited, NoMemory>
     requires kernels { All (IsKernel (length b.old.current)) kernels.now }
@@ -89,7 +91,7 @@ fn run_rounds(
     let mut up = true;
     'rounds: loop {
         rounds += 1;
-        match run_round(up, kernels, masks, b, sets) {
+        match run_round(up, kernels, masks, b, sets, visits) {
             Progress::Still => {
                 // it is empty already, and now its sweeps pass over all of it at once
                 sets.asked.clear();
@@ -145,7 +147,14 @@ pub fn settle_proper(
     law_inside_order();
     draw(masks, &sets.moved, b.current(), &mut sets.asking);
     sets.moved.clear();
-    run_rounds(b, kernels, masks, &mut sets.asking, round_limit)
+    run_rounds(
+        b,
+        kernels,
+        masks,
+        &mut sets.asking,
+        &mut sets.visits,
+        round_limit,
+    )
 }
 
 /// Narrows the box of `b` in the same way, which may be crossed. Errors: memory.

@@ -11,6 +11,7 @@ kernels-init c = record {
   fit = c.requires.rests;
   stacks = record { open_stack = refl; alert_stack = refl };
   within = c.next_back-left.ensures.at_most;
+  counted = omega (arith, c.next_back-left.ensures.at_most);
   going = tt;
   stands =
       passed_down c.law_inside_order.ensures c.law_tell_place.ensures c.law_local.ensures.tells c.args.kernels.now c.args.b.now.current c.requires.kernels
@@ -40,6 +41,7 @@ kernels-preserved c = record {
   within = omega (arith, c.next_back-left-in-kernels.ensures.at_most, c.kernels.invariant.within);
   fit = c.run_kernel-progress.ensures.rests;
   stacks = stacks_through c.args.sets.now.rests c.kernels.sets.rests _ c.kernels.invariant.stacks c.run_kernel-progress.ensures.stacks;
+  counted = omega (arith, c.kernels.invariant.counted, c.kernels-test.true, c.next_back-left-in-kernels.ensures.at_most);
   going = c.if-not-goes_on.ensures.0 refl;
   stands =
       passed_down c.law_inside_order.ensures c.law_tell_place.ensures c.law_local.ensures.tells c.args.kernels.now c.args.b.now.current c.requires.kernels

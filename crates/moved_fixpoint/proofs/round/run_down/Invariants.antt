@@ -1,4 +1,4 @@
-use Rattle.std.proofs.Common.{◌≡◌, ◌≤◌, drop, length, Some}
+use Rattle.std.proofs.Common.{◌≡◌, ◌≤◌, ◌+◌, drop, length, Some}
 use Rattle.moved_fixpoint.specs.Heard.{GoesOn}
 use Rattle.moved_fixpoint.specs.Sweeps.{sweep_back}
 use Rattle.moved_fixpoint.specs.Resting.{FitRests, KeepStacks}
@@ -11,6 +11,7 @@ invariant-kernels l = record {
   within : l.left ≤ length l.kernels;
   fit : FitRests (length l.kernels) l.sets.rests;
   stacks : KeepStacks l.initial.sets.rests l.sets.rests;
+  counted : l.visited + l.left ≤ length l.kernels;
   going : GoesOn l.progress;
   stands : Stands l.kernels l.initial.b.current l.left (length l.kernels) l.b.current l.sets.asked l.sets.rests l.progress;
   swept : sweep_back (drop l.left l.kernels) l.initial.b.current ≡ Some l.b.current;

@@ -11,6 +11,7 @@ kernels-init c = record {
   fit = c.requires.rests;
   stacks = record { open_stack = refl; alert_stack = refl };
   within = omega (arith, c.next-place.ensures.at_most, c.requires.set);
+  counted = omega arith;
   going = tt;
   stands =
       passed_up c.law_inside_order.ensures c.law_tell_place.ensures c.law_local.ensures.tells c.args.kernels.now c.args.b.now.current c.requires.kernels
@@ -39,6 +40,7 @@ kernels-preserved c = record {
   within = omega (arith, c.next-place-in-kernels.ensures.at_most, run_count _ _ _ _ _ _ _ _ _ _ c.kernels-test.true c.run_kernel-progress.ensures.run, c.kernels.invariant.stands.same_count);
   fit = c.run_kernel-progress.ensures.rests;
   stacks = stacks_through c.args.sets.now.rests c.kernels.sets.rests _ c.kernels.invariant.stacks c.run_kernel-progress.ensures.stacks;
+  counted = omega (arith, c.kernels.invariant.counted, c.next-place-in-kernels.ensures.at_least);
   going = c.if-not-goes_on.ensures.0 refl;
   stands =
       passed_up c.law_inside_order.ensures c.law_tell_place.ensures c.law_local.ensures.tells c.args.kernels.now c.args.b.now.current c.requires.kernels

@@ -11,6 +11,7 @@ invariant-kernels l = record {
   within : l.place ≤ length l.kernels;
   fit : FitRests (length l.kernels) l.sets.rests;
   stacks : KeepStacks l.initial.sets.rests l.sets.rests;
+  counted : l.visited ≤ l.place;
   going : GoesOn l.progress;
   stands : Stands l.kernels l.initial.b.current 0 l.place l.b.current l.sets.asked l.sets.rests l.progress;
   swept : sweep_forth l.kernels l.initial.b.current ≡ sweep_forth (drop l.place l.kernels) l.b.current;

@@ -1,7 +1,7 @@
 -- What the runs of a portfolio tell stands as they grow, and so in their order.
 use Rattle.std.proofs.Common.{◌≡◌, ℕ, suc, ◌-◌, ◌<◌, List, [], ◌∷◌, ◌++◌, length, take, drop, sym, subst, ap, ◌∙◌, inl, inr, arith}
 use Rattle.std.specs.Prelude.{slice_index_or, Result, Ok, Err, IfOk}
-use Rattle.interval.specs.declared.NoMemory.{NoMemory}
+use Rattle.memory.specs.declared.NoMemory.{NoMemory}
 use Rattle.std.proofs.lemmas.List.Elements.{Contains-append_cases}
 use Rattle.crew.specs.Ends.{AreInOrder}
 use Rattle.answer.specs.Portfolios.{AreTellingRuns, AreTellingEnds}

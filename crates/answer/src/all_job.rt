@@ -11,8 +11,8 @@ ghost use Rattle.answer.specs.Jobs.{numbers_of, Owns, AllFits, AllParts, AllStan
 use crate::plan::{Own, Plan, subproblem};
 use crew::{Job, Work, Workers, run_numbers};
 use gate::Gate;
-use interval::NoMemory;
 use list_of::ListOf;
+use memory::NoMemory;
 use search::{AllEnd, Start, run_all_from};
 use std::alloc::Global;
 use std::thread::Threads;

@@ -7,7 +7,8 @@ ghost use Rattle.answer.specs.Parts.{ArePartsFor};
 ghost use Rattle.answer.specs.Given.{IsSetUp};
 
 use crate::options::Options;
-use interval::{BoxOf, NoMemory};
+use interval::BoxOf;
+use memory::NoMemory;
 use search::Run;
 use std::alloc::Global;
 use subproblem_walk::Tree;

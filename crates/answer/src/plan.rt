@@ -12,7 +12,8 @@ ghost use Rattle.answer.specs.Jobs.{numbers_of};
 ghost use Rattle.answer.specs.Plans.{IsPlan, model_of, kernels_in};
 
 use crate::options::Options;
-use interval::{BoxOf, NoMemory, law_inside_order};
+use interval::{BoxOf, law_inside_order};
+use memory::NoMemory;
 use search::{Kept, Run};
 use std::alloc::Global;
 use subproblem_walk::{Subproblem, Tree, Walk};

@@ -8,7 +8,7 @@ ghost use Rattle.best_bound.specs.Seats.{IsBestSeatOf, best_parts, costs_seen, c
 use crate::object::{Best, CostLaw, Costs};
 use crate::seat::BestSeat;
 use crate::word::{NONE, look, make, part, take_in, tell};
-use interval::NoMemory;
+use memory::NoMemory;
 use std::alloc::Global;
 
 const MIDDLE: u64 = 9_223_372_036_854_775_808;

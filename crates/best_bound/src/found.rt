@@ -7,7 +7,7 @@ ghost use Rattle.best_bound.specs.Seats.{IsFoundSeatOf, found_parts, numbers_see
 use crate::object::{Found, NumberLaw, Numbers};
 use crate::seat::FoundSeat;
 use crate::word::{NONE, look, make, part, take_in, tell};
-use interval::NoMemory;
+use memory::NoMemory;
 use std::alloc::Global;
 
 impl<N: Numbers> Found<N> {

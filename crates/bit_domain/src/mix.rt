@@ -7,7 +7,8 @@ ghost use Rattle.bit_domain.specs.Mixes.{dom_between, dom_of, hull, mix_of, IsDo
 
 use crate::Dom;
 use crate::ends::{greatest_of, least_of};
-use interval::{BoxOf, NoMemory};
+use interval::BoxOf;
+use memory::NoMemory;
 use std::alloc::{AllocError, Global};
 use std::marker::Model;
 

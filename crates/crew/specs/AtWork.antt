@@ -3,7 +3,7 @@
 -- (`is_right`, `drawn`, `has_passed`).
 use Rattle.std.specs.Prelude.{ℕ, ◌≡◌, ◌<◌, ◌≤◌, ◌+◌, List, [], ◌∷◌, ◌++◌, true, length, slice_index_or, Result, IfOk, OnErr}
 use denote.Ref.{MutBor}
-use Rattle.interval.specs.declared.NoMemory.{NoMemory}
+use Rattle.memory.specs.declared.NoMemory.{NoMemory}
 use Rattle.tickets.specs.Counting.{times}
 use Rattle.crew.specs.declared.worker.Worker.{Worker}
 use Rattle.crew.specs.Ends.{numbers_of}

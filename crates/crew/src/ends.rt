@@ -6,8 +6,8 @@ ghost use Rattle.tickets.specs.Counting.{IsEachOnce};
 ghost use Rattle.crew.specs.Ends.{numbers_of, AreInOrder};
 ghost use Rattle.crew.specs.Slots.{AreEmpty, HoldEnds, AreFilledWith};
 
-use interval::NoMemory;
 use list_of::ListOf;
+use memory::NoMemory;
 use std::alloc::{AllocError, Global};
 
 /// So many empty slots.

@@ -9,7 +9,7 @@ ghost use Rattle.crew.specs.Rights.{AreDrawn};
 ghost use Rattle.crew.specs.HandRights.{numbers_dealt, IsHandOf, HasNoneLeft, hand_left, AreHandsOf};
 
 use crate::source::{Dealt, Source};
-use interval::NoMemory;
+use memory::NoMemory;
 use std::alloc::Global;
 use steal_crew::{Hand, deal, law_hands, settle};
 

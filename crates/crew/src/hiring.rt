@@ -14,7 +14,7 @@ use crate::recruit::Recruit;
 use crate::source::Source;
 use crate::worker::{Worker, work};
 use gate::Gate;
-use interval::NoMemory;
+use memory::NoMemory;
 use std::alloc::Global;
 use std::thread::{Threads, for_each_mut};
 

@@ -11,8 +11,8 @@ use crate::job::Job;
 use crate::work::Work;
 use crate::workers::Workers;
 use gate::Gate;
-use interval::NoMemory;
 use list_of::ListOf;
+use memory::NoMemory;
 use std::alloc::Global;
 
 /// The one worker of a crew.

@@ -1,6 +1,6 @@
 //! Jobs: what the workers run.
 
-use interval::NoMemory;
+use memory::NoMemory;
 use std::alloc::Global;
 
 /// Runs of the numbers below a count. Each worker has an `S`, its seat of what all workers share (`()` where that is

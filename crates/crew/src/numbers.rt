@@ -14,8 +14,8 @@ use crate::ticket_source::deal_tickets;
 use crate::work::Work;
 use crate::workers::Workers;
 use gate::Gate;
-use interval::NoMemory;
 use list_of::ListOf;
+use memory::NoMemory;
 use std::alloc::Global;
 use std::thread::Threads;
 

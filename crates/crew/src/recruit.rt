@@ -5,7 +5,7 @@ ghost use Rattle.std.specs.List.{All};
 ghost use Rattle.steal_crew.specs.Numbers.{numbers_below};
 
 use crate::job::Job;
-use interval::NoMemory;
+use memory::NoMemory;
 use std::alloc::Global;
 
 /// A worker that has no seat yet.

@@ -17,8 +17,8 @@ use crate::work::Work;
 use crate::worker::Worker;
 use crate::workers::Workers;
 use gate::Gate;
-use interval::NoMemory;
 use list_of::ListOf;
+use memory::NoMemory;
 use std::alloc::Global;
 use std::thread::Threads;
 

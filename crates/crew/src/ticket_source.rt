@@ -9,7 +9,7 @@ ghost use Rattle.crew.specs.Rights.{AreDrawn};
 ghost use Rattle.crew.specs.TicketRights.{HasPassedTickets, tickets_left, HasAsManyParts, HaveAllParts};
 
 use crate::source::{Dealt, Source};
-use interval::NoMemory;
+use memory::NoMemory;
 use std::alloc::Global;
 use tickets::{TicketSeat, Tickets};
 

@@ -9,7 +9,7 @@ ghost use Rattle.crew.specs.AtWork.{HasSeat, HasRun, HasRunSome, MayStart, MayDr
 use crate::job::Job;
 use crate::source::Source;
 use gate::Gate;
-use interval::NoMemory;
+use memory::NoMemory;
 
 /// One worker, with what it has of its own.
 #[derive(Drop)]

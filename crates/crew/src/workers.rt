@@ -3,7 +3,7 @@
 ghost use Rattle.std.specs.Prelude.{◌≡◌, ◌≤◌, [], ◌∷◌, length, map, IfOk, replicate};
 
 use crate::worker::Worker;
-use interval::NoMemory;
+use memory::NoMemory;
 use std::alloc::Global;
 
 /// Some workers: how they get their numbers, and how many times each has asked for one, so that its gate can tell the times

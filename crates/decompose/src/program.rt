@@ -13,8 +13,9 @@ use crate::places::Places;
 use crate::start::start_box;
 use constraint_model::{FznModel, law_table};
 use guarded_tell::Kernel;
-use interval::{BoxOf, NoMemory};
+use interval::BoxOf;
 use list_of::ListOf;
+use memory::NoMemory;
 use std::alloc::Global;
 
 /// What is solved in place of a model.

@@ -5,7 +5,8 @@ ghost use Rattle.interval.specs.Boxes.{IsInRange};
 ghost use Rattle.decompose.specs.Program.{start_pairs};
 
 use constraint_model::VarDecl;
-use interval::{BoxOf, NoMemory};
+use interval::BoxOf;
+use memory::NoMemory;
 use std::alloc::{AllocError, Global};
 
 /// The pairs of the constant 1, of the declared bounds and of the other constants, in this order.

@@ -7,7 +7,8 @@ ghost use Rattle.mix_store.specs.Seats.{IsSameSeat};
 ghost use Rattle.domain_tests.specs.Two.{IsTwo};
 
 use bit_domain::{Dom, MixOf};
-use interval::{BoxOf, NoMemory};
+use interval::BoxOf;
+use memory::NoMemory;
 use mix_store::{MixSeat, MixStore};
 use std::alloc::{AllocError, Global};
 use std::snapshot::Snapshot;

@@ -16,7 +16,7 @@ use decompose::compile;
 use domain_laws::law_solutions_are_left;
 use fzn_print::{Mark, mark_text};
 use gate::Gate;
-use interval::NoMemory;
+use memory::NoMemory;
 use mix_rounds::{PropagatedMix, propagate_mix};
 use rounds::even_cut;
 use std::alloc::Global;

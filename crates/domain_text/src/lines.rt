@@ -8,7 +8,7 @@ ghost use Rattle.domain_text.specs.Domains.{dom_text, domain_line, domain_text, 
 use crate::sets::push_dom;
 use bit_domain::{Dom, MixOf};
 use constraint_model::{FznModel, Output, Term};
-use interval::NoMemory;
+use memory::NoMemory;
 use std::alloc::{AllocError, Global};
 
 /// The text of domains: a line for each output of the model that is a variable by itself.

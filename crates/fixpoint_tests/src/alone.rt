@@ -7,7 +7,7 @@ ghost use Rattle.guarded_tell.specs.Kernels.{IsKernel};
 use crate::boxes::{bounds_of, four, opposed, raising};
 use fixpoint_laws::{Settled, settle_alone};
 use guarded_tell::Kernel;
-use interval::NoMemory;
+use memory::NoMemory;
 use std::alloc::Global;
 use std::test::Fail;
 

@@ -8,7 +8,7 @@ ghost use Rattle.moved_fixpoint.specs.Moved.{AreMasksOf};
 use crate::boxes::{at_most, bounds_of, four, opposed};
 use fixpoint_laws::Limited;
 use guarded_tell::Kernel;
-use interval::NoMemory;
+use memory::NoMemory;
 use moved_fixpoint::{MovedSets, law_known_unless_moved, law_quiet_unless_moved, settle_moved};
 use moved_set::Masks;
 use std::alloc::{AllocError, Global};

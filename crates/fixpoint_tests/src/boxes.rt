@@ -6,7 +6,8 @@ ghost use Rattle.guarded_tell.specs.Kernels.{IsKernel};
 ghost use Rattle.fixpoint_tests.specs.Small.{is_small, are_small, are_below_four};
 
 use guarded_tell::{Extended, Kernel, Lit};
-use interval::{BoxOf, NoMemory};
+use interval::BoxOf;
+use memory::NoMemory;
 use shared_list::SharedList;
 use std::alloc::{AllocError, Global};
 

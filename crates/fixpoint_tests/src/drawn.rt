@@ -7,7 +7,8 @@ ghost use Rattle.set_tells.specs.InSet.{IsSet};
 ghost use Rattle.guarded_tell.specs.Kernels.{IsKernel};
 
 use guarded_tell::{Extended, Kernel, Lit, Literals};
-use interval::{BoxOf, NoMemory};
+use interval::BoxOf;
+use memory::NoMemory;
 use shared_list::SharedList;
 use std::alloc::{AllocError, Global};
 

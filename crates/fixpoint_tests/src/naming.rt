@@ -4,7 +4,7 @@ ghost use Rattle.std.specs.Prelude.{◌≡◌, ◌<◌, ◌≤◌, ◌+◌, leng
 ghost use Rattle.guarded_tell.specs.Kernels.{IsKernel};
 
 use guarded_tell::Kernel;
-use interval::NoMemory;
+use memory::NoMemory;
 use moved_set::{AskedSet, Masks, MovedSet};
 use shared_list::SharedList;
 use std::alloc::{AllocError, Global};

@@ -2,7 +2,7 @@
 
 ghost use Rattle.std.specs.Prelude.{◌≡◌, length, IfOk};
 
-use interval::NoMemory;
+use memory::NoMemory;
 use moved_set::{AskedSet, MovedSet};
 use std::alloc::Global;
 use std::test::Fail;

@@ -4,8 +4,9 @@ ghost use Rattle.std.specs.Prelude.{◌≡◌, ◌<◌, [], ◌∷◌, length, N
 ghost use Rattle.interval.specs.Limits.{IsBound};
 ghost use Rattle.lattice_store.specs.Seats.{seen_of, floor_of, IsFirst, IsSeatOf, IsSameSeat};
 
-use interval::{BoxOf, NoMemory};
+use interval::BoxOf;
 use lattice_store::{Full, Seat, Store};
+use memory::NoMemory;
 use std::alloc::{AllocError, Global};
 use std::process::Abort;
 use std::snapshot::Snapshot;

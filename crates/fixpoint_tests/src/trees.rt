@@ -17,7 +17,7 @@ use crate::drawn::{Draws, program, start};
 use crate::walks::{Tally, settle_both};
 use fixpoint_laws::law_tightens_one;
 use guarded_tell::Kernel;
-use interval::NoMemory;
+use memory::NoMemory;
 use moved_fixpoint::{MovedSets, law_known_unless_moved, law_quiet_unless_moved};
 use moved_set::Masks;
 use std::alloc::Global;

@@ -13,7 +13,8 @@ ghost use Rattle.moved_fixpoint.specs.Resting.{AreResting, FitRests, KeepStacks,
 use crate::drawn::{Draws, program, start};
 use fixpoint_laws::{Limited, Settled, settle_alone};
 use guarded_tell::Kernel;
-use interval::{BoxOf, NoMemory};
+use interval::BoxOf;
+use memory::NoMemory;
 use moved_fixpoint::{MovedSets, law_known_unless_moved, law_quiet_unless_moved, settle_moved};
 use moved_set::Masks;
 use std::alloc::Global;

@@ -5,7 +5,8 @@ ghost use Rattle.interval.specs.Limits.{IsBound};
 ghost use Rattle.free_search.specs.Free.{IsMeet};
 
 use fixpoint_laws::law_tightens_one;
-use interval::{BoxOf, NoMemory, law_inside_order};
+use interval::{BoxOf, law_inside_order};
+use memory::NoMemory;
 use std::alloc::Global;
 
 /// The greater of two lower bounds.

@@ -1,7 +1,8 @@
 //! What guides a free search. All of it are hints: no contract speaks of them.
 
 use constraint_model::{FznModel, Goal, Phase, Term, ValSel};
-use interval::{BoxOf, NoMemory};
+use interval::BoxOf;
+use memory::NoMemory;
 use search::{Run, node_work};
 use std::alloc::Global;
 

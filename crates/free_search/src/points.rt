@@ -9,8 +9,9 @@ ghost use Rattle.solution_lists.specs.Solutions.{SolvesInside};
 ghost use Rattle.search.specs.Premises.{IsRun};
 
 use constraint_model::FznModel;
-use interval::{BoxOf, NoMemory, law_inside_order};
+use interval::{BoxOf, law_inside_order};
 use list_of::ListOf;
+use memory::NoMemory;
 use search::Run;
 use solution_lists::{law_fixed_is_point, law_point_solves};
 use std::alloc::{AllocError, Global};

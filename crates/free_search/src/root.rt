@@ -7,7 +7,8 @@ ghost use Rattle.search.specs.Premises.{IsRun};
 
 use crate::searcher::Searcher;
 use gate::Gate;
-use interval::{BoxOf, NoMemory, is_crossed, law_inside_order};
+use interval::{BoxOf, is_crossed, law_inside_order};
+use memory::NoMemory;
 use search::{Run, law_can_search};
 use std::alloc::Global;
 use std::thread::Threads;

@@ -13,7 +13,8 @@ ghost use Rattle.free_search.specs.Ready.{IsTighter, AreLeft, IsReady, IsSettled
 
 use fixpoint_laws::law_tightens_one;
 use gate::Gate;
-use interval::{BoxOf, NoMemory};
+use interval::BoxOf;
+use memory::NoMemory;
 use narrowing::{Narrowed, Narrower, Propagation, law_known_where_rests, law_quiet_where_closed};
 use search::Run;
 use std::alloc::Global;

@@ -10,7 +10,8 @@ use crate::texts::{
 };
 use free_search::{FreeEnd, Guide, root_of, run_free};
 use gate::NoGate;
-use interval::{NoMemory, law_inside_order};
+use interval::law_inside_order;
+use memory::NoMemory;
 use nogoods::Learner;
 use search::Run;
 use std::alloc::Global;

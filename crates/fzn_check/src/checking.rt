@@ -9,7 +9,7 @@ ghost use Rattle.fzn_check.specs.Wrong.{CanTest, IsAnswer, IsFirstFailing, IsFir
 use crate::wrong::Wrong;
 use constraint_check::holds_now;
 use constraint_model::{FznModel, VarDecl};
-use interval::NoMemory;
+use memory::NoMemory;
 use rayon::prelude::*;
 use std::thread::Threads;
 

@@ -6,8 +6,8 @@ ghost use Rattle.fzn_print.specs.AnswerText.{answer_text, solution_text};
 use crate::marks::{Mark, mark_text};
 use crate::solutions::print_solution;
 use constraint_model::FznModel;
-use interval::NoMemory;
 use list_of::ListOf;
+use memory::NoMemory;
 use std::alloc::Global;
 
 /// What is answered.

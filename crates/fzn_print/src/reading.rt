@@ -14,8 +14,8 @@ use crate::marks::{Mark, mark_text};
 use crate::numbers::strip;
 use crate::solutions::print_solution;
 use constraint_model::{FznModel, LARGEST, VarDecl};
-use interval::NoMemory;
 use list_of::ListOf;
+use memory::NoMemory;
 use std::alloc::{AllocError, Global};
 
 /// Why a text of solutions gave no answer.

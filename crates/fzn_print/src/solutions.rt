@@ -6,7 +6,7 @@ ghost use Rattle.fzn_print.specs.AnswerText.{output_line, output_text, solution_
 use crate::arrays::push_array;
 use crate::values::push_term;
 use constraint_model::{FznModel, Output};
-use interval::NoMemory;
+use memory::NoMemory;
 use std::alloc::{AllocError, Global};
 
 /// What ends a solution.

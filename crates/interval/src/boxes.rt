@@ -4,18 +4,9 @@ ghost use Rattle.std.specs.Prelude.{◌≡◌, ◌<◌, ◌≤◌, ◌≤ℤ◌,
 ghost use Rattle.interval.specs.Limits.{IsBound, bound_limit, box_limit};
 ghost use Rattle.interval.specs.Boxes.{low_of, high_of, put_of, IsInRange, IsProper, IsCrossed, IsPoint, InsideOrder, width_sum_of};
 
-use std::alloc::{AllocError, Global};
+use memory::NoMemory;
+use std::alloc::Global;
 use std::marker::Model;
-
-/// Memory was refused.
-#[derive(Clone, Copy, PartialEq, Eq, Debug)]
-pub struct NoMemory;
-
-impl From<AllocError> for NoMemory {
-    fn from(_: AllocError) -> NoMemory {
-        NoMemory
-    }
-}
 
 /// A pair of bounds for each variable, the lower first. Contracts see it as the list of the pairs.
 #[derive(Drop)]

@@ -10,7 +10,8 @@ use crate::seat::{Seat, keep_greater, one_of};
 use crate::store::Store;
 use crate::table::{Copies, Learns, Made, Merges, Table};
 use crate::words::origin_word;
-use interval::{BoxOf, NoMemory};
+use interval::BoxOf;
+use memory::NoMemory;
 use std::alloc::Global;
 use std::marker::Brand;
 

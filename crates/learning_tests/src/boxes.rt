@@ -8,7 +8,8 @@ ghost use Rattle.nogoods.specs.Learners.{Serves};
 ghost use Rattle.learning_tests.specs.Small.{is_small, are_small, are_below_four};
 
 use guarded_tell::{Kernel, Lit, Side, Tell};
-use interval::{BoxOf, NoMemory};
+use interval::BoxOf;
+use memory::NoMemory;
 use nogoods::{Bearing, Learner, Nogood};
 use shared_list::SharedList;
 use std::alloc::{AllocError, Global};

@@ -6,7 +6,7 @@ ghost use Rattle.tells.specs.declared.tell.Tell.{Tell};
 ghost use Rattle.literals.specs.Literals.{IsPlaced, IsMore, IsLess};
 
 use crate::literal::is_as_tight;
-use interval::NoMemory;
+use memory::NoMemory;
 use std::alloc::Global;
 use std::marker::Model;
 use tells::{Side, Tell};

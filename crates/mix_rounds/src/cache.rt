@@ -7,7 +7,8 @@ ghost use Rattle.mix_rounds.specs.Lanes.{FitsLength};
 
 use bit_domain::MixOf;
 use domain_drops::law_hull_inside;
-use interval::{BoxOf, NoMemory};
+use interval::BoxOf;
+use memory::NoMemory;
 use mix_store::MixSeat;
 use shared_lanes::Lane;
 use std::alloc::{AllocError, Global};

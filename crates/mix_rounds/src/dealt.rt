@@ -10,7 +10,7 @@ use crate::cache::Cache;
 use crate::share::run_share;
 use gate::Gate;
 use guarded_tell::Kernel;
-use interval::NoMemory;
+use memory::NoMemory;
 use mix_store::{MixSeat, MixStore};
 use shared_lanes::{Lane, Shared, run_lanes};
 use std::alloc::Global;

@@ -19,7 +19,7 @@ use domain_drops::{law_drop_place, law_inside_mix_order, law_weight};
 use fixpoint_laws::Settled;
 use gate::Gate;
 use guarded_tell::{Kernel, law_tell_place};
-use interval::NoMemory;
+use memory::NoMemory;
 use mix_store::{MixSeat, MixStore};
 use shared_lanes::Lane;
 use std::alloc::Global;

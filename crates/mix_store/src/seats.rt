@@ -10,7 +10,7 @@ use crate::seat::MixSeat;
 use crate::store::MixStore;
 use crate::table::{Copies, Learns, Merges, Table};
 use bit_domain::{Dom, MixOf};
-use interval::NoMemory;
+use memory::NoMemory;
 use std::alloc::Global;
 use std::marker::Brand;
 

@@ -5,8 +5,8 @@ ghost use Rattle.moved_fixpoint.specs.Moved.{count_of};
 ghost use Rattle.moved_fixpoint.specs.Resting.{AreAwake, AreFresh, AreLeft, FitRests, IsBack, KeepCounts, KeepStacks};
 ghost use Rattle.moved_fixpoint.specs.Rested.{IsNoted};
 
-use interval::NoMemory;
 use kernel_visits::Rest;
+use memory::NoMemory;
 use moved_set::TrailedSet;
 use std::alloc::Global;
 

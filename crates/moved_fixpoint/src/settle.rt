@@ -20,7 +20,8 @@ use crate::round::{run_down, run_up};
 use crate::sets::{AskedSets, MovedSets};
 use fixpoint_laws::{Limited, law_rounds_lead};
 use guarded_tell::Kernel;
-use interval::{NoMemory, is_crossed, law_inside_order};
+use interval::{is_crossed, law_inside_order};
+use memory::NoMemory;
 use moved_set::Masks;
 use trailed_box::TrailedBox;
 

@@ -8,7 +8,7 @@ use crate::bits::{
 };
 use crate::mask::Mask;
 use crate::trailed_set::TrailedSet;
-use interval::NoMemory;
+use memory::NoMemory;
 use std::alloc::Global;
 use std::marker::Model;
 

@@ -9,7 +9,7 @@ ghost use Rattle.moved_set.specs.Rows.{row_at};
 use crate::groups::Groups;
 use crate::mask::{Mask, mask_of};
 use crate::rows::row;
-use interval::NoMemory;
+use memory::NoMemory;
 use std::alloc::Global;
 
 /// Adds a mask to a group. `last` has for each word the place of its mask, if it has one there.

@@ -3,7 +3,7 @@
 ghost use Rattle.std.specs.Prelude.{◌≡◌, [], true, false, IfOk};
 ghost use Rattle.moved_set.specs.Listed.{HasPut};
 
-use interval::NoMemory;
+use memory::NoMemory;
 use std::alloc::Global;
 use std::marker::Model;
 

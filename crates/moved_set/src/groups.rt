@@ -4,7 +4,7 @@ ghost use Rattle.std.specs.Prelude.{◌≡◌, ◌<◌, ◌≤◌, ◌+◌, ◌+
 ghost use Rattle.moved_set.specs.Flat.{IsFlat};
 
 use crate::mask::Mask;
-use interval::NoMemory;
+use memory::NoMemory;
 use std::alloc::Global;
 use std::marker::Model;
 

@@ -18,8 +18,8 @@ use crate::rows::Rows;
 use crate::shapes::shapes_of;
 use crate::trailed_set::TrailedSet;
 use guarded_tell::{Kernel, Side};
-use interval::NoMemory;
 use kernel_visits::Shape;
+use memory::NoMemory;
 use std::alloc::Global;
 use std::marker::Model;
 

@@ -5,7 +5,7 @@ ghost use Rattle.moved_set.specs.Listed.{AreAllOf, AreMany};
 ghost use Rattle.moved_set.specs.Words.{has};
 
 use crate::few::Few;
-use interval::NoMemory;
+use memory::NoMemory;
 use std::alloc::Global;
 use std::marker::Model;
 

@@ -6,7 +6,7 @@ ghost use Rattle.moved_set.specs.Words.{has};
 
 use crate::bits::has_bit_at;
 use crate::mask::Mask;
-use interval::NoMemory;
+use memory::NoMemory;
 use std::alloc::Global;
 use std::marker::Model;
 

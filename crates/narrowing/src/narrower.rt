@@ -19,7 +19,7 @@ use crate::narrowed::Narrowed;
 use crate::propagation::Propagation;
 use gate::Gate;
 use guarded_tell::Kernel;
-use interval::NoMemory;
+use memory::NoMemory;
 use moved_fixpoint::{law_known_unless_moved, law_quiet_unless_moved};
 use std::alloc::Global;
 use std::thread::Threads;

@@ -9,8 +9,9 @@ use crate::explaining::explain;
 use crate::store::Nogood;
 use crate::touched::Touched;
 use guarded_tell::Kernel;
-use interval::{BoxOf, NoMemory};
+use interval::BoxOf;
 use literals::Literals;
+use memory::NoMemory;
 use reasons::{is_one_since, met_by};
 use trailed_box::Log;
 

@@ -10,8 +10,9 @@ ghost use Rattle.literals.specs.Literals.{IsPlaced, Meets};
 ghost use Rattle.nogoods.specs.Nogoods.{IsMetPair, AreMetBounds, AreMetBut};
 
 use guarded_tell::{Kernel, Side, Tell};
-use interval::{BoxOf, NoMemory};
+use interval::BoxOf;
 use literals::{Literals, is_met};
+use memory::NoMemory;
 
 /// Adds a literal, unless the whole space meets it.
 pub(crate) fn meet_unless(t: Tell, space: &BoxOf, literals: &mut Literals) -> Result<(), NoMemory>

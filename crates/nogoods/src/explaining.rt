@@ -10,8 +10,9 @@ use crate::analysis::Learning;
 use crate::resolving::{resolve, resolve_by};
 use crate::touched::Touched;
 use crate::watches::look_work;
-use interval::{BoxOf, NoMemory};
+use interval::BoxOf;
 use literals::Literals;
+use memory::NoMemory;
 use reasons::propose;
 use trailed_box::Cause;
 

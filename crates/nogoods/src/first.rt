@@ -9,8 +9,9 @@ ghost use Rattle.nogoods.specs.Nogoods.{IsNogood};
 
 use crate::bounds_met::{meet_others, meet_unless};
 use guarded_tell::Tell;
-use interval::{BoxOf, NoMemory};
+use interval::BoxOf;
 use literals::{Literals, opposite};
+use memory::NoMemory;
 
 /// A literal and its opposite, but for what the whole space meets: no solution of any kernels meets both. Errors: memory.
 pub fn begin(t: Tell, space: &BoxOf, literals: &mut Literals) -> Result<(), NoMemory>

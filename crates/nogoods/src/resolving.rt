@@ -14,8 +14,9 @@ ghost use Rattle.nogoods.specs.Nogoods.{IsNogood};
 use crate::bounds_met::{meet_bounds, meet_others};
 use crate::laws::law_nogoods;
 use guarded_tell::{Kernel, Tell};
-use interval::{BoxOf, NoMemory, law_inside_order};
+use interval::{BoxOf, law_inside_order};
 use literals::{Literals, is_as_tight, law_literals, opposite};
+use memory::NoMemory;
 use reasons::{is_proper_in, is_told};
 
 /// Replaces the literal at a place by the bounds of a kernel's variables in the box, if the kernel tells it there; else

@@ -3,8 +3,8 @@
 ghost use Rattle.std.specs.Prelude.{◌≡◌, IfOk};
 
 use guarded_tell::Tell;
-use interval::NoMemory;
 use literals::Literals;
+use memory::NoMemory;
 use std::alloc::Global;
 
 /// A nogood that is kept.

@@ -3,8 +3,9 @@
 
 use crate::store::Nogood;
 use guarded_tell::{Side, Tell};
-use interval::{BoxOf, NoMemory};
+use interval::BoxOf;
 use literals::{is_as_tight, is_met};
+use memory::NoMemory;
 use reasons::{place_met, told_by};
 use std::alloc::{AllocError, Global};
 use trailed_box::Log;

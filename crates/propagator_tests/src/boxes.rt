@@ -3,7 +3,8 @@
 ghost use Rattle.std.specs.Prelude.{◌≡◌, IfOk, pos, negsuc, [], ◌∷◌};
 
 use crate::four_variables::PAST;
-use interval::{BoxOf, NoMemory, is_crossed, is_point, width_sum};
+use interval::{BoxOf, is_crossed, is_point, width_sum};
+use memory::NoMemory;
 use std::alloc::Global;
 use std::test::Fail;
 

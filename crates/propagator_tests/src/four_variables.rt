@@ -7,8 +7,9 @@ ghost use Rattle.guarded_tell.specs.Kernels.{IsKernel};
 ghost use Rattle.kernel_visits.specs.Shapes.{IsShapeOf};
 
 use guarded_tell::{Hear, Kernel, Side, Tell, visit_tells};
-use interval::{BoxOf, NoMemory, is_crossed};
+use interval::{BoxOf, is_crossed};
 use kernel_visits::{Hint, Shape, shape_of, visit_narrowing};
+use memory::NoMemory;
 use seen_tells::{Seen, failing_tell, seen_visit, sole_tell};
 use std::alloc::Global;
 use std::process::Abort;

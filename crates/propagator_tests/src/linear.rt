@@ -13,8 +13,8 @@ use crate::four_variables::{
 };
 use guarded_tell::Side::{High, Low};
 use guarded_tell::{Extended, Kernel, Lit};
-use interval::NoMemory;
 use kernel_visits::{Hint, Shape, Sign, Terms};
+use memory::NoMemory;
 use shared_list::SharedList;
 use std::alloc::{AllocError, Global};
 use std::process::Abort;

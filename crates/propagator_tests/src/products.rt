@@ -9,8 +9,9 @@ use crate::four_variables::{
 };
 use guarded_tell::Kernel;
 use guarded_tell::Side::{High, Low};
-use interval::{BoxOf, NoMemory};
+use interval::BoxOf;
 use kernel_visits::shape_of;
+use memory::NoMemory;
 use seen_tells::{Seen, seen_visit};
 use std::alloc::Global;
 use std::process::Abort;

@@ -9,7 +9,7 @@ use crate::said::Way::{Fails, Last, Nothing, One, Quiet, Rests, Two};
 use crate::said::{Way, is_said};
 use guarded_tell::Kernel;
 use guarded_tell::Side::{High, Low};
-use interval::NoMemory;
+use memory::NoMemory;
 use std::alloc::Global;
 use std::process::Abort;
 use std::test::Fail;

@@ -8,8 +8,8 @@ ghost use Rattle.race.specs.Tasks.{IsTask};
 ghost use Rattle.race.specs.Leasts.{IsIncumbent, best_cost, IsCopy};
 
 use crate::task::Task;
-use interval::NoMemory;
 use list_of::ListOf;
+use memory::NoMemory;
 use search::{LeastTurns, solution_cost};
 use std::alloc::Global;
 

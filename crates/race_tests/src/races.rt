@@ -13,8 +13,9 @@ use crate::texts::{
 use best_bound::{Found, Numbers};
 use constraint_model::{Goal, Term};
 use gate::NoGate;
-use interval::{NoMemory, law_inside_order};
+use interval::law_inside_order;
 use list_of::ListOf;
+use memory::NoMemory;
 use race::{Raced, Turns, first_of_race, least_of_race};
 use search::{FirstEnd, LeastTurn, LeastTurns, Run, run_first};
 use std::alloc::Global;

@@ -1,7 +1,7 @@
 -- Lanes that are given seats, have run, and are taken back.
 use Rattle.std.proofs.Common.{◌≡◌, ◌≢◌, ℕ, ◌+◌, Bool, true, false, List, length, refl, sym, ap, subst, ◌∙◌, arith, ◌⊎◌, inl, inr}
 use Rattle.std.specs.Prelude.{◌||◌, IfSome, IfOk, Result, Ok, Err}
-use Rattle.interval.specs.declared.NoMemory.{NoMemory}
+use Rattle.memory.specs.declared.NoMemory.{NoMemory}
 use Rattle.std.specs.Bool.{OnTrue, OnFalse}
 use Rattle.std.proofs.lemmas.Bool.{true≢false}
 use borrow.Author.Count.{below_more}

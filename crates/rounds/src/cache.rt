@@ -3,8 +3,9 @@
 ghost use Rattle.std.specs.Prelude.{◌≡◌, ℕ, length, IfOk};
 ghost use Rattle.rounds.specs.Lanes.{AreLanes, HaveMadeNoPass};
 
-use interval::{BoxOf, NoMemory};
+use interval::BoxOf;
 use lattice_store::Seat;
+use memory::NoMemory;
 use shared_lanes::Lane;
 use std::alloc::Global;
 

@@ -5,7 +5,7 @@ ghost use Rattle.rounds.specs.Shares.{share_limit, IsCut};
 ghost use Rattle.rounds.specs.Even.{AreDealt, AreEvenShares};
 
 use guarded_tell::Kernel;
-use interval::NoMemory;
+use memory::NoMemory;
 use std::alloc::{AllocError, Global};
 
 /// So many empty shares.

@@ -12,8 +12,8 @@ use crate::cache::Cache;
 use crate::share::run_share;
 use gate::Gate;
 use guarded_tell::{Kernel, law_tell_place};
-use interval::NoMemory;
 use lattice_store::{Seat, Store};
+use memory::NoMemory;
 use shared_lanes::Shared;
 use std::alloc::Global;
 

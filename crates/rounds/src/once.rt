@@ -11,7 +11,8 @@ use crate::work::Work;
 use fixpoint_laws::Limited;
 use gate::Gate;
 use guarded_tell::Kernel;
-use interval::{BoxOf, NoMemory};
+use interval::BoxOf;
+use memory::NoMemory;
 use std::alloc::Global;
 use std::thread::Threads;
 

@@ -14,7 +14,9 @@ ghost use Rattle.rounds.specs.Steps.{Stepped, IsSnapshot, MayTell, HasTold};
 
 use crate::cache::Cache;
 use gate::Gate;
-use guarded_tell::{Hear, Kernel, Side, Tell, law_local, law_monotone, law_tell_place, visit_tells};
+use guarded_tell::{
+    Hear, Kernel, Side, Tell, law_local, law_monotone, law_tell_place, visit_tells,
+};
 use interval::BoxOf;
 use lattice_store::{Seat, Store};
 

@@ -21,8 +21,9 @@ use crate::run::{Over, Run, Start, alone};
 use crate::searcher::Searcher;
 use branching::law_branches;
 use gate::Gate;
-use interval::{BoxOf, NoMemory, law_inside_order};
+use interval::{BoxOf, law_inside_order};
 use list_of::ListOf;
+use memory::NoMemory;
 use std::alloc::Global;
 use std::thread::Threads;
 

@@ -24,8 +24,9 @@ use crate::searcher::Searcher;
 use best_bound::{Found, FoundSeat, Numbers};
 use branching::{law_branches, law_every_list};
 use gate::Gate;
-use interval::{BoxOf, NoMemory, law_inside_order};
+use interval::{BoxOf, law_inside_order};
 use list_of::ListOf;
+use memory::NoMemory;
 use std::alloc::Global;
 use std::thread::Threads;
 

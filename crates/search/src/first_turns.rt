@@ -13,8 +13,9 @@ use crate::run::{Run, Start, alone};
 use crate::searcher::Searcher;
 use branching::{law_branches, law_every_list, law_one_list};
 use gate::Gate;
-use interval::{BoxOf, NoMemory, law_inside_order};
+use interval::{BoxOf, law_inside_order};
 use list_of::ListOf;
+use memory::NoMemory;
 use std::alloc::Global;
 use std::thread::Threads;
 

@@ -12,7 +12,7 @@ ghost use Rattle.search.specs.Keeping.{CanServe, HasKept, IsKeptFor};
 use crate::run::{Run, Start};
 use crate::searcher::Searcher;
 use branching::Front;
-use interval::NoMemory;
+use memory::NoMemory;
 use narrowing::Narrower;
 use std::alloc::Global;
 

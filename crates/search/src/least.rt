@@ -32,8 +32,9 @@ use best_bound::{Best, BestSeat, Costs};
 use branching::law_branches;
 use constraint_model::{FznModel, Goal};
 use gate::Gate;
-use interval::{BoxOf, NoMemory, law_inside_order};
+use interval::{BoxOf, law_inside_order};
 use list_of::ListOf;
+use memory::NoMemory;
 use std::alloc::{AllocError, Global};
 use std::thread::Threads;
 

@@ -26,8 +26,9 @@ use crate::searcher::Searcher;
 use branching::law_branches;
 use constraint_model::Goal;
 use gate::Gate;
-use interval::{BoxOf, NoMemory, law_inside_order};
+use interval::{BoxOf, law_inside_order};
 use list_of::ListOf;
+use memory::NoMemory;
 use std::alloc::Global;
 use std::thread::Threads;
 

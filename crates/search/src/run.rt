@@ -4,7 +4,8 @@ ghost use Rattle.std.specs.Prelude.{◌≡◌, IfOk};
 
 use constraint_model::FznModel;
 use decompose::Program;
-use interval::{BoxOf, NoMemory};
+use interval::BoxOf;
+use memory::NoMemory;
 use moved_set::Masks;
 use std::alloc::Global;
 use trailed_box::TrailedBox;

@@ -6,8 +6,9 @@ ghost use Rattle.search_tests.specs.Models.{IsCompiled};
 
 use crate::models::{Compiled, compile_text};
 use gate::NoGate;
-use interval::{NoMemory, law_inside_order};
+use interval::law_inside_order;
 use list_of::ListOf;
+use memory::NoMemory;
 use search::{AllEnd, Kept, Run, Start, run_all_from};
 use std::alloc::Global;
 use std::test::Fail;

@@ -7,7 +7,7 @@ use crate::models::model_of;
 use answer::{Answer, Gates, Options, answer};
 use fzn_print::Mark;
 use gate::NoGate;
-use interval::NoMemory;
+use memory::NoMemory;
 use std::alloc::Global;
 use std::process::Abort;
 use std::test::Fail;

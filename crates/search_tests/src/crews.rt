@@ -4,9 +4,9 @@ ghost use Rattle.std.specs.Prelude.{◌≡◌, ◌<◌, ◌≤◌, ◌+◌, ◌*
 
 use crew::{Job, Work, Workers, run_numbers};
 use gate::{Gate, NoGate};
-use interval::NoMemory;
 use list_of::ListOf;
 use meeting::Meet;
+use memory::NoMemory;
 use std::alloc::Global;
 use std::sync::atomic::{AtomicBool, AtomicU64, Ordering};
 use std::test::Fail;

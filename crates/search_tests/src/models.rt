@@ -9,7 +9,7 @@ use decompose::{Program, compile};
 use fzn_lexer::lex;
 use fzn_model::{law_well_formed, resolve};
 use fzn_parser::parse;
-use interval::NoMemory;
+use memory::NoMemory;
 use moved_set::Masks;
 use std::alloc::Global;
 

@@ -10,7 +10,8 @@ ghost use Rattle.subproblem_walk.specs.Walks.{IsWalkFrom, StandsOn};
 ghost use Rattle.search_tests.specs.Models.{IsCompiled};
 
 use crate::models::{Compiled, compile_text};
-use interval::{BoxOf, NoMemory};
+use interval::BoxOf;
+use memory::NoMemory;
 use std::alloc::{AllocError, Global};
 use std::process::Abort;
 use std::test::Fail;

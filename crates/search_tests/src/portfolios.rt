@@ -6,7 +6,7 @@ use crate::models::model_of;
 use answer::{Answer, Gates, Options, answer};
 use fzn_print::Mark;
 use gate::{Gate, NoGate};
-use interval::NoMemory;
+use memory::NoMemory;
 use std::alloc::Global;
 use std::process::Abort;
 use std::sync::atomic::{AtomicBool, AtomicU64, Ordering};

@@ -4,7 +4,7 @@ ghost use Rattle.std.specs.Prelude.{◌≡◌, ◌<◌, ◌+◌, ◌||◌, ℕ, 
 ghost use Rattle.shared_lanes.specs.Lanes.{HasSeat};
 
 use crate::shared::Shared;
-use interval::NoMemory;
+use memory::NoMemory;
 use std::alloc::Global;
 
 /// One lane. It has a seat from the start of a round to its end.

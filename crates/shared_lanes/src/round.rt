@@ -7,7 +7,7 @@ ghost use Rattle.shared_lanes.specs.Lanes.{HasSeat, SameCaches};
 
 use crate::lane::{Lane, run_lane, seat_lane, unseat_lane};
 use crate::shared::Shared;
-use interval::NoMemory;
+use memory::NoMemory;
 use std::alloc::Global;
 use std::thread::{Threads, for_each_mut};
 

@@ -1,6 +1,6 @@
 //! What lanes share.
 
-use interval::NoMemory;
+use memory::NoMemory;
 use std::alloc::Global;
 
 /// What the lanes of a round share. Each lane has an `S`, its seat, from the start of a round to its end, and keeps a `C` from

@@ -12,7 +12,7 @@ ghost use Rattle.steal_crew.specs.Dealing.{IsUndrawn, IsFresh, AreFresh, AreBein
 use crate::hand::Hand;
 use crate::steps::{Own, make, part, push};
 use crate::victim::Victim;
-use interval::NoMemory;
+use memory::NoMemory;
 use std::alloc::Global;
 
 /// Puts the numbers below n that leave this rest by the number of workers into a deque, rising.

@@ -8,7 +8,7 @@ ghost use Rattle.steal_crew.specs.Rule.{first_view, pushed, took, IsAllTaken, Is
 
 use crate::deque::{Looks, Merges, Parts, Pops, Pushes, Rule, Steals, View};
 use crossbeam_deque::{Pass, Steal, Stealer, Worker};
-use interval::NoMemory;
+use memory::NoMemory;
 use std::alloc::{AllocError, Global};
 
 pub type Own = Worker<u32, Global, View, Rule>;

@@ -2,8 +2,8 @@
 
 use crew::{Job, Work, Workers, run_numbers};
 use gate::{Gate, NoGate};
-use interval::NoMemory;
 use list_of::ListOf;
+use memory::NoMemory;
 use std::alloc::Global;
 use std::sync::atomic::{AtomicBool, AtomicU64, Ordering};
 use std::test::Fail;

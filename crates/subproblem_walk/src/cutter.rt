@@ -16,7 +16,8 @@ use branching::{Branching, Front, branch_from};
 use constraint_model::FznModel;
 use fixpoint_laws::Limited;
 use guarded_tell::Kernel;
-use interval::{BoxOf, NoMemory, is_crossed, law_inside_order};
+use interval::{BoxOf, is_crossed, law_inside_order};
+use memory::NoMemory;
 use moved_fixpoint::{MovedSets, law_known_unless_moved, law_quiet_unless_moved, settle_proper};
 use trailed_box::TrailedBox;
 

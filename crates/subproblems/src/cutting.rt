@@ -10,7 +10,8 @@ use branching::{are_fixed, choose};
 use constraint_model::FznModel;
 use fixpoint_laws::{Settled, settle_alone};
 use guarded_tell::Kernel;
-use interval::{BoxOf, NoMemory};
+use interval::BoxOf;
+use memory::NoMemory;
 use std::alloc::Global;
 
 /// What the search tree makes of a box.

@@ -12,7 +12,8 @@ use crate::laws::law_cuts;
 use constraint_model::FznModel;
 use decompose::Program;
 use guarded_tell::Kernel;
-use interval::{BoxOf, NoMemory};
+use interval::BoxOf;
+use memory::NoMemory;
 use std::alloc::{AllocError, Global};
 
 /// The subproblems into which a box is cut to a depth, in the order of the search tree. Errors: memory.

@@ -12,7 +12,8 @@ use crate::laws::{law_cuts, law_paths};
 use constraint_model::FznModel;
 use decompose::Program;
 use guarded_tell::Kernel;
-use interval::{BoxOf, NoMemory};
+use interval::BoxOf;
+use memory::NoMemory;
 use std::alloc::Global;
 
 /// The box that the number leads to from a start, if there is one. Errors: memory.

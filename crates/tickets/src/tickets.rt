@@ -6,7 +6,7 @@ ghost use Rattle.tickets.specs.Counting.{IsEachOnce};
 use crate::seat::TicketSeat;
 use crate::steps::{hear, make, part, step_on_next, take_in};
 use crate::table::Table;
-use interval::NoMemory;
+use memory::NoMemory;
 use std::alloc::Global;
 
 /// Numbers from 0 on that its seats draw, each of them once.

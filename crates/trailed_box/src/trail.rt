@@ -5,7 +5,8 @@ ghost use Rattle.interval.specs.Boxes.{low_of, high_of};
 ghost use Rattle.trailed_box.specs.Trailed.{IsPart};
 ghost use Rattle.trailed_box.specs.Trail.{undone, var_at, AreOn, Spares, Appends};
 
-use interval::{BoxOf, NoMemory};
+use interval::BoxOf;
+use memory::NoMemory;
 
 /// The bounds of one variable.
 #[derive(Clone, Copy, PartialEq, Eq, Debug)]

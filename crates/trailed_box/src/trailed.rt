@@ -7,7 +7,8 @@ ghost use Rattle.trailed_box.specs.Trailed.{left_of, IsPart};
 
 use crate::log::{Cause, Log};
 use crate::trail::{Change, Mark, Part, note, undo};
-use interval::{BoxOf, NoMemory};
+use interval::BoxOf;
+use memory::NoMemory;
 use std::alloc::Global;
 use std::marker::Model;
 

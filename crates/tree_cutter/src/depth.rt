@@ -4,7 +4,7 @@ ghost use Rattle.std.specs.Prelude.{◌≡◌, ◌≤◌, map, IfOk};
 ghost use Rattle.std.specs.List.{range_with_len};
 ghost use Rattle.tree_cover.specs.Covers.{part_at, parts_to};
 
-use interval::NoMemory;
+use memory::NoMemory;
 use std::alloc::{AllocError, Global};
 use subproblems::count_to;
 use tree_cover::Part;

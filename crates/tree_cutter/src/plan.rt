@@ -12,7 +12,7 @@ use crate::biggest::cut_biggest;
 use crate::depth::parts_to_depth;
 use crate::rounds::{Cutter, Node, alone, is_part};
 use crate::volume::{BIT, Volume};
-use interval::NoMemory;
+use memory::NoMemory;
 use std::alloc::{AllocError, Global};
 use subproblem_walk::Tree;
 use tree_cover::{Part, are_cover, law_parts_to};

@@ -9,7 +9,7 @@ ghost use Rattle.subproblem_walk.specs.Walks.{IsWalkFrom};
 ghost use Rattle.tree_cover.specs.Covers.{IsPart};
 
 use crate::volume::{Volume, branching_pairs, volume_of};
-use interval::NoMemory;
+use memory::NoMemory;
 use std::alloc::{AllocError, Global};
 use subproblem_walk::{Tree, Walk};
 use subproblems::count_to;

@@ -1,7 +1,8 @@
 //! How big the boxes of a search tree are.
 
 use constraint_model::FznModel;
-use interval::{BoxOf, NoMemory};
+use interval::BoxOf;
+use memory::NoMemory;
 use std::alloc::{AllocError, Global};
 
 /// A logarithm to base 2, or a sum of some, in sixteenths.

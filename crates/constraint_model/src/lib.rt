@@ -7,6 +7,7 @@
 //! were added. It builds on `list_of` and `shared_list`, and reads no text: `fzn_model` does.
 #![tactic(auto)]
 
+mod boxed;
 mod constant_set;
 mod entries;
 mod kernels;
@@ -18,6 +19,7 @@ mod places;
 mod ranges;
 pub mod table;
 
+pub use boxed::Boxed;
 pub use constant_set::Constants;
 pub use entries::Entries;
 pub use kernels::{add_constant, add_constants, has_long_row, kernel_count};

@@ -2,6 +2,7 @@
 
 ghost use Rattle.std.specs.Prelude.{◌≡◌};
 
+use crate::boxed::Boxed;
 use crate::table::ConstraintName;
 use list_of::ListOf;
 use names::Name;
@@ -40,15 +41,16 @@ pub struct ArrayTerms {
     pub number: Option<usize>,
 }
 
-/// An argument of a constraint: a term, an array or a set.
+/// An argument of a constraint: a term, an array or a set. The last two are in boxes, so that the first, of which there are
+/// most, takes little room.
 #[derive(Drop)]
 pub enum Operand {
     /// A number or a variable.
     One(Term),
     /// An array.
-    Row(ArrayTerms),
+    Row(Boxed<ArrayTerms>),
     /// A set, as its sorted greatest ranges.
-    Set(SharedList<(i64, i64)>),
+    Set(Boxed<SharedList<(i64, i64)>>),
 }
 
 /// A declared variable.

@@ -18,23 +18,26 @@ use crate::scope::Scope;
 use crate::searches::all_phases;
 use crate::stop::Stop;
 use constraint_model::{
-    ArrayTerms, Constraint, ConstraintName, Goal, Meaning, Operand, Term, fits_some_row,
+    ArrayTerms, Boxed, Constraint, ConstraintName, Goal, Meaning, Operand, Term, fits_some_row,
 };
 use fzn_parser::tree::{Aim, Ann, Expr};
 use list_of::ListOf;
 use std::alloc::{AllocError, Global};
 
 #[inline(always)]
-fn operand_of(meaning: Meaning) -> Operand
-    ensures { result ≡ fitting.operand_of meaning }
+fn operand_of(alloc: Global, meaning: Meaning) -> Result<Operand, AllocError>
+    ensures { IfOk result (λ operand. operand ≡ fitting.operand_of meaning) }
 {
     match meaning {
-        Meaning::One(scalar) => Operand::One(scalar.term),
-        Meaning::Row(array) => Operand::Row(ArrayTerms {
-            terms: array.entries.into_terms(),
-            number: array.number,
-        }),
-        Meaning::Set(ranges) => Operand::Set(ranges),
+        Meaning::One(scalar) => Ok(Operand::One(scalar.term)),
+        Meaning::Row(array) => {
+            let row = ArrayTerms {
+                terms: array.entries.into_terms(),
+                number: array.number,
+            };
+            Ok(Operand::Row(Boxed::new(alloc, row)?))
+        }
+        Meaning::Set(ranges) => Ok(Operand::Set(Boxed::new(alloc, ranges)?)),
     }
 }
 
@@ -48,7 +51,7 @@ fn constraint_on(
 {
     let mut operands = ListOf::from_vec(Vec::with_capacity(alloc, meanings.len())?);
     for meaning in meanings.into_vec() {
-        operands.push(operand_of(meaning))?;
+        operands.push(operand_of(alloc, meaning)?)?;
     }
     Ok(Constraint { name, operands })
 }

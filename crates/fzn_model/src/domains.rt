@@ -6,7 +6,7 @@ ghost use Rattle.fzn_model.specs.Effects as effects;
 use crate::exprs::{number_at, set_at};
 use crate::stop::Stop;
 use crate::types::equality_name;
-use constraint_model::{Constraint, ConstraintName, LARGEST, Operand, Term};
+use constraint_model::{Boxed, Constraint, ConstraintName, LARGEST, Operand, Term};
 use fzn_parser::tree::{SetLit, Shape};
 use list_of::ListOf;
 use shared_list::SharedList;
@@ -75,7 +75,8 @@ pub(crate) fn membership(
 ) -> Result<Constraint, Stop>
     ensures { IfOk result (λ c. c ≡ effects.membership term ranges) }
 {
-    let operands = two_operands(alloc, Operand::One(term), Operand::Set(ranges))?;
+    let set = Operand::Set(Boxed::new(alloc, ranges)?);
+    let operands = two_operands(alloc, Operand::One(term), set)?;
     Ok(Constraint {
         name: ConstraintName::SetIn,
         operands,

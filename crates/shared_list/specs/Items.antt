@@ -5,5 +5,6 @@ use Rattle.shared_list.specs.declared.items.Items.{Items}
 
 -- the elements in order
 abbrev pub elements : {T : Type 0} → Items T → List T
+elements (Items.Two items) = items
 elements (Items.Own items) = items.items
 elements (Items.Shared items mark) = arc_slice_items items

@@ -12,6 +12,8 @@ const MOST_OWN: usize = 64;
 /// Where the elements of a list stand.
 #[derive(Drop)]
 pub(crate) enum Items<T> {
+    /// Two of them, in the list itself: most constraints are of two variables, and such a list takes no memory of its own.
+    Two([T; 2]),
     /// With this list alone.
     Own(Vec<T>),
     /// With all owners together, and a mark by which they are told from other elements.
@@ -24,6 +26,7 @@ impl<T> Items<T> {
         ensures { result.now ≡ elements self.now }
     {
         match self {
+            Items::Two(items) => items.as_slice(),
             Items::Own(items) => items.as_slice(),
             Items::Shared(items, _) => items.as_slice(),
         }
@@ -38,25 +41,23 @@ impl<T> Items<T> {
     }
 }
 
-impl<T: Drop> Items<T> {
+impl<T: Copy> Items<T> {
     /// These elements, with a mark.
     pub(crate) fn of(items: Vec<T>, mark: usize) -> Result<Items<T>, AllocError>
         ensures { IfOk result (λ made. elements made ≡ items.items) }
     {
-        if items.len() <= MOST_OWN {
-            Ok(Items::Own(items))
-        } else {
-            Ok(Items::Shared(ArcSlice::from_vec(items)?, mark))
+        match items.as_slice() {
+            [first, second] => Ok(Items::Two([*first, *second])),
+            some if some.len() <= MOST_OWN => Ok(Items::Own(items)),
+            _ => Ok(Items::Shared(ArcSlice::from_vec(items)?, mark)),
         }
     }
-}
-
-impl<T: Copy> Items<T> {
     /// The same elements for another owner.
     pub(crate) fn share(&self, alloc: Global) -> Result<Items<T>, AllocError>
         ensures { IfOk result (λ shared. elements shared ≡ elements self.now) }
     {
         match self {
+            Items::Two(items) => Ok(Items::Two(*items)),
             Items::Own(items) => Ok(Items::Own(Vec::from_slice(alloc, items.as_slice())?)),
             Items::Shared(items, mark) => Ok(Items::Shared(items.clone()?, *mark)),
         }

@@ -1,6 +1,6 @@
 //! An immutable list that contracts see as the plain list of its elements, and that is shared in place of being copied.
 //!
-//! A short list owns its elements, so that reading it takes no further step. A longer one stands once in memory, however many
+//! A short list owns its elements, so that reading it takes no further step, and has two in itself. A longer one stands once in memory, however many
 //! owners it has. It stands on nothing. Begin with `SharedList::from_vec` and `SharedList::share`. That a long list is not
 //! copied is neither proved nor tested; threads may read it, which is tested.
 #![tactic(auto)]
@@ -66,7 +66,7 @@ impl<T> SharedList<T> {
     }
 }
 
-impl<T: Drop> SharedList<T> {
+impl<T: Copy> SharedList<T> {
     /// The list of these elements. A long one takes memory for what its owners share beside the elements.
     pub fn from_vec(items: Vec<T>) -> Result<SharedList<T>, AllocError>
         ensures { IfOk result (λ list. list ≡ items.items) }
@@ -82,9 +82,7 @@ impl<T: Drop> SharedList<T> {
             items: Items::of(items, mark)?,
         })
     }
-}
 
-impl<T: Copy> SharedList<T> {
     /// The same list for another owner. A short one is copied, and of a long one no element.
     pub fn share(&self, alloc: Global) -> Result<SharedList<T>, AllocError>
         ensures { IfOk result (λ list. list ≡ self.now) }

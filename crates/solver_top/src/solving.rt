@@ -66,7 +66,7 @@ fn answer_of_input<R: Threads + Sync, S: Source, C: Gate + Sync, L: Gate + Sync>
         → WasAsked (told_text (S.held files.old) (Some (config_meant config.now))) (S.names files.old) (S.names files.new) (S.left files.new) (S.is_open files.new) (IsErrOf result Status.ReadFault) }
 {
     let text = text_of_input(alloc, config, files)?;
-    written_of_text(rt, alloc, &text, config, gates)
+    written_of_text(rt, alloc, text, config, gates)
 }
 
 /// The text of the file, or the made text.
@@ -126,13 +126,13 @@ fn text_of_file<S: Source>(alloc: Global, name: &str, files: &mut S) -> Result<V
 fn written_of_text<R: Threads + Sync, C: Gate + Sync, L: Gate + Sync>(
     rt: &R,
     alloc: Global,
-    text: &[u8],
+    text: Vec<u8>,
     config: &Config<'_>,
     gates: &Gates<C, L>,
 ) -> Result<Vec<u8>, Status>
     requires { IsConfig config.now }
-    ensures ok { IfOk result (λ bytes. IsWritten config.now.options (input_meant config.now.input) text.now bytes.items) }
-    ensures cause { IfErr result (IsTextCause text.now) }
+    ensures ok { IfOk result (λ bytes. IsWritten config.now.options (input_meant config.now.input) text.items bytes.items) }
+    ensures cause { IfErr result (IsTextCause text.items) }
 {
     if config.options.domains {
         return domains_of_text(rt, alloc, text, &config.options, gates);
@@ -147,13 +147,13 @@ fn written_of_text<R: Threads + Sync, C: Gate + Sync, L: Gate + Sync>(
 fn domains_of_text<R: Threads + Sync, C: Gate + Sync, L: Gate + Sync>(
     rt: &R,
     alloc: Global,
-    text: &[u8],
+    text: Vec<u8>,
     options: &Options,
     gates: &Gates<C, L>,
 ) -> Result<Vec<u8>, Status>
     requires { AreOptions options.now }
-    ensures ok { IfOk result (λ bytes. AreDomainsOf text.now bytes.items) }
-    ensures cause { IfErr result (IsTextCause text.now) }
+    ensures ok { IfOk result (λ bytes. AreDomainsOf text.items bytes.items) }
+    ensures cause { IfErr result (IsTextCause text.items) }
 {
     let model = model_of(alloc, text)?;
     match domains_of(rt, alloc, &model, options.lanes, gates.lanes) {
@@ -166,13 +166,13 @@ fn domains_of_text<R: Threads + Sync, C: Gate + Sync, L: Gate + Sync>(
 fn answer_of_text<R: Threads + Sync, C: Gate + Sync, L: Gate + Sync>(
     rt: &R,
     alloc: Global,
-    text: &[u8],
+    text: Vec<u8>,
     options: &Options,
     gates: &Gates<C, L>,
 ) -> Result<Vec<u8>, Status>
     requires options { AreOptions options.now }
-    ensures ok { IfOk result (λ bytes. IsAnswerOf options.now text.now bytes.items) }
-    ensures cause { IfErr result (IsTextCause text.now) }
+    ensures ok { IfOk result (λ bytes. IsAnswerOf options.now text.items bytes.items) }
+    ensures cause { IfErr result (IsTextCause text.items) }
 {
     let model = model_of(alloc, text)?;
     let Ok(answer) = search(rt, alloc, &model, options, gates) else {
@@ -189,14 +189,14 @@ fn line_of_text<R: Threads + Sync, C: Gate + Sync, L: Gate + Sync>(
     rt: &R,
     alloc: Global,
     n: u32,
-    text: &[u8],
+    text: Vec<u8>,
     options: &Options,
     gates: &Gates<C, L>,
 ) -> Result<Vec<u8>, Status>
     requires count { n ≤ 2000 }
     requires options { AreOptions options.now }
-    ensures ok { IfOk result (λ bytes. IsLineOf options.now n text.now bytes.items) }
-    ensures cause { IfErr result (IsTextCause text.now) }
+    ensures ok { IfOk result (λ bytes. IsLineOf options.now n text.items bytes.items) }
+    ensures cause { IfErr result (IsTextCause text.items) }
 {
     let model = model_of(alloc, text)?;
     let Ok(answer) = search(rt, alloc, &model, options, gates) else {
@@ -209,16 +209,16 @@ fn line_of_text<R: Threads + Sync, C: Gate + Sync, L: Gate + Sync>(
     }
 }
 
-/// The model of a text.
-fn model_of(alloc: Global, text: &[u8]) -> Result<FznModel, Status>
-    ensures ok { IfOk result (IsTextOf text.now) }
+/// The model of a text, which is let go once its model stands: a search keeps none of its memory.
+fn model_of(alloc: Global, text: Vec<u8>) -> Result<FznModel, Status>
+    ensures ok { IfOk result (IsTextOf text.items) }
     ensures well_formed { IfOk result IsWellFormed }
-    ensures cause { IfErr result (IsTextCause text.now) }
+    ensures cause { IfErr result (IsTextCause text.items) }
 {
     law_well_formed();
-    match read_model(alloc, text) {
+    match read_model(alloc, &text) {
         Ok(model) => Ok(model),
-        Err(error) => Err(status_of(text, error)),
+        Err(error) => Err(status_of(&text, error)),
     }
 }
 

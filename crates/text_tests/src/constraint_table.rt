@@ -4,8 +4,8 @@ ghost use Rattle.std.specs.Prelude.{[], All, IfOk};
 ghost use Rattle.constraint_model.specs.Arrays.{HasNumber};
 
 use constraint_model::{
-    Array, ArrayTerms, Constants, Constraint, ConstraintName, Entries, Meaning, Operand, Scalar,
-    Term, add_constants, fits_some_row, kernel_count,
+    Array, ArrayTerms, Boxed, Constants, Constraint, ConstraintName, Entries, Meaning, Operand,
+    Scalar, Term, add_constants, fits_some_row, kernel_count,
 };
 use list_of::ListOf;
 use shared_list::SharedList;
@@ -168,10 +168,11 @@ fn row(alloc: Global, terms: &[Term]) -> Result<Operand, AllocError>
     ensures { IfOk result (λ operand. HasNumber [] operand) }
 {
     let terms = SharedList::from_vec(Vec::from_slice(alloc, terms)?)?;
-    Ok(Operand::Row(ArrayTerms {
+    let row = ArrayTerms {
         terms,
         number: None,
-    }))
+    };
+    Ok(Operand::Row(Boxed::new(alloc, row)?))
 }
 
 /// A list of a row and a term.

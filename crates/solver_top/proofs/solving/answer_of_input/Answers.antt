@@ -1,6 +1,4 @@
-use Rattle.std.proofs.Common.{ℕ, List, subst, sym}
-use Rattle.fzn_io.specs.Streams.{IsHeld}
-use Rattle.solver_top.specs.Outcome.{told_of_input}
+use Rattle.std.proofs.Common.{refl}
 use Rattle.std.proofs.lemmas.Result.{IfOk-weaker}
 use Rattle.command_line.specs.CommandLine.{input_meant}
 use Rattle.solver_top.proofs.OutcomeLaws.{answer_of_held, input_cause_of_result}
@@ -10,11 +8,9 @@ pub returns-clause-ok : goal.returns-clause-ok
 returns-clause-ok g c =
     IfOk-weaker c.written_of_text.result _ _
     (λ bytes written. answer_of_held (g.S.Source.held c.args.files.now) c.args.config.now.options (input_meant c.args.config.now.input) c.in_ok-text.text.items _ bytes.items c.in_ok-text.ensures.ok
-    c.deref.ensures.value written)
+    refl written)
     c.written_of_text.ensures.ok
 
 pub returns-clause-cause : goal.returns-clause-cause
 returns-clause-cause g c =
-    let held = told_of_input (g.S.Source.held c.args.files.now) (input_meant c.args.config.now.input) in
-    let told = subst (λ (t : List ℕ). IsHeld held t) (sym c.deref.ensures.value) c.in_ok-text.ensures.ok in
-    input_cause_of_result (g.S.Source.held c.args.files.now) (input_meant c.args.config.now.input) _ _ _ c.written_of_text.result told c.written_of_text.ensures.cause
+    input_cause_of_result (g.S.Source.held c.args.files.now) (input_meant c.args.config.now.input) _ _ _ c.written_of_text.result c.in_ok-text.ensures.ok c.written_of_text.ensures.cause

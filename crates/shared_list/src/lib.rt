@@ -1,8 +1,8 @@
 //! An immutable list that contracts see as the plain list of its elements, and that is shared in place of being copied.
 //!
-//! A short list owns its elements, so that reading it takes no further step, and has two in itself. A longer one stands once in memory, however many
-//! owners it has. It stands on nothing. Begin with `SharedList::from_vec` and `SharedList::share`. That a long list is not
-//! copied is neither proved nor tested; threads may read it, which is tested.
+//! A short list owns its elements, so that reading it takes no further step; where they are two it has them in itself. A longer
+//! one stands once in memory, however many owners it has. It stands on nothing. Begin with `SharedList::from_vec` and
+//! `SharedList::share`. That a long list is not copied is neither proved nor tested; threads may read it, which is tested.
 #![tactic(auto)]
 
 mod items;

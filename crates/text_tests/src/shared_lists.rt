@@ -34,6 +34,8 @@ fn a_list_has_its_elements(rt: HostRuntime) -> Result<(), Fail> {
 fn a_long_list_has_two_owners_and_a_short_one_is_copied(rt: HostRuntime) -> Result<(), Fail> {
     for (count, mark) in [
         (0, None),
+        (1, None),
+        (2, None),
         (3, None),
         (64, None),
         (65, Some(7)),

@@ -31,7 +31,7 @@ pub struct Guide {
     // for each variable the number that the text's search tries first
     firsts: Vec<i64>,
     // whether variables are taken in the order of the text's search, with no restarts: in every second block of failures, where
-    // there is no objective
+    // there is no objective; the first block is by activity
     is_by_order: bool,
     // how many failures this block has, and how many are left of them
     block: u64,
@@ -144,13 +144,13 @@ impl Guide {
         let order = order_of(alloc, model, values.as_mut_slice())?;
         let firsts = Vec::from_slice(alloc, values.as_slice())?;
         aim(model, values.as_mut_slice());
-        let is_by_order = has_no_objective(model);
+        let has_blocks = has_no_objective(model);
         Ok(Guide {
             order,
             firsts,
-            is_by_order,
+            is_by_order: false,
             block: FIRST_BLOCK,
-            block_left: if is_by_order { FIRST_BLOCK } else { u64::MAX },
+            block_left: if has_blocks { FIRST_BLOCK } else { u64::MAX },
             activity: vec![in alloc; 0; count as usize]?,
             step: FIRST_STEP,
             values,
@@ -294,10 +294,10 @@ impl Guide {
         }
     }
 
-    /// Begins the next block: in the order of the text's search and by activity by turns, each time twice as long.
+    /// Begins the next block: by activity and in the order of the text's search by turns, each time twice as long.
     fn begin_block(&mut self) {
         self.is_by_order = !self.is_by_order;
-        if self.is_by_order {
+        if !self.is_by_order {
             self.block = self.block.saturating_mul(2);
         }
         self.block_left = self.block;

@@ -1,0 +1,3 @@
+mod PlanLaws
+mod RoomLaws
+mod AnyLaws

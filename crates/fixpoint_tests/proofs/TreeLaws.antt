@@ -53,7 +53,7 @@ highest_part b v h proper =
 -- a part of a box where kernels rest
 pub put_settles : QuietUnlessMoved → KnownUnlessMoved → TightensOne → (kernels : List Kernel) (masks : Naming) (b next : Bounds) (part : Part) (old : MovedSets) (moved : Set) →
     next ≡ put_of b part.var part.low part.high → moved ≡ slice_set old.moved part.var true → AreFor kernels masks (length b) old → IsSettled kernels b old.asking.rests → IsPartOf b part →
-    CanSettle kernels masks next (record { moved = moved; asking = old.asking })
+    CanSettle kernels masks next (record { moved = moved; asking = old.asking; visits = old.visits })
 put_settles quiet known tighter kernels masks b next part old moved e is fits settled p =
     let v = part.var in
     let t = p.tightens.variable in
